@@ -9,6 +9,7 @@ import { pathToFileURL } from "node:url";
 import { defaultsOf } from "../lib/options/table.mjs";
 import { Job } from "../lib/seeds/job.mjs";
 import { RECORD, temporaryFolder } from "./helpers/common.mjs";
+import { CLOSED, LISTENS, ONE_THREAD, RACE, TWO_THREADS } from "./helpers/real-programs.mjs";
 import { programOf, runsOf } from "./helpers/whole-programs.mjs";
 
 /** @param {number} last @returns {number[]} the seeds from 1 on */
@@ -111,31 +112,6 @@ process.exit(0);`,
   });
 });
 
-const ONE_THREAD = `import http from "node:http"; import assert from "assert"; import { once } from "node:events";
-const server = http.createServer((asked, answer) => answer.end("hello " + asked.url)).listen(0, "127.0.0.1");
-await once(server, "listening");
-const address = "http://127.0.0.1:" + server.address().port;
-assert.equal(await (await fetch(address + "/fetched")).text(), "hello /fetched");
-const [answer] = await once(http.get(address + "/got"), "response");
-assert.equal((await answer.setEncoding("utf8").toArray()).join(""), "hello /got");
-server.closeAllConnections(); server.close();`;
-
-const TWO_THREADS = {
-  "main.mjs": `import { Worker } from "node:worker_threads"; import assert from "node:assert/strict";
-const words = new Int32Array(new SharedArrayBuffer(8));
-const worker = new Worker(new URL("worker.mjs", import.meta.url), { workerData: words });
-const port = await new Promise((done) => worker.once("message", done));
-const get = async (name) => (await fetch("http://127.0.0.1:" + port + "/" + name)).text();
-assert.deepEqual(await Promise.all(["a", "b"].map(get)), ["hello /a", "hello /b"]);
-assert.equal(Atomics.load(words, 0), 2);
-process.exit(0);`,
-  "worker.mjs": `import http from "node:http"; import { parentPort, workerData } from "node:worker_threads";
-const server = http.createServer((asked, answer) => {
-  Atomics.add(workerData, 0, 1);
-  answer.end("hello " + asked.url);
-}).listen(0, "127.0.0.1", () => parentPort.postMessage(server.address().port));`,
-};
-
 /** A port that each run listens at, and never closes. */
 const PORT = 20_000 + (process.pid % 20_000);
 
@@ -169,20 +145,7 @@ assert.match((await dns.lookup("localhost")).address, /^(127|::1)/);` }));
   });
 
   it("are closed when their thread ends, by itself or by another one, and others see it", async (context) => {
-    areFinished(await runsOf(context, {
-      "main.mjs": `import { Worker } from "node:worker_threads"; import net from "node:net";
-import { once } from "node:events";
-for (const how of ["exit", "terminate"]) {
-  const worker = new Worker(new URL("worker.mjs", import.meta.url));
-  const [port] = await once(worker, "message");
-  const socket = net.connect(port, "127.0.0.1");
-  socket.on("data", () => (how === "exit" ? worker.postMessage(how) : worker.terminate()));
-  await once(socket, "close");
-}`, "worker.mjs": `import net from "node:net"; import { parentPort } from "node:worker_threads";
-const server = net.createServer((socket) => socket.write("come in")).listen(0, "127.0.0.1", () => {
-  parentPort.postMessage(server.address().port);
-});
-parentPort.on("message", () => process.exit(0));` }, { seeds: upTo(4) }));
+    areFinished(await runsOf(context, CLOSED, { seeds: upTo(4) }));
   });
 
   it("are closed when the run is over", async (context) => {
@@ -210,20 +173,6 @@ cat.stdin.write("42");` }, { seeds: upTo(50) });
     assert.equal(outcomes.length, 50);
   });
 });
-
-/** Main looks four times whether the worker's process has ended: each number of times must be possible. */
-const RACE = {
-  "main.mjs": `import { Worker } from "node:worker_threads";
-const words = new Int32Array(new SharedArrayBuffer(8));
-const worker = new Worker(new URL("worker.mjs", import.meta.url), { workerData: words });
-await new Promise((done) => worker.once("message", done));
-for (let at = 0; at < 4; at += 1) Atomics.add(words, 1, Atomics.load(words, 0));
-await new Promise((done) => worker.once("exit", done));`,
-  "worker.mjs": `import { exec } from "node:child_process";
-import { parentPort, workerData } from "node:worker_threads";
-exec("exit 0", () => Atomics.store(workerData, 0, 1));
-parentPort.postMessage("begun");`,
-};
 
 describe("that an answer comes", () => {
   it("is a move, which the seed puts before and behind those of others", async (context) => {
@@ -256,9 +205,6 @@ server.close();` });
     assert.equal(timeOf(with_), timeOf(without));
   });
 });
-
-const LISTENS = `import net from "node:net"; import { once } from "node:events";
-const server = net.createServer().listen(0, "127.0.0.1"); await once(server, "listening");`;
 
 describe("a program to which nothing comes", () => {
   it("is stuck though a socket is open", async (context) => {
@@ -355,20 +301,16 @@ describe("a run that can't be repeated", () => {
     assert.match(replayed.stderr, new RegExp(`^record: the code no longer does the same: .*; or ${OTHERWISE}$`, "m"));
   });
 
-  it("is replayed with its answers if these come again, and else says that they may not have", async (context) => {
+  it("is replayed with its answers", async (context) => {
     const main = programOf(context, { ...RACE, "main.mjs": `${RACE["main.mjs"]}
 if (Atomics.load(words, 1) === 2) throw new Error("it fails");` });
     const out = temporaryFolder(context);
     const { status, stdout } = await recorded(["--program", main, "--seeds", "1..60", "--fail-fast", "--out", out]);
     assert.equal(status, 1, stdout);
+    assert.doesNotMatch(stdout, new RegExp(OTHERWISE));
     const kept = readdirSync(out).find((name) => name.endsWith(".program.json"));
-    for (let time = 0; time < 3; time += 1) {
-      const replayed = await recorded(["--program", main, "--replay", join(out, String(kept))]);
-      if (replayed.status === 1) assert.match(replayed.stdout, /^ {2}agent 0 threw Error: it fails$/m);
-      else {
-        assert.equal(replayed.status, 3);
-        assert.ok(replayed.stderr.endsWith(`; or ${OTHERWISE}\n`), replayed.stderr);
-      }
-    }
+    const replayed = await recorded(["--program", main, "--replay", join(out, String(kept))]);
+    assert.equal(replayed.status, 1, replayed.stderr);
+    assert.match(replayed.stdout, /^ {2}agent 0 threw Error: it fails$/m);
   });
 });

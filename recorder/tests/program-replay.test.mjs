@@ -165,7 +165,7 @@ test("an edited row makes another run of the program, or it is said which draw i
   }
   const { status, stderr } = replayedBy([[0, 50], [1, 1]]);
   assert.equal(status, 3);
-  assert.match(stderr, /^record: the code no longer does the same: agent 0 moved with draw \d+ of the kept run, and now it has nothing to do, or waits\n$/);
+  assert.match(stderr, /^record: the code no longer does the same: agent 0 moved with draw \d+ of the kept run, and now it has nothing to do, or waits; agent 1 could move\n$/);
 });
 
 test("a file that is no kept run of a program is refused, and so is a program that isn't there", (context) => {

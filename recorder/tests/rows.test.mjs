@@ -5,9 +5,11 @@ import assert from "node:assert/strict";
 import { readdirSync } from "node:fs";
 import { describe, it, test } from "node:test";
 import { Board } from "../lib/board/board.mjs";
+import { LOOK } from "../lib/board/row.mjs";
 import { waysOf } from "../lib/board/strategy/ways.mjs";
 import { checkedBy } from "../lib/check/check.mjs";
 import { PHASE, WORD } from "../lib/memory/layout.mjs";
+import { firstOtherMove } from "../lib/run/same.mjs";
 import { keptScript } from "../lib/shorter/kept-script.mjs";
 import { shorten } from "../lib/shorter/shorten.mjs";
 import { simulatorAt } from "../lib/simulator/chosen.mjs";
@@ -75,13 +77,54 @@ test("a row that can't be followed exactly ends the run, and the row says why", 
     drawn(board, times);
     return [board.end.hasEnded() && board.end.result().ending, board.row.strayed()];
   };
-  assert.deepEqual(strayed([ASKS, WAITS], [0, 1], 2), ["failed", { reason: "waits", agent: 1, draw: 1 }]);
-  assert.deepEqual(strayed([ASKS, FINISHED], [0, 0, 1], 3), ["failed", { reason: "ended", agent: 1, draw: 2 }]);
-  assert.deepEqual(strayed([ASKS, WOKEN], [1], 2), ["failed", { reason: "goes on", agent: 0, draw: 1 }]);
-  assert.deepEqual(strayed([WAITS_TIMED, FINISHED], [], 1), ["failed", { reason: "goes on", agent: 0, draw: 0 }]);
-  assert.deepEqual(strayed([WAITS, FINISHED], [0], 1), ["failed", { reason: "waits", agent: 0, draw: 0 }]);
+  const stray = (reason, agent, draw, able, wanted) =>
+    ["failed", { reason, agent, draw, able, ...(wanted === undefined ? {} : { wanted }) }];
+  assert.deepEqual(strayed([ASKS, WAITS], [0, 1], 2), stray("waits", 1, 1, [0], 1));
+  assert.deepEqual(strayed([ASKS, FINISHED], [0, 0, 1], 3), stray("ended", 1, 2, [0], 1));
+  assert.deepEqual(strayed([ASKS, WOKEN], [1], 2), stray("goes on", 0, 1, [0, 1]));
+  assert.deepEqual(strayed([WAITS_TIMED, FINISHED], [], 1), stray("goes on", 0, 0, []));
+  assert.deepEqual(strayed([WAITS, FINISHED], [0], 1), stray("waits", 0, 0, [], 0));
   assert.deepEqual(strayed([WAITS, FINISHED], [], 1), ["deadlock", undefined]);
   assert.deepEqual(strayed([FINISHED, FINISHED], [], 1), ["finished", undefined]);
+});
+
+test("a real answer may be left out of a row on which its agent makes no move", () => {
+  const exactly = (phases, row) => boardAt(phases, { row, isExact: true });
+  const one = LOOK + 1;
+  assert.deepEqual(drawn(exactly([ASKS, WAITS], [one, 0, one]), 1), [0]);
+  const needed = exactly([ASKS, WAITS], [one, 1]);
+  drawn(needed, 1);
+  assert.deepEqual(needed.row.strayed(), { reason: "waits", agent: 1, draw: 0, able: [0], wanted: one });
+  // What comes besides is let in before another answer, or if the agent makes no more moves.
+  const comes = (row) => {
+    const board = exactly([ASKS, ASKS], row);
+    board.pass(0);
+    return [board.answered(1), board.row.strayed()?.reason];
+  };
+  assert.deepEqual([comes([0, one, 1]), comes([0, 0]), comes([0, 0, one])], Array(3).fill([true, undefined]));
+  assert.deepEqual(comes([0, 1]), [false, "comes"]);
+});
+
+test("an agent that waits for real answers looks before a run strays, and is drawn for none that came in vain", () => {
+  const board = boardAt([ASKS, WAITS], { row: [0, 1], isExact: true });
+  board.answers.expect(1);
+  board.pass(0);
+  board.line.become(0, WAITS);
+  board.pass(0);
+  assert.deepEqual([board.words[WORD.LOOKS], board.row.strayed()], [1, undefined]);
+  board.missed(1);
+  board.pass(1);
+  assert.equal(board.row.strayed()?.reason, "waits");
+});
+
+test("two rows are of the same run if each agent moves on the same answers", () => {
+  const [one, two] = [LOOK, LOOK + 1];
+  for (const [row, made] of [[[one, one, 0], [one, 0]], [[one, 1, one, 0], [1, one, 0]], [[0, 1, two], [0, 1]]]) {
+    assert.deepEqual([firstOtherMove(row, made), firstOtherMove(made, row)], [undefined, undefined], `${row}; ${made}`);
+  }
+  assert.equal(firstOtherMove([1, one, 0], [one, 1, 0]), 0);
+  assert.equal(firstOtherMove([one, 0, 0], [0, 0]), 0);
+  assert.deepEqual([firstOtherMove([0, 1], [0]), firstOtherMove([0], [0, 1])], [1, 1]);
 });
 
 test("time and chance come from the seed, whatever the row is", async (context) => {

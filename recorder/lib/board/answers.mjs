@@ -1,7 +1,8 @@
 // Real answers: what sockets, pipes and child processes bring to a thread of a program. A thread that has nothing else to
 // do, and waits for some, may move: it looks until one has come. To look is no move and takes no time of the run, and a
 // thread that has looked in vain isn't offered again before something else has moved. If several wait and nothing else can
-// move, each looks for a short while first, so that none holds up another one whose answer is there.
+// move, each looks for a short while first, so that none holds up another one whose answer is there. A thread that has a
+// task may look before it takes it up. Answers that come to a thread with no move of its own between are one move.
 
 import { AGENT_WORD, NOBODY, PHASE, WORD, wordOf } from "../memory/layout.mjs";
 
@@ -14,6 +15,9 @@ const SHORT_BY_ITSELF = 50;
 const LONG_BY_ITSELF = 5_000;
 
 const NEVER = -1;
+
+/** Whether a row has an answer now: not; so that it can do without; or so that the agent moves on it. */
+export const DUE = Object.freeze({ NOT: 0, PERHAPS: 1, SURELY: 2 });
 
 export class Answers {
   /**
@@ -35,6 +39,9 @@ export class Answers {
     words[WORD.SILENT_SINCE] = NEVER;
     words[WORD.LOOKS_LONG] = 0;
     words[WORD.LOOKS] = 0;
+    words[WORD.OFFERS] = 0;
+    words[WORD.ANSWERED] = 0;
+    words[WORD.MORE_ANSWERS] = 0;
   }
 
   /** Whether any agent waits for some. */
@@ -50,12 +57,38 @@ export class Answers {
     if ((words[WORD.SILENT] & (1 << agent)) === 0) words[WORD.SILENT] = 0;
   }
 
+  /** @param {number} agent whose event loop asks for the turn for a task, and may look before */
+  offer(agent) {
+    this.words[WORD.OFFERS] |= 1 << agent;
+  }
+
   /** @param {number} agent that goes on */
   goesOn(agent) {
     const { words } = this;
-    if ((words[WORD.EXPECTS] | words[WORD.SILENT]) === 0) return;
+    if ((words[WORD.EXPECTS] | words[WORD.SILENT] | words[WORD.OFFERS]) === 0) return;
     words[WORD.EXPECTS] &= ~(1 << agent);
     words[WORD.SILENT] &= ~(1 << agent);
+    words[WORD.OFFERS] &= ~(1 << agent);
+  }
+
+  /** @param {number} agent that moves otherwise than by an answer */
+  moved(agent) {
+    if (this.words[WORD.ANSWERED] !== 0) this.words[WORD.ANSWERED] &= ~(1 << agent);
+  }
+
+  /** @param {number} agent to which one has come @returns {boolean} whether that is a move: its last one was none */
+  came(agent) {
+    const { words } = this;
+    const isMove = (words[WORD.ANSWERED] & (1 << agent)) === 0;
+    words[WORD.ANSWERED] |= 1 << agent;
+    if (!isMove) words[WORD.MORE_ANSWERS] += 1;
+    return isMove;
+  }
+
+  /** @param {number} agent whose answer is held back: others look before it comes all the same */
+  holds(agent) {
+    this.missed(agent);
+    this.words[WORD.LOOKS_LONG] = 0;
   }
 
   /** @param {number} agent that has looked in vain */
@@ -83,10 +116,21 @@ export class Answers {
     return phase === PHASE.WAITS || (phase === PHASE.WAITS_TIMED && !clock.hasPassed(agent));
   }
 
-  /** @returns {number} the first agent in number that may move so, or `NOBODY` */
-  first() {
+  /** @param {number} agent @returns {boolean} whether it has a task, and may look before */
+  mayComeBefore(agent) {
+    const { words } = this;
+    if ((words[WORD.OFFERS] & ~words[WORD.SILENT] & (1 << agent)) === 0) return false;
+    return words[wordOf(agent, AGENT_WORD.PHASE)] === PHASE.ASKS;
+  }
+
+  /**
+   * @param {number} [preferred] an agent that comes before the others
+   * @returns {number} that one, or the first agent in number that may move so, or `NOBODY`
+   */
+  first(preferred = NOBODY) {
     if (!this.areExpected) return NOBODY;
     this.renew();
+    if (preferred !== NOBODY && this.mayCome(preferred)) return preferred;
     for (let agent = 0; agent < this.agents; agent += 1) {
       if (this.mayCome(agent)) return agent;
     }
@@ -101,6 +145,7 @@ export class Answers {
    */
   patience(agent, byThemselves) {
     const { deadlines, deadlines: { clock } } = this;
+    if ((this.words[WORD.OFFERS] & (1 << agent)) !== 0) return this.short(byThemselves);
     for (let other = 0; other < this.agents; other += 1) {
       if (other !== agent && deadlines.isReady(other) && !deadlines.spins.spins(other)) return this.short(byThemselves);
     }
@@ -109,6 +154,18 @@ export class Answers {
     if (first === NOBODY) return this.long(byThemselves);
     // Time passes no faster than it really does while something may come.
     return Math.max(1, Math.min(LONG, clock.deadline(first) - clock.now()));
+  }
+
+  /**
+   * How long an agent looks in a run that goes by a row exactly.
+   * @param {boolean} byThemselves as above
+   * @param {number} due one of `DUE`
+   * @returns {number} milliseconds
+   */
+  patienceByRow(byThemselves, due) {
+    if (due === DUE.PERHAPS) return LONG;
+    if (this.words[WORD.LOOKS_LONG] === 1 || !this.#areSeveral()) return this.long(byThemselves);
+    return due === DUE.SURELY ? LONG : this.short(byThemselves);
   }
 
   /** @param {boolean} byThemselves @returns {number} how long an agent looks while something else can move */

@@ -209,19 +209,24 @@ export class Board {
     this.clock.advance(MOST_MOVES);
   }
 
-  /** @param {number} agent to which a real answer has come: that is its move */
+  /**
+   * A real answer has come to an agent: that is its move.
+   * @param {number} agent
+   * @returns {boolean} whether it may come now; else the run has strayed from its row by it
+   */
   answered(agent) {
-    this.answers.goesOn(agent);
-    this.strategy.moves(agent, agent + LOOK);
-    this.turned();
+    const { answers, row, strategy } = this;
+    if (!row.admits(agent)) return false;
+    answers.goesOn(agent);
+    strategy.moves(agent, agent + LOOK);
+    if (answers.came(agent)) this.turned();
+    return true;
   }
 
-  /** @param {number} agent that has looked for a real answer in vain @returns {boolean} whether the run goes on */
+  /** @param {number} agent that has looked for a real answer in vain */
   missed(agent) {
     this.answers.missed(agent);
-    if (!this.row.misses(agent)) return true;
-    this.end.end("failed", "");
-    return false;
+    this.row.misses();
   }
 
   /** @returns {import("./end.mjs").Ended} how a run ends in which nobody can move */

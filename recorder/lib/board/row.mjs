@@ -6,12 +6,17 @@
 // and behind the row's end the agent that moved last goes on as long as it can, then the next one in number. If all that
 // can only read the same again, the wait goes on whose time is up first.
 //
+// Of real answers a row has each one. They may come in other pieces when the run is made again: so it matters only behind
+// which answer an agent makes its next move. Before a run strays, agents look for answers, since what has closed is seen
+// only by those that look, and no row has it.
+//
 // All of it lies in shared memory. Only the thread that has the turn changes it, as the words of the board.
 
 import { SCRIPT_LIMITS } from "../../script/limits.mjs";
 import { AGENT_WORD, NOBODY, PHASE, wordOf } from "../memory/layout.mjs";
 import { placedCallText } from "../memory/spelling.mjs";
 import { positionIn, uncurried } from "../primordials.mjs";
+import { DUE } from "./answers.mjs";
 
 // Agents may change what they find, so the engine's own functions are kept here, before.
 const { Int32Array, Uint8Array, SharedArrayBuffer } = globalThis;
@@ -47,7 +52,10 @@ const ALIKE = 6;
 const KNOWS_CALLS = 7;
 const STRAY = 8;
 const STRAY_AGENT = 9;
-const STATE_WORDS = 10;
+const STRAY_ABLE = 10;
+const LAST_DRAWN = 11;
+const IS_DUE = 12;
+const STATE_WORDS = 13;
 
 // The word HOW.
 const FREE = 0;
@@ -57,17 +65,20 @@ const EXACT = 2;
 // In place of a call's number: the agent goes on from a wait.
 const NO_CALL = 0;
 
-/** @typedef {"call" | "leaves" | "waits" | "ended" | "goes on"} StrayReason how a run has strayed */
+/** @typedef {"call" | "leaves" | "waits" | "ended" | "goes on" | "comes"} StrayReason how a run has strayed */
 
 /** @type {readonly StrayReason[]} the word STRAY is a position here, from 1 on; with 0 the run hasn't strayed */
-const REASONS = Object.freeze(["call", "leaves", "waits", "ended", "goes on"]);
+const REASONS = Object.freeze(["call", "leaves", "waits", "ended", "goes on", "comes"]);
 
 /**
  * @typedef {object} Stray how a run that was forced exactly has strayed from its row
  * @property {StrayReason} reason the agent makes another call; or it leaves a wait where it is to make a call; or it is
- * to move, and waits or has come to its end; or the row has come to its end, and the agent goes on
+ * to move, and waits or has come to its end; or the row has come to its end, and the agent goes on; or a real answer
+ * comes to it that the row hasn't got there
  * @property {number} agent
  * @property {number} draw how many draws had been made by the row
+ * @property {number} [wanted] what the row has as the next draw, if it has one
+ * @property {number[]} able the agents that could move
  */
 
 /**
@@ -156,7 +167,10 @@ export class Row {
   strayed() {
     const { state } = this;
     if (state[STRAY] === 0) return undefined;
-    return { reason: REASONS[state[STRAY] - 1], agent: state[STRAY_AGENT], draw: state[AT] };
+    const draw = state[AT];
+    const able = Array.from({ length: this.agents }, (_, agent) => agent).filter((agent) => state[STRAY_ABLE] & (1 << agent));
+    const stray = { reason: REASONS[state[STRAY] - 1], agent: state[STRAY_AGENT], draw, able };
+    return draw < state[LENGTH] ? { ...stray, wanted: this.forced[draw] } : stray;
   }
 
   // The part of the agent that has the turn.
@@ -168,6 +182,7 @@ export class Row {
 
   /** @returns {number} who moves next by the row, or `NOBODY` where nobody can, or `STRAYS` */
   next() {
+    this.state[IS_DUE] = DUE.NOT;
     return this.state[HOW] === EXACT ? this.#exactNext() : this.#lenientNext();
   }
 
@@ -181,31 +196,56 @@ export class Row {
     const agent = moverOf(drawn);
     state[ALIKE] = agent === state[LAST] ? state[ALIKE] + 1 : 1;
     state[LAST] = agent;
+    state[LAST_DRAWN] = drawn;
     if (state[WANTS] === 0) return;
     this.drawn[state[DRAWN]] = drawn;
     state[DRAWN] += 1;
   }
 
-  /** @param {number} agent @returns {boolean} whether a real answer to it comes next by the row, which goes on then */
-  takes(agent) {
-    const { state } = this;
-    if (state[AT] >= state[LENGTH] || this.forced[state[AT]] !== agent + LOOK) return false;
-    state[AT] += 1;
-    return true;
+  /** @returns {boolean} whether the run ends where it strays from its row */
+  get isExact() {
+    return this.state[HOW] === EXACT;
   }
 
-  /** @param {number} agent that was drawn for a real answer by the row, and is drawn for it once more */
-  takesBack(agent) {
-    const { state } = this;
-    if (state[AT] > 0 && this.forced[state[AT] - 1] === agent + LOOK) state[AT] -= 1;
+  /** @param {number} agent @returns {boolean} whether a real answer to it comes now by the row; if there is none, it may */
+  isDue(agent) {
+    return this.state[HOW] !== EXACT || this.due !== DUE.NOT || this.#hasNext(agent + LOOK);
   }
 
-  /** @param {number} agent to which no real answer came @returns {boolean} whether the run strays by that */
-  misses(agent) {
-    if (this.state[HOW] !== EXACT) return false;
-    this.state[AT] -= 1;
-    this.#stray("waits", agent);
-    return true;
+  /** One of `DUE`, about the agent that was drawn. */
+  get due() {
+    return this.state[IS_DUE];
+  }
+
+  /**
+   * A real answer comes to an agent; the row goes on if it has one there.
+   * @param {number} agent
+   * @returns {boolean} false: the run strays by it
+   */
+  admits(agent) {
+    const { state } = this;
+    const drawn = agent + LOOK;
+    const isDue = this.due !== DUE.NOT;
+    state[IS_DUE] = DUE.NOT;
+    if (isDue || state[HOW] === FREE) return true;
+    if (this.#hasNext(drawn)) {
+      state[AT] += 1;
+      return true;
+    }
+    if (state[HOW] !== EXACT || state[LAST_DRAWN] === drawn || !this.#movesItself(agent, state[AT])) return true;
+    this.#stray("comes", agent);
+    return false;
+  }
+
+  /** An agent that was drawn for a real answer has seen that something has closed, and is drawn for the answer once more. */
+  takesBack() {
+    if (this.due !== DUE.NOT) this.state[AT] -= 1;
+    this.state[IS_DUE] = DUE.NOT;
+  }
+
+  /** No real answer came to an agent that was drawn for one. */
+  misses() {
+    if (this.state[HOW] === EXACT) this.takesBack();
   }
 
   /**
@@ -226,25 +266,61 @@ export class Row {
 
   #exactNext() {
     const { state } = this;
-    if (state[AT] === state[LENGTH]) {
-      const other = this.#able();
-      return other === NOBODY ? NOBODY : this.#stray("goes on", other);
+    while (state[AT] < state[LENGTH]) {
+      const drawn = this.forced[state[AT]];
+      if (this.#canBeDrawn(drawn)) return this.#taken(drawn);
+      if (!isLook(drawn) || this.#isNeeded(state[AT])) return this.#missing(drawn);
+      state[AT] += 1;
     }
-    const drawn = this.forced[state[AT]];
+    const other = this.#able();
+    return other === NOBODY || isLook(other) ? other : this.#stray("goes on", other);
+  }
+
+  /** @param {number} drawn what the row has as the next draw, and can't be now @returns {number} who looks, or `STRAYS` */
+  #missing(drawn) {
     const agent = moverOf(drawn);
-    if (!this.#canBeDrawn(drawn)) {
-      return this.#stray(this.#phase(agent) === PHASE.FINISHED ? "ended" : "waits", agent);
-    }
+    const looks = this.answers.first(agent);
+    if (looks === NOBODY) return this.#stray(this.#phase(agent) === PHASE.FINISHED ? "ended" : "waits", agent);
+    return looks + LOOK === drawn ? this.#taken(drawn) : looks + LOOK;
+  }
+
+  /** @param {number} drawn what the row has as the next draw @returns {number} the same: the row goes on */
+  #taken(drawn) {
+    const { state } = this;
+    if (isLook(drawn)) state[IS_DUE] = this.#isNeeded(state[AT]) ? DUE.SURELY : DUE.PERHAPS;
     state[AT] += 1;
     return drawn;
+  }
+
+  /** @param {number} drawn @returns {boolean} whether the row has that as the next draw */
+  #hasNext(drawn) {
+    return this.state[AT] < this.state[LENGTH] && this.forced[this.state[AT]] === drawn;
+  }
+
+  /** @param {number} at where the row has an answer @returns {boolean} whether its agent moves on it, and not on one before */
+  #isNeeded(at) {
+    const drawn = this.forced[at];
+    return drawn !== this.state[LAST_DRAWN] && this.#movesItself(moverOf(drawn), at + 1);
+  }
+
+  /**
+   * @param {number} agent
+   * @param {number} from where in the row
+   * @returns {boolean} whether its next move from there on is none by an answer
+   */
+  #movesItself(agent, from) {
+    for (let at = from; at < this.state[LENGTH]; at += 1) {
+      if (moverOf(this.forced[at]) === agent) return !isLook(this.forced[at]);
+    }
+    return false;
   }
 
   #lenientNext() {
     const { state } = this;
     while (state[AT] < state[LENGTH]) {
       const drawn = this.forced[state[AT]];
+      if (this.#canBeDrawn(drawn)) return this.#taken(drawn);
       state[AT] += 1;
-      if (this.#canBeDrawn(drawn)) return drawn;
     }
     const last = state[LAST];
     if (last !== NOBODY && state[ALIKE] < MOST_ALIKE && this.#isMoving(last)) return last;
@@ -277,7 +353,7 @@ export class Row {
   /** @param {number} drawn @returns {boolean} whether there is this move: also the end of a wait's time */
   #canBeDrawn(drawn) {
     const agent = moverOf(drawn);
-    if (isLook(drawn)) return this.answers.mayCome(agent);
+    if (isLook(drawn)) return this.answers.mayCome(agent) || this.answers.mayComeBefore(agent);
     return this.deadlines.isReady(agent) || this.deadlines.isTimed(agent);
   }
 
@@ -290,6 +366,9 @@ export class Row {
   #stray(reason, agent) {
     this.state[STRAY] = positionIn(REASONS, reason) + 1;
     this.state[STRAY_AGENT] = agent;
+    for (let other = 0; other < this.agents; other += 1) {
+      if (this.deadlines.isReady(other)) this.state[STRAY_ABLE] |= 1 << other;
+    }
     return STRAYS;
   }
 }
@@ -299,7 +378,9 @@ export class Row {
  * @param {Stray} stray
  * @param {string} call that the agent makes, where that is why
  */
-export function strayText({ reason, agent }, call) {
+export function strayText({ reason, agent, wanted = NOBODY }, call) {
+  if (reason === "comes") return `a real answer comes to agent ${agent}, and by the row none does`;
+  if (reason === "waits" && isLook(wanted)) return `a real answer is to come to agent ${agent} by the row, and none does`;
   if (reason === "call") return `agent ${agent} makes another call than by the row: ${call}`;
   if (reason === "goes on") return `the row has come to its end, and agent ${agent} goes on`;
   if (reason === "leaves") return `agent ${agent} is to make a call by the row, and goes on from a wait`;

@@ -113,16 +113,6 @@ export class Strategy {
   }
 
   /**
-   * Whether an event loop looks for real answers before it takes up a task.
-   * @param {number} agent
-   * @param {Random} random its own row
-   */
-  looksBeforeTask(agent, random) {
-    const draws = random.fraction() < (this.isEager ? EAGER_ANSWERS : EARLY_ANSWERS);
-    return this.row.isForced() ? this.row.takes(agent) : draws;
-  }
-
-  /**
    * An agent asks for a call: it is known what it will touch before it is drawn.
    * @param {number} agent
    * @param {number} from the first place
@@ -144,12 +134,12 @@ export class Strategy {
 
   /** @returns {number} who moves next; `NOBODY_MOVES` where nobody can, `STRAYS` where a row can't be followed */
   next() {
-    const { answers, row, words } = this;
+    const { row, words } = this;
     const next = row.isForced() ? row.next() : this.#drawn();
     if (next < 0) return next;
     const agent = moverOf(next);
     // What has come is noted when it has.
-    const looks = isLook(next) || (!row.isForced() && answers.areExpected && answers.mayCome(next));
+    const looks = isLook(next) || (!row.isForced() && this.#looks(next));
     words[WORD.LOOKS] = looks ? 1 : 0;
     if (!looks) this.moves(agent, next);
     return agent;
@@ -159,6 +149,7 @@ export class Strategy {
   moves(agent, drawn) {
     this.row.note(drawn);
     this.words[WORD.LAST] = agent;
+    if (!isLook(drawn)) this.answers.moved(agent);
   }
 
   /** @returns {boolean} whether there are moves left for whatever is done next */
@@ -166,7 +157,7 @@ export class Strategy {
     const { words } = this;
     const { maxMoves } = this.rules;
     const most = words[WORD.IS_PILOT] === 1 && maxMoves > MOST_PILOT_MOVES ? MOST_PILOT_MOVES : maxMoves;
-    return words[WORD.MOVES] + MOST_MOVES <= most;
+    return words[WORD.MOVES] + words[WORD.MORE_ANSWERS] + MOST_MOVES <= most;
   }
 
   /** @returns {number} who moves next by the seed, or `NOBODY_MOVES` */
@@ -179,6 +170,14 @@ export class Strategy {
     if (able.count === 0) return NOBODY_MOVES;
     if ((this.words[WORD.CHANGES] & SLOW) !== 0) this.slow.hold(able);
     return this.#way().drawing.drawn(able, last);
+  }
+
+  /** @param {number} agent that was drawn by the seed @returns {boolean} whether it looks for real answers */
+  #looks(agent) {
+    const { answers } = this;
+    if (answers.areExpected && answers.mayCome(agent)) return true;
+    if (!answers.mayComeBefore(agent)) return false;
+    return this.random.fraction() < (this.isEager ? EAGER_ANSWERS : EARLY_ANSWERS);
   }
 
   #way() {

@@ -8,7 +8,9 @@ import { keepProgram, keptProgram, urlOf } from "../keeping/kept-program.mjs";
 import { keepPictures, notesOn } from "../keeping/pictures.mjs";
 import { Refused } from "../options/refused.mjs";
 import { Windows } from "../run/windows.mjs";
-import { firstOtherText, rowStrayedText } from "../shorter/differing.mjs";
+import { firstOtherMove } from "../run/same.mjs";
+import { TIMES_TRIED } from "../run/words.mjs";
+import { firstOtherText, rowEndedText, rowStrayedText } from "../shorter/differing.mjs";
 import { keptScript } from "../shorter/kept-script.mjs";
 import { Replaying, textOf } from "./replaying.mjs";
 
@@ -34,17 +36,25 @@ export class ProgramReplay extends Replaying {
     this.keepsAs(new RegExp(`\\.${PROGRAM_ENDING.replace(".", "\\.")}$`));
   }
 
-  /** @returns {Promise<Checked>} */
-  made() {
+  /** @returns {Promise<Checked>} of a run that gets real answers the first one that goes the same way, or the last */
+  async made() {
     const { module, row, seed } = this;
-    return this.one(seed, { module, wanted: { row, isExact: true, wantsRow: true, isShown: true } });
+    const options = { module, wanted: { row, isExact: true, wantsRow: true, isShown: true } };
+    let outcome = await this.one(seed, options);
+    for (let time = 1; time < TIMES_TRIED && outcome.real && this.differenceOf(outcome); time += 1) {
+      outcome = await this.one(seed, options);
+    }
+    return outcome;
   }
 
   /** @param {Checked} outcome @returns {string | undefined} */
-  differenceOf({ stray, script, windows }) {
+  differenceOf({ stray, script, windows, ending, row }) {
     const now = script === undefined ? undefined : keptScript(script, "the run", [], windows && new Windows(windows));
     const other = this.script && now && firstOtherText(this.script, now);
-    return other ?? (stray && rowStrayedText(stray));
+    if (other !== undefined || stray !== undefined) return other ?? (stray && rowStrayedText(stray));
+    // At a limit the run is broken off.
+    const isWhole = ending !== "bound" && row !== undefined;
+    return isWhole ? rowEndedText(this.row, firstOtherMove(this.row, row)) : undefined;
   }
 
   titles() {

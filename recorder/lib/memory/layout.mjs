@@ -50,8 +50,15 @@ export const WORD = Object.freeze({
   SILENT_SINCE: 38,
   LOOKS_LONG: 39,
   LOOKS: 40,
+  /**
+   * Of a program: which threads have a task and wait for real answers besides, and whose last moves were answers, a bit for
+   * each; and how many answers came to a thread directly behind others, which is no further move.
+   */
+  OFFERS: 41,
+  ANSWERED: 42,
+  MORE_ANSWERS: 43,
   /** Which agent has met a limit, and whether it spins, as `End` keeps them. */
-  MET: 41,
+  MET: 44,
 });
 
 /** Words of each agent; each agent has a line of the processor's cache for itself. */

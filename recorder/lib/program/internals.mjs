@@ -8,10 +8,8 @@ const internal = (name) => createRequire(import.meta.url)(`internal/${name}`);
 /** Forgets which contexts of async_hooks are open. */
 export const { clearAsyncIdStack } = internal("async_hooks");
 
-const { async_id_symbol: TIMERS_ID } = internal("timers");
-
-/** @param {any} timer of node's, or an immediate @returns {number} its number for async_hooks */
-export const asyncIdOf = (timer) => timer[TIMERS_ID];
+/** The classes of node's own timers and immediates. */
+export const { Timeout, Immediate } = internal("timers");
 
 /** What all child processes begin by; the functions are called as members of this. */
 export const processes = internal("child_process");

@@ -1,11 +1,15 @@
 // A thread looks for real answers: its real loop turns until node calls back for one, or the time is up. What node calls
 // then has the thread's turn, as a task has.
 
-import { createHook } from "node:async_hooks";
+import { AsyncResource, createHook, executionAsyncResource } from "node:async_hooks";
 import timers from "node:timers";
-import { asyncIdOf } from "./internals.mjs";
+import { MessagePort } from "node:worker_threads";
+import { Immediate, Timeout } from "./internals.mjs";
 
 const { clearTimeout: clear, setImmediate: turnLater, setTimeout: wake } = timers;
+
+/** The classes of what is no answer: timers and immediates, of node's and the recorder's own, and the recorder's ports. */
+const OWN = [Timeout, Immediate, MessagePort, Promise, AsyncResource];
 
 /**
  * How a look ends: something has come; nothing has, and all is as it was; or something that was waited for is no
@@ -13,56 +17,82 @@ const { clearTimeout: clear, setImmediate: turnLater, setTimeout: wake } = timer
  * @typedef {"came" | "nothing" | "less"} Found
  */
 
+/** @typedef {{ onCome: () => void }} Watch `onCome` is called with each answer before it is handed to the program */
+
 /**
- * @typedef {object} Look
+ * @typedef {object} LookOnly
  * @property {number} milliseconds how long it takes at most
  * @property {() => string} waitsFor what is waited for, in words
- * @property {() => void} onCome is called before what has come is handed to the program
  * @property {(found: Found) => void} then is called by the real loop, when all that has come at once was handed over
  */
 
-export class Looking {
-  /** @type {Look} */
-  #look = { milliseconds: 0, waitsFor: () => "", onCome: () => {}, then: () => {} };
+/** @typedef {Watch & LookOnly} Look */
 
-  /** @type {any} the timer that ends the look; undefined: something has come */
+export class Looking {
+  /** @type {() => void} as in `Watch` */
+  #onCome = () => {};
+
+  /** @type {(found: Found) => void} as in `Look` */
+  #then = () => {};
+
+  /** @type {any} the timer that ends the look; undefined: something has come, or nothing is looked for */
   #guard = undefined;
 
-  /** @type {any} what runs when the loop has turned */
-  #turned = undefined;
-
   // Only while a thread looks: it makes promises slower.
-  #hook = createHook({ before: (id) => this.#before(id) });
+  #hook = createHook({ before: () => this.#before() });
+
+  /** What is done while an answer is held back isn't done on its behalf. */
+  #outside = new AsyncResource("sabsim");
 
   /** @param {Look} look begins; the caller returns to the real loop then */
-  begin(look) {
-    this.#look = look;
-    const before = look.waitsFor();
-    const guard = wake(() => this.#end("nothing"), look.milliseconds);
+  begin({ onCome, milliseconds, waitsFor, then }) {
+    this.#then = then;
+    const before = waitsFor();
+    const guard = wake(() => this.#end("nothing"), milliseconds);
     this.#guard = guard;
-    this.#turned = turnLater(() => {
-      if (this.#guard === guard && look.waitsFor() !== before) this.#end("less");
+    turnLater(() => {
+      if (this.#guard === guard && waitsFor() !== before) this.#end("less");
     });
+    this.watch({ onCome });
+  }
+
+  /** @param {Watch} watch answers may come until it is closed */
+  watch({ onCome }) {
+    this.#onCome = onCome;
     this.#hook.enable();
   }
 
-  /** @param {number} id of what node calls */
-  #before(id) {
-    if (id === asyncIdOf(this.#guard) || id === asyncIdOf(this.#turned)) return;
-    this.#close();
-    this.#look.onCome();
-    turnLater(() => this.#look.then("came"));
-  }
-
-  /** @param {Found} found */
-  #end(found) {
-    this.#close();
-    this.#look.then(found);
-  }
-
-  #close() {
+  /** Nothing is looked for any more. */
+  close() {
     this.#hook.disable();
     clear(this.#guard);
     this.#guard = undefined;
   }
+
+  #before() {
+    if (!isAnswer(executionAsyncResource())) return;
+    if (this.#guard !== undefined) {
+      clear(this.#guard);
+      this.#guard = undefined;
+      turnLater(() => this.#end("came"));
+    }
+    this.#outside.runInAsyncScope(this.#onCome);
+  }
+
+  /** @param {Found} found */
+  #end(found) {
+    this.close();
+    this.#then(found);
+  }
+}
+
+/**
+ * @param {any} resource of what node calls
+ * @returns {boolean} whether that is an answer: else it is a tick, or what was done on behalf of an answer
+ */
+function isAnswer(resource) {
+  for (let at = 0; at < OWN.length; at += 1) {
+    if (resource instanceof OWN[at]) return false;
+  }
+  return !("callback" in resource && "args" in resource);
 }

@@ -26,6 +26,12 @@ const SOON_MILLISECONDS = 1_000;
 /** How likely it is that the time of the first timer comes, in runs in which short times are up early. */
 const HASTY = 0.5;
 
+/** What comes of a step: the thread goes on; its part is over; node reads something; or the thread looks for answers. */
+const STEP = Object.freeze({ GOES_ON: 0, IS_OVER: 1, READS: 2, LOOKS: 3 });
+
+/** What is under way if an answer is held back. */
+const HELD = Object.freeze({ isSome: true, byThemselves: false, texts: ["an answer"] });
+
 /**
  * @typedef {object} Served
  * @property {import("./moves.mjs").Moves} moves
@@ -67,6 +73,12 @@ export class Loop {
   /** Whether the thread looks for real answers before it takes up a task: it hasn't done so in vain since it rested. */
   #mayLook = true;
 
+  /** Whether an answer is held back that has come. */
+  #holds = false;
+
+  /** @type {() => void} evaluates the thread's module */
+  #evaluate = () => {};
+
   /** @param {Served} served */
   constructor(served) {
     this.served = served;
@@ -101,66 +113,103 @@ export class Loop {
     this.#isHalted = false;
   }
 
-  /** Begins when the real loop turns. */
-  begin() {
+  /**
+   * Begins when the real loop turns. The thread's module is evaluated then, so that nothing real comes before its loop is
+   * there to take it.
+   * @param {() => void} evaluate begins to evaluate the module
+   */
+  begin(evaluate) {
     const { board, agent } = this.served.moves;
+    this.#evaluate = evaluate;
     this.random.seed(board.clock.seed());
     this.random.branch(TASKS + agent);
-    this.#next = turnLater(this.#turn);
+    this.#next = turnLater(this.#begins);
   }
 
   /** The thread's part in the run is over amid its code. */
   halt() {
     this.#isHalted = true;
     turnNever(this.#next);
+    // Node would hand what is held back to the program.
+    if (this.#holds) this.served.moves.park();
   }
 
+  #begins = () => {
+    this.#evaluate();
+    this.#turn();
+  };
+
   #turn = () => {
-    const { ends, moves, keepers } = this.served;
-    for (;;) {
-      this.drain();
-      if (ends.isDone()) return this.served.goHome();
-      const active = resources();
-      if (isReading(active)) {
-        this.#next = turnLater(this.#turn);
-        return;
-      }
-      const pending = this.#pending(active);
-      if (this.#hasTask()) {
-        if (!moves.offer()) return this.served.goHome();
-        if (pending.isSome && moves.looksBeforeTask(this.random, pending) && this.#mayLook) return this.#look(true);
-      } else {
-        const kept = [...this.#keepers(), ...moves.silentTexts(pending)];
-        if (kept.length === 0) {
-          if (this.#endsNow()) return this.served.goHome();
-          continue;
-        }
-        keepers.write(kept.join("; "));
-        this.#mayLook = true;
-        if (!moves.idle(this.#untilTimer(), pending)) return this.served.goHome();
-        if (moves.looksFor > 0) return this.#look(false);
-      }
-      this.#act();
-    }
+    const { looking } = this.served;
+    let step;
+    do step = this.#step(false); while (step === STEP.GOES_ON);
+    if (step === STEP.IS_OVER) return this.served.goHome();
+    if (step === STEP.LOOKS) return this.#look();
+    looking.watch(this.#answers);
+    this.#next = turnLater(() => {
+      looking.close();
+      this.#turn();
+    });
   };
 
   /**
-   * Looks for real answers, and goes on then.
-   * @param {boolean} hasTask whether there is something else to do
+   * One step of the event loop.
+   * @param {boolean} holds whether an answer is held back
+   * @returns {number} one of `STEP`
    */
-  #look(hasTask) {
+  #step(holds) {
+    const { ends, moves, keepers } = this.served;
+    this.drain();
+    if (ends.isDone()) return STEP.IS_OVER;
+    const active = resources();
+    if (isReading(active)) return STEP.READS;
+    const pending = holds ? HELD : this.#pending(active);
+    if (this.#hasTask()) {
+      if (!moves.offer(pending, this.#mayLook)) return STEP.IS_OVER;
+    } else {
+      const kept = [...this.#keepers(), ...moves.silentTexts(pending)];
+      if (kept.length === 0) return this.#endsNow() ? STEP.IS_OVER : STEP.GOES_ON;
+      keepers.write(kept.join("; "));
+      this.#mayLook = true;
+      if (!moves.idle(this.#untilTimer(), pending)) return STEP.IS_OVER;
+    }
+    if (moves.looksFor > 0) return STEP.LOOKS;
+    this.#act();
+    return STEP.GOES_ON;
+  }
+
+  /** Looks for real answers, and goes on then. */
+  #look() {
     const { looking, moves } = this.served;
     looking.begin({
+      ...this.#answers,
       milliseconds: moves.looksFor,
       waitsFor: () => this.#pending(resources()).texts.join(),
-      onCome: () => moves.answered(),
       then: (found) => {
         this.#mayLook = found === "came";
-        if (!moves.looked(found)) return this.served.goHome();
-        if (found !== "came" && hasTask) this.#act();
+        moves.looked(found);
+        if (found !== "came" && this.#hasTask() && moves.takesUp()) this.#act();
         this.#turn();
       },
     });
+  }
+
+  /** What becomes of each answer. */
+  #answers = {
+    onCome: () => {
+      const { moves } = this.served;
+      if (!moves.isDue()) this.#hold();
+      moves.answered();
+    },
+  };
+
+  /** What has come isn't due by the run's row: the thread goes on with what else it has to do until it is. */
+  #hold() {
+    this.#holds = true;
+    let step;
+    do step = this.#step(true); while (step === STEP.GOES_ON);
+    if (step === STEP.IS_OVER) this.served.moves.park();
+    this.#holds = false;
   }
 
   /** Runs ticks and microtasks until there are none. */

@@ -151,10 +151,17 @@ export class Moves {
     this.#goOn(undefined);
   }
 
-  /** The event loop has something to do: others may move before. @returns {boolean} whether the thread goes on */
-  offer() {
+  /**
+   * The event loop has something to do: others may move before.
+   * @param {import("./real-work.mjs").Pending} pending what the machine may bring besides
+   * @param {boolean} mayLook whether the thread may look for that before
+   * @returns {boolean} whether the thread goes on, perhaps by looking: else its run is over, or it was ended
+   */
+  offer({ isSome, byThemselves }, mayLook) {
+    const { board: { answers, row }, agent } = this;
     this.#ask();
-    return this.#resume(undefined);
+    if (isSome && (mayLook || row.isForced())) answers.offer(agent);
+    return this.#resume(undefined, byThemselves);
   }
 
   /**
@@ -180,34 +187,42 @@ export class Moves {
     return [`${[...new Set(texts)].join(", ")} (nothing came for ${this.board.answers.long(byThemselves) / 1_000} s)`];
   }
 
-  /**
-   * Whether the event loop, which has a task, looks for real answers before.
-   * @param {import("../memory/random.mjs").Random} random
-   * @param {import("./real-work.mjs").Pending} pending
-   */
-  looksBeforeTask(random, { byThemselves }) {
-    const { board: { answers, row, strategy }, agent } = this;
-    if (!strategy.looksBeforeTask(agent, random)) return false;
-    this.looksFor = row.isForced() ? answers.long(byThemselves) : answers.short(byThemselves);
-    return true;
-  }
-
-  /** A real answer has come to this thread. */
-  answered() {
-    this.board.answered(this.agent);
-  }
-
-  /**
-   * The thread has looked.
-   * @param {import("./looking.mjs").Found} found
-   * @returns {boolean} whether it goes on
-   */
-  looked(found) {
-    const { board, agent, player: { part } } = this;
-    if (found === "less") board.row.takesBack(agent);
-    if (found !== "nothing" || board.missed(agent)) return true;
-    part.isPlaying = false;
+  /** @returns {boolean} whether a real answer may come to this thread now: else it is held back until the row has it */
+  isDue() {
+    const { board: { answers, row }, agent } = this;
+    if (row.isDue(agent)) return true;
+    answers.holds(agent);
     return false;
+  }
+
+  /** A real answer has come to this thread. If the run strays by it, nothing of the thread goes on. */
+  answered() {
+    const { board, agent } = this;
+    if (board.answered(agent)) return;
+    if (board.turn.enter(agent)) board.end.end("failed", "");
+    this.park();
+  }
+
+  /** @returns {never} nothing of the thread goes on */
+  park() {
+    return this.board.turn.park(this.agent);
+  }
+
+  /** @param {import("./looking.mjs").Found} found what has come of looking */
+  looked(found) {
+    const { board, agent } = this;
+    if (found === "less") board.row.takesBack();
+    if (found === "nothing") board.missed(agent);
+  }
+
+  /** The thread has looked in vain before a task. @returns {boolean} whether it takes that up now */
+  takesUp() {
+    const { board, board: { answers, row, strategy }, agent } = this;
+    if (row.isForced()) return false;
+    strategy.moves(agent, agent);
+    answers.goesOn(agent);
+    board.turned();
+    return true;
   }
 
   /** @param {number} milliseconds for which nobody can wake this thread; Infinity: nobody ever does */
@@ -289,7 +304,8 @@ export class Moves {
    */
   #looks(byThemselves) {
     const { board: { answers, row }, agent } = this;
-    this.looksFor = row.isForced() ? answers.long(byThemselves) : answers.patience(agent, byThemselves);
+    if (row.isExact) this.looksFor = answers.patienceByRow(byThemselves, row.due);
+    else this.looksFor = row.isForced() ? answers.long(byThemselves) : answers.patience(agent, byThemselves);
     this.#goesOn();
   }
 

@@ -303,11 +303,12 @@ function begin(parts, graph) {
   if (agent !== 0) ends.parentPort = parentPort;
   surroundings.begin(parts, start, parentPort);
   graph.begin();
-  surroundings.evaluated(start, graph, parts).then(() => ends.evaluated(), (thrown) => {
-    ends.evaluated();
-    ends.uncaught(thrown);
+  loop.begin(() => {
+    surroundings.evaluated(start, graph, parts).then(() => ends.evaluated(), (thrown) => {
+      ends.evaluated();
+      ends.uncaught(thrown);
+    });
   });
-  loop.begin();
 }
 
 /**

@@ -182,7 +182,8 @@ class Referee {
     const again = { ...other, acts: reporter.acts(other, made) };
     const place = reporter.placeOf(firstDifferent(before, maker.log));
     await this.#replace(made);
-    return { acts, again, place, strays: made.stray !== undefined };
+    const isOther = outcome.real !== undefined && !areSame(outcome, other);
+    return { acts, again, place, strays: made.stray !== undefined || isOther };
   }
 
   /** @param {Wanted} wanted @returns {Promise<One>} a run that is made only to see how it ends */

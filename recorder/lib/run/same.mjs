@@ -1,16 +1,54 @@
 // Whether two runs did the same.
 
+import { isLook, moverOf } from "../board/row.mjs";
+
 /** @typedef {import("./outcome.mjs").Outcome} Outcome */
 /** @typedef {Pick<Outcome, "seed" | "ending" | "detail" | "moves" | "calls" | "state" | "noScript">} Summary */
 /** @typedef {Summary & Pick<Outcome, "real" | "row">} RunSummary with its row if it got real answers */
 
 /**
- * Whether two runs of a seed did the same, as far as every run reports.
+ * Whether two runs of a seed did the same, as far as every run reports. Of runs that got real answers the rows are
+ * compared too.
  * @param {RunSummary} one
  * @param {RunSummary} other
  */
 export function areSame(one, other) {
+  const rows = one.real === undefined || one.row === undefined || other.row === undefined ? [] : [one.row, other.row];
+  // An answer on which no agent moves is counted as a move.
+  const isMoves = rows.length > 0 || one.moves === other.moves;
   /** @param {RunSummary} summary */
-  const parts = ({ ending, moves, calls, state }) => [ending, moves, calls, state.hash].join(" ");
-  return parts(one) === parts(other);
+  const parts = ({ ending, calls, state }) => [ending, calls, state.hash].join(" ");
+  const [row = [], made = []] = rows;
+  return parts(one) === parts(other) && isMoves && firstOtherMove(row, made) === undefined;
+}
+
+/**
+ * The moves of a row, of whose answers only those are left on which an agent makes its next move: the others may come in
+ * other pieces, and at another time.
+ * @param {number[]} row
+ * @returns {{ drawn: number, at: number }[]} with their positions in the row
+ */
+function movesOf(row) {
+  /** @type {Set<number>} agents whose next move is none by an answer */
+  const moving = new Set();
+  const moves = [];
+  for (let at = row.length - 1; at >= 0; at -= 1) {
+    const [drawn, agent] = [row[at], moverOf(row[at])];
+    if (!isLook(drawn) || moving.delete(agent)) moves.push({ drawn, at });
+    if (!isLook(drawn)) moving.add(agent);
+  }
+  return moves.reverse();
+}
+
+/**
+ * Where a run first went another way than the one whose row it was to go by.
+ * @param {number[]} row that was wanted
+ * @param {number[]} made the run's own
+ * @returns {number | undefined} a position in the row that was wanted, or its length; undefined: they are the same
+ */
+export function firstOtherMove(row, made) {
+  const [wanted, own] = [movesOf(row), movesOf(made)];
+  const at = wanted.findIndex(({ drawn }, number) => own[number]?.drawn !== drawn);
+  if (at >= 0) return wanted[at].at;
+  return own.length > wanted.length ? row.length : undefined;
 }

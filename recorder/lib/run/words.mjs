@@ -3,6 +3,9 @@
 /** Why a run of a program that gets real answers may be another one when it is made once more. */
 export const OTHER_INPUT = "its input may have come otherwise";
 
+/** How often such a run is made once more, until it goes the same way. */
+export const TIMES_TRIED = 3;
+
 /** @param {number} count @returns {string} as `9,432` */
 export const digits = (count) => String(count).replaceAll(/\B(?=([0-9]{3})+$)/g, ",");
 

@@ -1,5 +1,7 @@
 // How a run that was made by the row of a kept script differs from that script, in words.
 
+import { isLook, moverOf } from "../board/row.mjs";
+
 /** @typedef {import("./kept-script.mjs").KeptScript} KeptScript */
 /** @typedef {import("./kept-script.mjs").Step} Step */
 
@@ -94,8 +96,36 @@ const stepText = ({ agent, isOwn, call, text }) =>
  * @param {import("../board/row.mjs").Stray} stray
  * @returns {string}
  */
-export function rowStrayedText({ reason, agent, draw }) {
+export function rowStrayedText({ reason, agent, draw, wanted, able }) {
   if (reason === "goes on") return `agent ${agent} goes on where the kept run ends`;
-  const now = reason === "waits" ? "has nothing to do, or waits" : "has come to its end, or hasn't begun";
-  return `agent ${agent} moved with draw ${draw} of the kept run, and now it ${now}`;
+  if (wanted === undefined) return `a real answer comes to agent ${agent} where the kept run ends`;
+  return `${drawText(wanted, draw)}, and now ${nowText(reason, agent, wanted)}${ableText(able)}`;
+}
+
+/** @param {number} drawn @param {number} draw its position in the row of a kept run */
+const drawText = (drawn, draw) =>
+  `${isLook(drawn) ? "a real answer came to " : ""}agent ${moverOf(drawn)}${isLook(drawn) ? "" : " moved"} with draw ${draw} of the kept run`;
+
+/** @param {import("../board/row.mjs").StrayReason} reason @param {number} agent @param {number} wanted */
+function nowText(reason, agent, wanted) {
+  if (reason === "comes") return `one comes to agent ${agent} before`;
+  if (reason === "ended") return `${isLook(wanted) ? "that agent" : "it"} has come to its end, or hasn't begun`;
+  return isLook(wanted) ? "none comes" : "it has nothing to do, or waits";
+}
+
+/** @param {number[]} able who could move in place of what was wanted */
+function ableText(able) {
+  if (able.length === 0) return "";
+  return `; ${able.length === 1 ? "agent" : "agents"} ${able.join(", ")} could move`;
+}
+
+/**
+ * How the whole row of a program's run differs from that of a kept one.
+ * @param {number[]} row of the kept run
+ * @param {number | undefined} at where they differ first, in that one; undefined: they don't
+ * @returns {string | undefined}
+ */
+export function rowEndedText(row, at) {
+  if (at === undefined) return undefined;
+  return at === row.length ? "the run goes on where the kept run ends" : `${drawText(row[at], at)}, and now the run is over`;
 }

@@ -3,9 +3,9 @@
 // for by runs that are forced to go by rows: the found run's row in another order, without some of its stretches, with
 // two stretches of an agent joined, or with one made shorter, as long as that helps.
 
-import { areSame } from "../run/same.mjs";
+import { areSame, firstOtherMove } from "../run/same.mjs";
 import { NO_SCRIPT } from "../run/unseen.mjs";
-import { OTHER_INPUT } from "../run/words.mjs";
+import { OTHER_INPUT, TIMES_TRIED } from "../run/words.mjs";
 import { failsAlike } from "./alike.mjs";
 import { inOneGo } from "./in-one-go.mjs";
 import { keptScript } from "./kept-script.mjs";
@@ -233,9 +233,13 @@ export async function shorten(group, summary, limits = {}) {
   const { seed } = summary;
   const all = { most: MOST_RUNS, milliseconds: MOST_MILLISECONDS, onTry: () => {}, isFresh: false, ...limits };
   const how = summary.row === undefined ? {} : { row: summary.row, isExact: true };
-  const first = await group.one({ seed, whole: true, wantsRow: true, isFresh: all.isFresh, ...how });
-  const isAgain = areSame(first.outcome, summary) && failsAlike(first, first);
-  if (!isAgain) return asFound(summary, first.outcome, 1, notAgain(summary));
+  const times = summary.real === undefined ? 1 : TIMES_TRIED;
+  let [first, made, isAgain] = [/** @type {One} */ ({}), 0, false];
+  for (; made < times && !isAgain; made += 1) {
+    first = await group.one({ seed, whole: true, wantsRow: true, isFresh: all.isFresh, ...how });
+    isAgain = areSame(summary, first.outcome) && failsAlike(first, first);
+  }
+  if (!isAgain) return asFound(summary, first.outcome, made, notAgain(summary));
   const search = new Search(group, first, all, begun);
   await search.run();
   const { best, runs, stopped } = search;
@@ -276,6 +280,6 @@ async function remade(group, first, { row, calls }) {
   const run = await group.one({
     seed, whole: true, row, isExact: true, wantsRow: true, needsTrace: true, isFresh: true,
   });
-  const isSame = run.outcome.calls === calls && run.outcome.row?.length === row.length;
+  const isSame = run.outcome.calls === calls && firstOtherMove(row, run.outcome.row ?? []) === undefined;
   return isSame && failsAlike(run, first) ? run : undefined;
 }

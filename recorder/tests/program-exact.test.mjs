@@ -1,0 +1,90 @@
+// Runs that get real answers are made again by their rows: in the same threads, one after the other.
+
+import assert from "node:assert/strict";
+import { describe, it } from "node:test";
+import { pathToFileURL } from "node:url";
+import { LOOK } from "../lib/board/row.mjs";
+import { defaultsOf } from "../lib/options/table.mjs";
+import { ProgramGroup } from "../lib/program/group.mjs";
+import { areSame } from "../lib/run/same.mjs";
+import { TIMES_TRIED } from "../lib/run/words.mjs";
+import { rowStrayedText } from "../lib/shorter/differing.mjs";
+import { CLOSED, LISTENS, ONE_THREAD, RACE } from "./helpers/real-programs.mjs";
+import { programOf } from "./helpers/whole-programs.mjs";
+
+/**
+ * @param {import("node:test").TestContext} context
+ * @param {Record<string, string>} files of a program
+ * @returns {Promise<(wanted: object) => Promise<import("../lib/run/outcome.mjs").One>>} makes a run of it
+ */
+async function runsBy(context, files) {
+  const module = pathToFileURL(programOf(context, files)).href;
+  const options = { ...defaultsOf("record"), isProgram: true, seconds: 20, module, args: [], programOutput: "none" };
+  const group = await ProgramGroup.open(/** @type {any} */ (options));
+  context.after(() => group.close());
+  return (wanted) => group.one({ seed: 1, whole: true, wantsActs: true, isSilent: true, ...wanted });
+}
+
+/** @param {import("../lib/run/outcome.mjs").One} first @param {import("../lib/run/outcome.mjs").One} again */
+const isAgain = (first, again) => again.aside.stray === undefined && areSame(first.outcome, again.outcome)
+  && first.outcome.acts === again.outcome.acts;
+
+/**
+ * Makes the runs of a program's first seeds, and each once more by its row, a few times until it is the same.
+ * @param {import("node:test").TestContext} context
+ * @param {Record<string, string>} files
+ * @param {number} seeds how many
+ */
+async function repeated(context, files, seeds) {
+  const made = await runsBy(context, files);
+  const rows = [];
+  for (let seed = 1; seed <= seeds; seed += 1) {
+    const first = await made({ seed });
+    const { row = [], detail } = first.outcome;
+    const wanted = { seed, row, isExact: true };
+    let again = await made(wanted);
+    for (let time = 1; time < TIMES_TRIED && !isAgain(first, again); time += 1) again = await made(wanted);
+    assert.ok(isAgain(first, again), `seed ${seed}: ${detail}; ${again.outcome.detail}\n${row}\n${again.outcome.row}`);
+    rows.push(row);
+  }
+  return rows;
+}
+
+describe("a run with real answers is the same by its row", () => {
+  it("in which threads see that a socket has closed, which is no move", async (context) => {
+    await repeated(context, CLOSED, 3);
+  });
+
+  it("in which a thread asks itself", async (context) => {
+    await repeated(context, { "main.mjs": ONE_THREAD }, 2);
+  });
+
+  it("in which nothing comes at last", async (context) => {
+    await repeated(context, { "main.mjs": LISTENS }, 2);
+  });
+
+  it("in which a process ends while the thread's module is evaluated: that is a move", async (context) => {
+    const rows = await repeated(context, RACE, 12);
+    for (const row of rows) assert.ok(row.includes(LOOK + 1), `${row}`);
+  });
+});
+
+describe("a run that strays from its row", () => {
+  it("says which answer was wanted, and who could move", async (context) => {
+    const made = await runsBy(context, { "main.mjs": LISTENS });
+    const { outcome: { row = [] } } = await made({});
+    const { aside: { stray } } = await made({ row: [...row, LOOK, 0], isExact: true });
+    assert.equal(rowStrayedText(/** @type {any} */ (stray)),
+      `a real answer came to agent 0 with draw ${row.length} of the kept run, and now none comes`);
+  });
+
+  it("isn't the same run, though all of its own moves are in the row", async (context) => {
+    const made = await runsBy(context, { "main.mjs": ONE_THREAD });
+    const first = await made({});
+    const { row = [] } = first.outcome;
+    const longer = { ...first.outcome, row: [...row, 0] };
+    const again = await made({ row: longer.row, isExact: true });
+    assert.equal(again.aside.stray, undefined);
+    assert.ok(isAgain(first, again) && !areSame(longer, again.outcome));
+  });
+});
