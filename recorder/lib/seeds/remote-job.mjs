@@ -20,7 +20,7 @@ import { KeepsGlobals } from "./first-again.mjs";
  * @typedef {object} Message what it answers: one of these
  * @property {import("../shorter/shorten.mjs").Tried} [tried]
  * @property {Checked} [failing] the outcome of a run that fails, and that is about to be checked
- * @property {Checked} [outcome]
+ * @property {Checked[]} [outcomes] the next ones, in order
  * @property {Packed} [failed]
  * @property {unknown} [done]
  */
@@ -163,7 +163,7 @@ export class RemoteJob {
       const onMessage = (message) => {
         try {
           if (message.failing !== undefined) this.failing = message.failing;
-          else if (message.outcome !== undefined) handOn(message.outcome);
+          else if (message.outcomes !== undefined) for (const outcome of message.outcomes) handOn(outcome);
           else if (message.failed !== undefined) throw unpacked(message.failed);
           else end(done, message.done);
         } catch (problem) {
