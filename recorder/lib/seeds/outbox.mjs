@@ -1,6 +1,8 @@
 // Messages of a job's process to the first one. A message takes as long as some of the checks do. So outcomes that come
-// one soon after the other, as when checks are behind the runs, go together. They go as JSON text: what the engine's own
-// form takes would be a third of a check.
+// one soon after the other, as when checks are behind the runs, go together. They go as JSON text: the engine's own form
+// of messages takes at least twice as long.
+
+import { setImmediate } from "node:timers";
 
 /** @typedef {import("./job.mjs").Checked} Checked */
 /** @typedef {import("./remote-job.mjs").Message} Message */
