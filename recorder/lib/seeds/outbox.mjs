@@ -2,10 +2,12 @@
 // one soon after the other, as when checks are behind the runs, go together. They go as JSON text: the engine's own form
 // of messages takes at least twice as long.
 
-import { setImmediate } from "node:timers";
+import timers from "node:timers";
 
 /** @typedef {import("./job.mjs").Checked} Checked */
 /** @typedef {import("./remote-job.mjs").Message} Message */
+
+const { setImmediate: turnLater } = timers;
 
 /** How many outcomes go in one message at most: the process may be ended before it is sent. */
 export const MOST_OUTCOMES = 8;
@@ -38,7 +40,7 @@ export class Outbox {
     const now = performance.now();
     if (count === 1) {
       this.#since = now;
-      setImmediate(() => this.#sendPassed());
+      turnLater(() => this.#sendPassed());
     }
     if (count === MOST_OUTCOMES || now - this.#since > LONG_MILLISECONDS) this.#sendPassed();
   }
