@@ -123,6 +123,8 @@ test("a trace has a line for each event, however many there are, as JSON.stringi
   for (const count of [0, 1, 1_024, 1_025, 2_500]) {
     assert.equal(traceText(logOf(events.slice(0, count)), sources), lines.slice(0, count).join(""));
   }
+  const withoutSources = lines.map((line) => line.replace(/"source":.*/, '"source":null}'));
+  assert.equal(traceText(logOf(events)), withoutSources.join(""));
 });
 
 test("a report has a line for each move, for each block and for each agent", () => {

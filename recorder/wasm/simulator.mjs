@@ -88,9 +88,13 @@ export class Instance {
    * @returns {Ended}
    */
   run({ job, format = "plain", acts = false, finish = false, explain = false }, input) {
-    const numbers = [JOBS.indexOf(job), FORMATS.indexOf(format), Number(acts), Number(finish), Number(explain)];
-    const slice = this.#put(NOTHING, input).slice(2);
-    return this.#ask((room) => this.exports.sabsim_run(...numbers, ...slice, ...room), input.length).ended;
+    const [which, how] = [JOBS.indexOf(job), FORMATS.indexOf(format)];
+    const at = BigInt(this.#put(NOTHING, input));
+    const size = BigInt(input.length);
+    const { sabsim_run: run } = this.exports;
+    return this.#ask((roomAt, roomSize, reply) => {
+      run(which, how, Number(acts), Number(finish), Number(explain), at, size, roomAt, roomSize, reply);
+    }, input.length).ended;
   }
 
   /**
@@ -101,9 +105,12 @@ export class Instance {
    * @returns {{ wants: number, ended: Ended }}
    */
   command(line, given, input, isTerminal) {
-    const [wordsAt, wordsSize, ...slice] = this.#put(line, input);
-    const numbers = [wordsAt, wordsSize, given, Number(isTerminal)];
-    return this.#ask((room) => this.exports.sabsim_command(...numbers, ...slice, ...room), input.length);
+    const at = this.#put(line, input);
+    const words = [BigInt(at - line.length), BigInt(line.length)];
+    const slice = [BigInt(at), BigInt(input.length)];
+    return this.#ask((...room) => {
+      this.exports.sabsim_command(...words, given, Number(isTerminal), ...slice, ...room);
+    }, input.length);
   }
 
   /**
@@ -122,10 +129,10 @@ export class Instance {
   }
 
   /**
-   * Puts two lists of bytes into the memory, behind the place for a reply.
+   * Puts two lists of bytes into the memory, one behind the other, behind the place for a reply.
    * @param {Uint8Array} first
    * @param {Uint8Array} second
-   * @returns {bigint[]} address and length of each
+   * @returns {number} the address of the second
    */
   #put(first, second) {
     this.given = this.#placeFor(this.given, REPLY.size + first.length + second.length);
@@ -134,12 +141,13 @@ export class Instance {
     const secondAt = firstAt + first.length;
     this.bytes.set(first, firstAt);
     this.bytes.set(second, secondAt);
-    return [BigInt(firstAt), BigInt(first.length), BigInt(secondAt), BigInt(second.length)];
+    return secondAt;
   }
 
   /**
    * Calls an export until its room is large enough.
-   * @param {(room: bigint[]) => void} call what is called with the room's address and length and the reply's address
+   * @param {(at: bigint, size: bigint, reply: bigint) => void} call what is called with the room's address and length and
+   * the reply's address
    * @param {number} size of the input: most reports are a few times as long
    * @returns {{ wants: number, ended: Ended }}
    */
@@ -147,7 +155,7 @@ export class Instance {
     for (let wanted = Math.max(FIRST_ROOM, 4 * size); ; ) {
       this.room = this.#placeFor(this.room, wanted);
       try {
-        call([this.room.at, this.room.size, this.given.at].map(BigInt));
+        call(BigInt(this.room.at), BigInt(this.room.size), BigInt(this.given.at));
       } catch (error) {
         throw new Trapped(error);
       }
@@ -164,7 +172,8 @@ export class Instance {
 
   /** @param {number} at where a number of the reply is @returns {number} */
   #replied(at) {
-    return Number(this.view.getBigUint64(this.given.at + at, true));
+    const place = this.given.at + at;
+    return this.view.getUint32(place + 4, true) * 2 ** 32 + this.view.getUint32(place, true);
   }
 }
 

@@ -18,6 +18,9 @@ import { FINGERPRINT } from "../memory/records.mjs";
 // When there are more, all are forgotten.
 const MOST = 8_192;
 
+/** @type {{ fingerprint: Int32Array, call: KnownCall }[]} */
+const NONE_ALIKE = [];
+
 /** Of all calls whose names and lengths of blocks are the same. */
 export class KnownCalls {
   /** @type {Map<number, { fingerprint: Int32Array, call: KnownCall }[]>} by a number that equal calls share */
@@ -28,17 +31,19 @@ export class KnownCalls {
   /**
    * @param {import("./transcript.mjs").Run["records"][number]} records
    * @param {number} position
-   * @param {() => KnownCall} make is called if the call isn't known
+   * @param {(records: import("./transcript.mjs").Run["records"][number], position: number) => KnownCall} make is called
+   * if the call isn't known
    * @returns {KnownCall}
    */
   at(records, position, make) {
     const asked = this.#asked;
-    if (!records.takeFingerprint(position, asked)) return make();
+    if (!records.takeFingerprint(position, asked)) return make(records, position);
     const key = keyOf(asked);
-    const alike = this.#known.get(key);
-    const found = alike?.find(({ fingerprint }) => areEqual(fingerprint, asked));
-    if (found !== undefined) return found.call;
-    const call = make();
+    const alike = this.#known.get(key) ?? NONE_ALIKE;
+    for (let at = 0; at < alike.length; at += 1) {
+      if (areEqual(alike[at].fingerprint, asked)) return alike[at].call;
+    }
+    const call = make(records, position);
     const { done, view } = call;
     done.text = flat(done.text);
     if (view !== undefined) view.text = flat(viewText(view));

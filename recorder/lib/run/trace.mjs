@@ -20,33 +20,45 @@ function nameOf({ what, method }) {
 /** From an agent to the number of its call. */
 const AGENTS = Array.from({ length: SCRIPT_LIMITS.agents }, (_, agent) => flat(`,"agent":${agent},"call":`));
 
-/** From what an event does, by its flags, to the place in the code. */
-const EFFECTS = Array.from({ length: 16 }, (_, flags) => flat(
-  `,"read":${(flags & FLAG.READS) !== 0},"write":${(flags & FLAG.WRITES) !== 0},` +
-  `"atomic":${(flags & FLAG.ATOMIC) !== 0},"waiters":${(flags & FLAG.WAITERS) !== 0},"source":`));
+/** The flags that a line has. */
+const FLAGS = FLAG.READS | FLAG.WRITES | FLAG.ATOMIC | FLAG.WAITERS;
 
-/** @type {Map<string, string[]>} by what an event is called, from there to its first byte: of each block */
-const DEEDS = new Map();
-
-/** @param {import("../memory/log.mjs").LogEvent} event @returns {string} from what it is called to its first byte */
-function deedOf(event) {
-  const name = nameOf(event);
-  const known = DEEDS.get(name) ?? [];
-  if (known.length === 0) DEEDS.set(name, known);
-  return (known[event.block] ??= flat(`,"does":"${name}","block":${event.block},"byte":`));
+/** @param {import("../memory/log.mjs").LogEvent} event @returns {string} from what it is called to the place in the code */
+function deedText(event) {
+  const { block, from, to, flags } = event;
+  return `,"does":"${nameOf(event)}","block":${block},"byte":${from},"size":${to - from}` +
+    `,"read":${(flags & FLAG.READS) !== 0},"write":${(flags & FLAG.WRITES) !== 0},` +
+    `"atomic":${(flags & FLAG.ATOMIC) !== 0},"waiters":${(flags & FLAG.WAITERS) !== 0},"source":`;
 }
 
-/**
- * What JSON.stringify makes of an event as an object, faster: a trace may have a million lines.
- * @param {number} position
- * @param {import("../memory/log.mjs").LogEvent} event
- * @param {string} source in JSON
- */
-function lineOf(position, event, source) {
-  const { agent, call, from, to, flags } = event;
-  return `{"event":${position}${AGENTS[agent]}${call}${deedOf(event)}${from},"size":${to - from}` +
-    `${EFFECTS[flags & 15]}${source}}\n`;
+/** The last deeds that were spelled, each in a slot of its own or in place of another one. */
+class KnownDeeds {
+  static SLOTS = 1_024;
+  static WORDS = 4;
+
+  #texts = Array.from({ length: KnownDeeds.SLOTS }, () => "");
+  #words = new Int32Array(KnownDeeds.SLOTS * KnownDeeds.WORDS);
+
+  /** @param {import("../memory/log.mjs").Log} log @param {number} position @returns {string} the same of an event */
+  at(log, position) {
+    const deed = log.whatAt(position) | (log.methodAt(position) << 4) | ((log.flagsAt(position) & FLAGS) << 8);
+    const block = log.blockAt(position);
+    const from = log.fromAt(position);
+    const to = log.toAt(position);
+    const slot = (Math.imul(deed, 73) + Math.imul(block, 37) + Math.imul(from, 5) + to) & (KnownDeeds.SLOTS - 1);
+    const words = this.#words;
+    const at = slot * KnownDeeds.WORDS;
+    const isKnown = words[at] === deed && words[at + 1] === block && words[at + 2] === from && words[at + 3] === to;
+    if (isKnown && this.#texts[slot] !== "") return this.#texts[slot];
+    words[at] = deed;
+    words[at + 1] = block;
+    words[at + 2] = from;
+    words[at + 3] = to;
+    return (this.#texts[slot] = flat(deedText(log.at(position))));
+  }
 }
+
+const DEEDS = new KnownDeeds();
 
 /**
  * The first line of a trace that may lack accesses of its run. It is no event. So `sabsim judge --trace` refuses such a
@@ -66,25 +78,29 @@ const JOINED = 1_024;
  * @returns {string}
  */
 export function traceText(log, sources = []) {
-  const spelled = sources.map((list) => list.map((source) => JSON.stringify(source || null)));
-  if (log.length <= JOINED) return linesFrom(log, 0, spelled);
+  const ends = sources.map((list) => list.map((source) => `${JSON.stringify(source || null)}}\n`));
+  if (log.length <= JOINED) return linesFrom(log, 0, ends);
   const parts = [];
-  for (let first = 0; first < log.length; first += JOINED) parts.push(flat(linesFrom(log, first, spelled)));
+  for (let first = 0; first < log.length; first += JOINED) parts.push(flat(linesFrom(log, first, ends)));
   return parts.join("");
 }
 
+// What a line ends with that has no position of code.
+const NO_SOURCE = "null}\n";
+
 /**
- * The lines of some events.
+ * The lines of some events: what JSON.stringify makes of each as an object, faster. A trace may have a million lines.
  * @param {import("../memory/log.mjs").Log} log
  * @param {number} first
- * @param {string[][]} spelled the positions of each agent's code, in JSON
+ * @param {string[][]} ends the positions of each agent's code in JSON, to the ends of their lines
  */
-function linesFrom(log, first, spelled) {
-  const end = Math.min(first + JOINED, log.length);
+function linesFrom(log, first, ends) {
+  const behind = Math.min(first + JOINED, log.length);
   let lines = "";
-  for (let position = first; position < end; position += 1) {
-    const event = log.at(position);
-    lines += lineOf(position, event, spelled[event.agent]?.[event.source] ?? "null");
+  for (let position = first; position < behind; position += 1) {
+    const agent = log.agentAt(position);
+    const end = ends[agent]?.[log.sourceAt(position)] ?? NO_SOURCE;
+    lines += `{"event":${position}${AGENTS[agent]}${log.callAt(position)}${DEEDS.at(log, position)}${end}`;
   }
   return lines;
 }

@@ -55,16 +55,26 @@ class Writer {
     this.helpers = new Helpers(canBlock.length);
     this.names = names;
     this.known = known;
+    /** Makes a call that isn't known. */
+    this.make = (/** @type {Run["records"][number]} */ records, /** @type {number} */ position) => {
+      return this.#call(records, position);
+    };
     /** @type {Map<string, SpelledView>} */
     this.views = new Map();
     /** @type {Done[][]} */
-    this.calls = canBlock.map(() => []);
-    /** How many calls each agent has made itself. */
-    this.own = canBlock.map(() => 0);
+    this.calls = [];
+    /** @type {number[]} how many calls each agent has made itself */
+    this.own = [];
     /** @type {Move[]} */
     this.moves = [];
-    /** Each agent's move that isn't the end of a time. */
-    this.plainMoves = canBlock.map((_, agent) => ({ agent, timeUp: false }));
+    /** @type {Move[]} each agent's move that isn't the end of a time */
+    this.plainMoves = [];
+    // The engine makes other arrays of `map` once it has compiled this, and then all that takes them is compiled anew.
+    for (let agent = 0; agent < canBlock.length; agent += 1) {
+      this.calls.push([]);
+      this.own.push(0);
+      this.plainMoves.push({ agent, timeUp: false });
+    }
     /** @type {Map<string, string[]>} the names of the views of stores, by whose they are: of each block's kinds */
     this.storeNames = new Map();
     // All names are there, so that who reads the script knows them.
@@ -137,7 +147,7 @@ class Writer {
   /** @param {Run["records"][number]} records @param {number} agent @returns {Done} the agent's next call */
   #next(records, agent) {
     const position = this.own[agent];
-    const { done, view } = this.known.at(records, position, () => this.#call(records, position));
+    const { done, view } = this.known.at(records, position, this.make);
     if (view !== undefined) this.addView(view);
     this.own[agent] += 1;
     return done;

@@ -3,19 +3,17 @@
 import { onceMore, stopGrowth } from "../processes/garbage.mjs";
 import { endGroup } from "../processes/group-end.mjs";
 import { Job } from "./job.mjs";
+import { Outbox } from "./outbox.mjs";
 import { packed } from "./remote-job.mjs";
-
-/** @param {import("./remote-job.mjs").Message} message */
-function send(message) {
-  // It is forked, and so can send.
-  process.send?.(message);
-}
 
 const job = new Job();
 
+// It is forked, and so can send.
+const outbox = new Outbox((message) => process.send?.(message));
+
 /** @param {import("./job.mjs").Checked} outcome */
 function sendOutcome(outcome) {
-  send({ outcome });
+  outbox.add(outcome);
   onceMore();
 }
 
@@ -24,16 +22,16 @@ async function answerTo(request) {
   if (request.open !== undefined) await job.open(request.open);
   // Its first workers have begun.
   stopGrowth();
-  if (request.run !== undefined) await job.run(request.run, sendOutcome, (failing) => send({ failing }));
-  return request.shorten && job.shorten(request.shorten, (tried) => send({ tried }));
+  if (request.run !== undefined) await job.run(request.run, sendOutcome, (failing) => outbox.put({ failing }));
+  return request.shorten && job.shorten(request.shorten, (tried) => outbox.put({ tried }));
 }
 
 process.on("disconnect", () => endGroup(process.pid));
 if (!process.connected) endGroup(process.pid);
 process.on("message", async (request) => {
   try {
-    send({ done: await answerTo(request) });
+    outbox.put({ done: await answerTo(request) });
   } catch (error) {
-    send({ failed: packed(error) });
+    outbox.put({ failed: packed(error) });
   }
 });

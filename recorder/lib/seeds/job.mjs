@@ -149,8 +149,8 @@ export class Job {
       if (keeps !== undefined) throw keeps;
       const checked = checkedBy(this.#simulator, run, this.#every, this.#repeats);
       const besides = isReal ? otherInputText(outcome, again) : "";
-      const detail = [checked.detail, besides].filter((text) => text !== "").join("\n");
-      return { ...checked, detail, ...(stray === undefined ? {} : { stray }) };
+      if (besides !== "") checked.detail = [checked.detail, besides].filter((text) => text !== "").join("\n");
+      return stray === undefined ? checked : { ...checked, stray };
     } catch (failure) {
       this.#failure = failure;
       return failure instanceof KeepsGlobals ? undefined : { ...run.outcome, checked: false };

@@ -20,7 +20,8 @@ import { KeepsGlobals } from "./first-again.mjs";
  * @typedef {object} Message what it answers: one of these
  * @property {import("../shorter/shorten.mjs").Tried} [tried]
  * @property {Checked} [failing] the outcome of a run that fails, and that is about to be checked
- * @property {Checked} [outcome]
+ * @property {string} [passed] the next outcomes in order, as JSON text of a list
+ * @property {Checked} [outcome] the next one, if it fails or may be long
  * @property {Packed} [failed]
  * @property {unknown} [done]
  */
@@ -163,6 +164,7 @@ export class RemoteJob {
       const onMessage = (message) => {
         try {
           if (message.failing !== undefined) this.failing = message.failing;
+          else if (message.passed !== undefined) for (const outcome of JSON.parse(message.passed)) handOn(outcome);
           else if (message.outcome !== undefined) handOn(message.outcome);
           else if (message.failed !== undefined) throw unpacked(message.failed);
           else end(done, message.done);
