@@ -127,5 +127,6 @@ function ableText(able) {
  */
 export function rowEndedText(row, at) {
   if (at === undefined) return undefined;
-  return at === row.length ? "the run goes on where the kept run ends" : `${drawText(row[at], at)}, and now the run is over`;
+  if (at === row.length) return "the run goes on where the kept run ends";
+  return `${drawText(row[at], at)}, and now the run is over, or another agent moved there`;
 }
