@@ -81,19 +81,20 @@ const words = new Int32Array(new SharedArrayBuffer(4));
 const worker = new Worker(new URL("worker.mjs", import.meta.url), { workerData: words });
 await new Promise((done) => worker.once("message", done));
 execSync("sleep 0.1");
-for (let at = 0; at < 4; at += 1) Atomics.load(words, 0);`,
+for (let at = 0; at < 12; at += 1) Atomics.load(words, 0);
+await new Promise((done) => worker.once("exit", done));`,
       "worker.mjs": `import { spawn } from "node:child_process"; import { parentPort, workerData } from "node:worker_threads";
 const child = spawn("sh", ["-c", "echo a; [ -e ${slow} ] && sleep 0.6; echo b >&2"]);
 for (const pipe of [child.stdout, child.stderr]) pipe.on("data", () => Atomics.add(workerData, 0, 1));
 parentPort.postMessage("begun");` });
     let held = 0;
-    for (let seed = 1; seed <= 12 && held < 2; seed += 1) {
+    for (let seed = 1; seed <= 40 && held < 2; seed += 1) {
       writeFileSync(slow, "");
       const first = await made({ seed });
       const { row = [] } = first.outcome;
-      const [one, two] = [row.indexOf(LOOK + 1), row.lastIndexOf(0)];
-      // Main moves before the one, between both, and last.
-      if (!(row.slice(0, one).filter((drawn) => drawn === 0).length > 3 && two > one + 2)) continue;
+      // Main loads before the one, so that both have come then when the run is made again; and between both.
+      const between = new RegExp(`^(1,)*(0,(1,)*){6,}${LOOK + 1},1,(0,)+${LOOK + 1},1,`);
+      if (!between.test(row.join())) continue;
       rmSync(slow);
       const again = await made({ seed, row, isExact: true });
       assert.ok(isAgain(first, again), `seed ${seed}: ${again.outcome.detail}\n${row}\n${again.outcome.row}`);
