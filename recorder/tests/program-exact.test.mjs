@@ -1,6 +1,8 @@
 // Runs that get real answers are made again by their rows: in the same threads, one after the other.
 
 import assert from "node:assert/strict";
+import { rmSync, writeFileSync } from "node:fs";
+import { join } from "node:path";
 import { describe, it } from "node:test";
 import { pathToFileURL } from "node:url";
 import { LOOK } from "../lib/board/row.mjs";
@@ -10,6 +12,7 @@ import { areSame } from "../lib/run/same.mjs";
 import { TIMES_TRIED } from "../lib/run/words.mjs";
 import { rowStrayedText } from "../lib/shorter/differing.mjs";
 import { CLOSED, LISTENS, ONE_THREAD, RACE } from "./helpers/real-programs.mjs";
+import { temporaryFolder } from "./helpers/common.mjs";
 import { programOf } from "./helpers/whole-programs.mjs";
 
 /**
@@ -66,6 +69,38 @@ describe("a run with real answers is the same by its row", () => {
   it("in which a process ends while the thread's module is evaluated: that is a move", async (context) => {
     const rows = await repeated(context, RACE, 12);
     for (const row of rows) assert.ok(row.includes(LOOK + 1), `${row}`);
+  });
+});
+
+describe("an answer that comes too soon", () => {
+  it("is held back until the row has it", async (context) => {
+    const slow = join(temporaryFolder(context), "slow");
+    const made = await runsBy(context, {
+      "main.mjs": `import { Worker } from "node:worker_threads"; import { execSync } from "node:child_process";
+const words = new Int32Array(new SharedArrayBuffer(4));
+const worker = new Worker(new URL("worker.mjs", import.meta.url), { workerData: words });
+await new Promise((done) => worker.once("message", done));
+execSync("sleep 0.1");
+for (let at = 0; at < 12; at += 1) Atomics.load(words, 0);
+await new Promise((done) => worker.once("exit", done));`,
+      "worker.mjs": `import { spawn } from "node:child_process"; import { parentPort, workerData } from "node:worker_threads";
+const child = spawn("sh", ["-c", "echo a; [ -e ${slow} ] && sleep 0.6; echo b >&2"]);
+for (const pipe of [child.stdout, child.stderr]) pipe.on("data", () => Atomics.add(workerData, 0, 1));
+parentPort.postMessage("begun");` });
+    let held = 0;
+    for (let seed = 1; seed <= 40 && held < 2; seed += 1) {
+      writeFileSync(slow, "");
+      const first = await made({ seed });
+      const { row = [] } = first.outcome;
+      // Main loads before the one, so that both have come then when the run is made again; and between both.
+      const between = new RegExp(`^(1,)*(0,(1,)*){6,}${LOOK + 1},1,(0,)+${LOOK + 1},1,`);
+      if (!between.test(row.join())) continue;
+      rmSync(slow);
+      const again = await made({ seed, row, isExact: true });
+      assert.ok(isAgain(first, again), `seed ${seed}: ${again.outcome.detail}\n${row}\n${again.outcome.row}`);
+      held += 1;
+    }
+    assert.ok(held > 0);
   });
 });
 

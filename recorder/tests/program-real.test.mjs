@@ -293,7 +293,7 @@ describe("a run that can't be repeated", () => {
       used, "  seed 1 the first, 3 runs: child_process.execSync at main.mjs:3:22",
       `seed 1 was run once more at the end, and ended otherwise (threw, then finished): ${OTHERWISE}`,
     ]);
-    const notShortened = `not shortened: it couldn't be made again in the same way: ${OTHERWISE}, in 1 run`;
+    const notShortened = `not shortened: it couldn't be made again in the same way: ${OTHERWISE}, in 3 runs`;
     assert.ok(lines.includes(notShortened), stdout);
     assert.match(stdout, new RegExp(`to learn its lines of code: ${OTHERWISE}$`, "m"));
     const replayed = await recorded(["--program", main, "--replay", join(out, "seed-1.program.json")]);

@@ -164,7 +164,10 @@ declare module "node:async_hooks" {
   }
   export function createHook(hooks: Hooks): { enable(): void; disable(): void };
   export function executionAsyncResource(): object;
-  export const AsyncResource: { prototype: any };
+  export class AsyncResource {
+    constructor(type: string);
+    runInAsyncScope(act: () => void): void;
+  }
 }
 
 declare module "node:buffer" {

@@ -32,7 +32,7 @@ export function strayedText({ reason, agent, draw }, detail, { draws }) {
   if (reason === "call" && !goesOn) return `${was} was ${text} in the script, and is now ${other}${perhaps}`;
   const now = {
     call: `it makes the next one, ${other}`, leaves: "it goes on from a wait", waits: "it still waits",
-    ended: "it has come to its end",
+    ended: "it has come to its end", comes: "a real answer comes",
   }[reason];
   if (goesOn) return `agent ${agent} was still in its call ${call}, ${text}, in the script, and now ${now}`;
   return `${was} was ${text} in the script, and now the agent hasn't come so far: ${now}`;
@@ -127,5 +127,6 @@ function ableText(able) {
  */
 export function rowEndedText(row, at) {
   if (at === undefined) return undefined;
-  return at === row.length ? "the run goes on where the kept run ends" : `${drawText(row[at], at)}, and now the run is over`;
+  if (at === row.length) return "the run goes on where the kept run ends";
+  return `${drawText(row[at], at)}, and now the run is over, or another agent moved there`;
 }
