@@ -90,6 +90,18 @@ export class Thread {
     this.post({ modules: compiledModules(root).filter(({ url }) => !this.given.has(url)), ...data });
   }
 
+  /** While it waits for work, it doesn't keep the process from its end. */
+  letGo() {
+    this.worker.unref();
+    this.port.unref();
+  }
+
+  /** It keeps the process from its end again. */
+  hold() {
+    this.worker.ref();
+    this.port.ref();
+  }
+
   /**
    * The next message; one of `ended` where there is none any more.
    * @returns {Promise<Item>}
@@ -182,6 +194,44 @@ export function beginThreads(root, count, execArgv) {
 /** @param {URL} root the module of those that get now what it imports */
 export function giveAhead(root) {
   for (const each of begun) if (each.root.href === root.href) each.thread.giveAhead(root);
+}
+
+/** For so long a worker is kept that nobody needs. */
+const REST_MILLISECONDS = 2_000;
+
+/** No more are kept. */
+const MOST_RESTING = 4;
+
+/** @type {{ root: URL, thread: Thread }[]} those that have done their work, and await more of it */
+const resting = [];
+
+/**
+ * Keeps a worker that has done its work, and none of whose code is the agents', for those that need one soon.
+ * @param {URL} root the module that it was given
+ * @param {Thread} thread
+ */
+export function keepThread(root, thread) {
+  const kept = { root, thread };
+  resting.push(kept);
+  thread.letGo();
+  const end = (/** @type {typeof kept | undefined} */ one) => {
+    const at = one === undefined ? -1 : resting.indexOf(one);
+    if (at >= 0) void resting.splice(at, 1)[0].thread.stop();
+  };
+  if (resting.length > MOST_RESTING) end(resting[0]);
+  setTimeout(end, REST_MILLISECONDS, kept).unref();
+}
+
+/**
+ * @param {URL} root
+ * @returns {Thread | undefined} a worker that was given this module, and awaits more work
+ */
+export function keptThread(root) {
+  const at = resting.findLastIndex(({ root: { href }, thread }) => href === root.href && thread.ended === undefined);
+  if (at < 0) return undefined;
+  const [{ thread }] = resting.splice(at, 1);
+  thread.hold();
+  return thread;
 }
 
 /**
