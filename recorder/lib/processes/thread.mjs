@@ -196,30 +196,36 @@ export function giveAhead(root) {
   for (const each of begun) if (each.root.href === root.href) each.thread.giveAhead(root);
 }
 
-/** For so long a worker is kept that nobody needs. */
-const REST_MILLISECONDS = 2_000;
+/** So long a worker is kept that no one needs. */
+const KEPT_MILLISECONDS = 2_000;
 
-/** No more are kept. */
-const MOST_RESTING = 4;
+/** No more are kept at a time. */
+const MOST_KEPT = 4;
 
-/** @type {{ root: URL, thread: Thread }[]} those that have done their work, and await more of it */
-const resting = [];
+/** @typedef {{ root: URL, thread: Thread }} Kept */
+
+/** @type {Kept[]} those that have done their work, and await more of it */
+const kept = [];
+
+/** @param {Kept} one that is ended, unless it was taken */
+function endKept(one) {
+  const at = kept.indexOf(one);
+  if (at < 0) return;
+  kept.splice(at, 1);
+  void one.thread.stop();
+}
 
 /**
- * Keeps a worker that has done its work, and none of whose code is the agents', for those that need one soon.
+ * Keeps a worker that has done its work for the next that needs one. It has none of the agents' code.
  * @param {URL} root the module that it was given
  * @param {Thread} thread
  */
 export function keepThread(root, thread) {
-  const kept = { root, thread };
-  resting.push(kept);
+  const one = { root, thread };
+  kept.push(one);
   thread.letGo();
-  const end = (/** @type {typeof kept | undefined} */ one) => {
-    const at = one === undefined ? -1 : resting.indexOf(one);
-    if (at >= 0) void resting.splice(at, 1)[0].thread.stop();
-  };
-  if (resting.length > MOST_RESTING) end(resting[0]);
-  setTimeout(end, REST_MILLISECONDS, kept).unref();
+  if (kept.length > MOST_KEPT) endKept(kept[0]);
+  setTimeout(endKept, KEPT_MILLISECONDS, one).unref();
 }
 
 /**
@@ -227,9 +233,9 @@ export function keepThread(root, thread) {
  * @returns {Thread | undefined} a worker that was given this module, and awaits more work
  */
 export function keptThread(root) {
-  const at = resting.findLastIndex(({ root: { href }, thread }) => href === root.href && thread.ended === undefined);
+  const at = kept.findIndex((one) => one.root.href === root.href && one.thread.ended === undefined);
   if (at < 0) return undefined;
-  const [{ thread }] = resting.splice(at, 1);
+  const [{ thread }] = kept.splice(at, 1);
   thread.hold();
   return thread;
 }
