@@ -63,9 +63,10 @@ test("a module that can't be loaded, and a single run of the library, leave the 
   assert.equal((await madeBy(ofAgents())).thread, thread);
 });
 
-test("a referee that is still to make runs is ended with its group", async () => {
+test("a referee that is still to make runs is ended with its group", async (context) => {
   const { thread } = await madeBy(ofAgents());
   const group = await ofAgents();
+  context.after(() => group.close());
   assert.equal(group.referee.thread, thread);
   const enough = new Promise((done) => {
     group.run(seedsTo(100_000).map((seed) => ({ seed, whole: false })), done).catch(() => {});
@@ -74,8 +75,8 @@ test("a referee that is still to make runs is ended with its group", async () =>
   await group.close();
   assert.notEqual(thread.ended, undefined);
   const next = await ofAgents();
+  context.after(() => next.close());
   assert.notEqual(next.referee.thread, thread);
-  await next.close();
 });
 
 test("groups that go on side by side have a thread each", async (context) => {
