@@ -41,6 +41,8 @@ declare module "node:worker_threads" {
     off(event: string, listener: (...given: any[]) => void): this;
     postMessage(message: unknown): void;
     close(): void;
+    ref(): void;
+    unref(): void;
   }
   export class MessageChannel {
     readonly port1: MessagePort;
@@ -62,6 +64,7 @@ declare module "node:worker_threads" {
     postMessage(message: unknown): void;
     readonly threadId: number;
     terminate(): Promise<number>;
+    ref(): void;
     unref(): void;
   }
   export const parentPort: MessagePort | null;

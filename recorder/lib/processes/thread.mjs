@@ -90,6 +90,18 @@ export class Thread {
     this.post({ modules: compiledModules(root).filter(({ url }) => !this.given.has(url)), ...data });
   }
 
+  /** While it waits for work, it doesn't keep the process from its end. */
+  letGo() {
+    this.worker.unref();
+    this.port.unref();
+  }
+
+  /** It keeps the process from its end again. */
+  hold() {
+    this.worker.ref();
+    this.port.ref();
+  }
+
   /**
    * The next message; one of `ended` where there is none any more.
    * @returns {Promise<Item>}
@@ -182,6 +194,50 @@ export function beginThreads(root, count, execArgv) {
 /** @param {URL} root the module of those that get now what it imports */
 export function giveAhead(root) {
   for (const each of begun) if (each.root.href === root.href) each.thread.giveAhead(root);
+}
+
+/** So long a worker is kept that no one needs. */
+const KEPT_MILLISECONDS = 2_000;
+
+/** No more are kept at a time. */
+const MOST_KEPT = 4;
+
+/** @typedef {{ root: URL, thread: Thread }} Kept */
+
+/** @type {Kept[]} those that have done their work, and await more of it */
+const kept = [];
+
+/** @param {Kept} one that is ended, unless it was taken */
+function endKept(one) {
+  const at = kept.indexOf(one);
+  if (at < 0) return;
+  kept.splice(at, 1);
+  void one.thread.stop();
+}
+
+/**
+ * Keeps a worker that has done its work for the next that needs one. It has none of the agents' code.
+ * @param {URL} root the module that it was given
+ * @param {Thread} thread
+ */
+export function keepThread(root, thread) {
+  const one = { root, thread };
+  kept.push(one);
+  thread.letGo();
+  if (kept.length > MOST_KEPT) endKept(kept[0]);
+  setTimeout(endKept, KEPT_MILLISECONDS, one).unref();
+}
+
+/**
+ * @param {URL} root
+ * @returns {Thread | undefined} a worker that was given this module, and awaits more work
+ */
+export function keptThread(root) {
+  const at = kept.findIndex((one) => one.root.href === root.href && one.thread.ended === undefined);
+  if (at < 0) return undefined;
+  const [{ thread }] = kept.splice(at, 1);
+  thread.hold();
+  return thread;
 }
 
 /**

@@ -20,7 +20,6 @@ import { programMemory, programPlan } from "./program-memory.mjs";
 /** @typedef {{ thread: Thread, control: import("node:worker_threads").MessagePort }} Standing a thread of a slot */
 
 const PROGRAM_MODULE = new URL("./worker.mjs", import.meta.url);
-const REFEREE_MODULE = new URL("../run/referee.mjs", import.meta.url);
 
 /** The time of a wait or a timer that is further away is never up early in the seeds that hurry. */
 const SOON_MILLISECONDS = 1_000;
@@ -72,9 +71,7 @@ export class ProgramGroup extends Group {
 
   /** @param {() => void} meanwhile */
   async start(meanwhile) {
-    const referee = this.thread(REFEREE_MODULE);
-    this.referee = referee;
-    referee.give(REFEREE_MODULE);
+    const referee = this.beginReferee();
     const { module, strategy, everywhere, timeouts, maxMoves, web = false } = this.options;
     this.#origin = module;
     const plan = programPlan(SCRIPT_LIMITS.agents, !web);
@@ -85,7 +82,7 @@ export class ProgramGroup extends Group {
     this.board = new Board(this.memory.board, this.rules);
     const options = this.refereeOptions({ hasInit: false, hasCheck: false });
     const asked = { ...options, stuck: this.options.stuck, isProgram: true, fresh: false };
-    referee.post({ memory: this.memory, plan, rules: this.rules, options: asked });
+    referee.give({ memory: this.memory, plan, rules: this.rules, options: asked });
     this.#prepare(FIRST_THREADS);
     meanwhile();
     await this.#grow(FIRST_THREADS);

@@ -13,6 +13,7 @@ import { FIRST_AGENTS } from "../processes/first-workers.cjs";
 import { framesOf } from "../processes/place-of-thread.mjs";
 import { begunThread } from "../processes/thread.mjs";
 import { loadProblem } from "./load-problem.mjs";
+import { RefereeThread } from "./referee-thread.mjs";
 import { TextMaker } from "./taken.mjs";
 import { within } from "./within.mjs";
 
@@ -69,7 +70,6 @@ import { within } from "./within.mjs";
 
 const DEFAULT_LOAD_SECONDS = 30;
 const AGENT_MODULE = new URL("../agent/worker.mjs", import.meta.url);
-const REFEREE_MODULE = new URL("./referee.mjs", import.meta.url);
 
 /**
  * How many agents' workers begin before it is known how many agents the module wants.
@@ -130,7 +130,7 @@ export class Group {
     this.begun = [];
     /** @type {Promise<Loaded>[]} for some agents the worker that will replace the one that they have */
     this.next = [];
-    /** @type {Thread | undefined} */
+    /** @type {RefereeThread | undefined} */
     this.referee = undefined;
     /** @type {import("../options/plan.mjs").Plan | undefined} */
     this.plan = undefined;
@@ -155,36 +155,40 @@ export class Group {
     return this.#work({ seeds }, onOutcome, onFailing);
   }
 
-  /** Ends all workers. */
+  /** Ends all workers; the referee's may be another group's then. */
   async close() {
     this.isClosed = true;
-    await Promise.all([...this.threads].map((thread) => thread.stop()));
+    const { referee, threads } = this;
+    this.referee = undefined;
+    if (referee !== undefined) threads.delete(referee.thread);
+    await Promise.all([...[...threads].map((thread) => thread.stop()), referee?.end()]);
   }
 
   /**
    * Has the referee do something, and does what it asks for meanwhile.
-   * @param {{ seeds: Wanted[] } | { learns: true }} work
+   * @param {import("./referee-thread.mjs").Work} work
    * @param {(outcome: Outcome, judgement: Judgement | undefined, aside: Aside) => void} onOutcome
    * @param {(outcome: Outcome) => void} [onFailing] as above
    */
   async #work(work, onOutcome, onFailing) {
     const referee = started(this.referee);
-    referee.post(work);
+    const { thread } = referee;
+    referee.begin(work);
     for (;;) {
       const { message, ended } = await referee.next();
       if (ended !== undefined) throw new Error(`the referee's worker failed: ${ended}`);
       if (message.finished) return;
       if (message.outcome?.fails) {
         onFailing?.(message.outcome);
-        referee.post({ taken: true });
+        thread.post({ taken: true });
       }
       if (message.outcome) this.#handOn(message, onOutcome);
       if (message.replace) {
         await Promise.all(message.replace.map((/** @type {number} */ agent) => this.replace(agent)));
-        referee.post({ replaced: true });
+        thread.post({ replaced: true });
       }
-      if (message.ask) referee.post({ problem: this.#askedHere(message.ask) });
-      if (message.locate !== undefined) referee.post({ place: await this.#placeOf(message.locate) });
+      if (message.ask) thread.post({ problem: this.#askedHere(message.ask) });
+      if (message.locate !== undefined) thread.post({ place: await this.#placeOf(message.locate) });
     }
   }
 
@@ -227,10 +231,7 @@ export class Group {
   /** @param {() => void} meanwhile */
   async start(meanwhile) {
     this.#beginUpTo(firstWorkers(this.options));
-    const referee = this.thread(REFEREE_MODULE);
-    this.referee = referee;
-    // It evaluates it while the agents' module is loaded.
-    referee.give(REFEREE_MODULE);
+    const referee = this.beginReferee();
     const loaded = await this.#load(0);
     needsRightNames(loaded.names);
     this.plan = planOf(this.options, loaded.setup);
@@ -243,7 +244,7 @@ export class Group {
     this.memory = memoryOf(this.plan, this.options.logEvents);
     this.board = new Board(this.memory.board, this.rules);
     const { memory, plan, rules } = this;
-    referee.post({ memory, plan, rules, options });
+    referee.give({ memory, plan, rules, options });
     const others = Array.from({ length: this.plan.agents - 1 }, (_, other) => other + 1);
     const hasPilots = learns(this.plan.agents, everywhere);
     this.#beginUpTo(others.length + (hasPilots ? this.plan.agents : 0));
@@ -269,6 +270,13 @@ export class Group {
   /** Begins a worker for each agent, so that it is there when the agents are to have others. */
   beginAhead() {
     this.#beginUpTo(this.agents.length);
+  }
+
+  /** @returns {RefereeThread} one that evaluates its modules meanwhile, unless it has */
+  beginReferee() {
+    this.referee = new RefereeThread();
+    this.begin(this.referee.thread);
+    return this.referee;
   }
 
   /** @param {URL} root the module that a worker will be given, which begins */

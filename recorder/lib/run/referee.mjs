@@ -35,12 +35,14 @@ function goneText(gone) {
 class Referee {
   /**
    * @param {import("./run-maker.mjs").Given} given
+   * @param {() => void} rest awaits another group, when this one ends
    * @param {typeof import("./program-state.mjs").ProgramState} [ProgramState] for the runs of a program
    */
-  constructor(given, ProgramState) {
+  constructor(given, rest, ProgramState) {
     const { port, plan, options } = given;
     const sourceNames = new SourceNames(options.module);
     this.port = port;
+    this.rest = rest;
     this.plan = plan;
     this.options = options;
     this.maker = new RunMaker(given, sourceNames, ProgramState);
@@ -82,7 +84,7 @@ class Referee {
   }
 
   awaitWork() {
-    this.port.once("message", (work) => this.record(work));
+    this.port.once("message", (work) => (work.rests ? this.rest() : this.record(work)));
   }
 
   /**
@@ -262,11 +264,11 @@ function nameIn(outcome, { names }) {
 /** @param {Made} found @returns {import("./outcome.mjs").Aside} */
 const asideOf = ({ waiting, stray }) => ({ waiting, stray });
 
-/** Awaits what it goes by, and then its work. */
+/** Awaits what it goes by, and then its work: one group after the other. */
 export function main() {
   const { port } = workerData;
   port.once("message", async (/** @type {Omit<import("./run-maker.mjs").Given, "port">} */ given) => {
     const State = given.options.isProgram ? (await import("./program-state.mjs")).ProgramState : undefined;
-    new Referee({ port, ...given }, State).awaitWork();
+    new Referee({ port, ...given }, main, State).awaitWork();
   });
 }
