@@ -130,7 +130,7 @@ export class Loop {
         if (!moves.offer()) return this.served.goHome();
         if (pending.isSome && moves.looksBeforeTask(this.random, pending) && this.#mayLook) return this.#look(true);
       } else {
-        const kept = [...this.#keepers(), ...moves.silentTexts(pending)];
+        const kept = this.#keepers().concat(moves.silentTexts(pending));
         if (kept.length === 0) {
           if (this.#endsNow()) return this.served.goHome();
           continue;
@@ -232,8 +232,10 @@ export class Loop {
     const { ports, timers: armed, children, ends } = this.served;
     const texts = armed.alive ? armed.keepers().map(keeperText) : [];
     if (this.#tasks.length > 0) texts.push("a task");
-    for (const { refed, where } of children) if (refed) texts.push(`the worker started at ${where}`);
-    return [...texts, ...ports.keepers(), ...ends.keepers()];
+    children.forEach(({ refed, where }) => {
+      if (refed) texts.push(`the worker started at ${where}`);
+    });
+    return texts.concat(ports.keepers(), ends.keepers());
   }
 
   /** Takes up one of the tasks that are there. */
@@ -268,7 +270,7 @@ export class Loop {
       this.#before.set(port, (this.#before.get(port) ?? 0) - 1);
       events.deliver(port);
     });
-    const [task] = this.#tasks;
+    const task = this.#tasks[0];
     if (task !== undefined) {
       acts.push(() => {
         this.#tasks.shift();
