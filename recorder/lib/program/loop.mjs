@@ -288,7 +288,10 @@ export class Loop {
   /** @param {any[]} ready the ports that have messages @returns {boolean} whether some come before the immediates */
   #areFirst(ready) {
     const { ports } = this.served;
-    if (this.#looks) this.#before = new Map(ready.map((port) => [port, ports.waiting(port)]));
+    if (this.#looks) {
+      this.#before = new Map();
+      ready.forEach((port) => this.#before.set(port, ports.waiting(port)));
+    }
     this.#looks = false;
     return ready.some((port) => (this.#before.get(port) ?? 0) > 0);
   }

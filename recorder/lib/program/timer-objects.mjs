@@ -36,7 +36,13 @@ const DISPOSE = /** @type {symbol | undefined} */ (
 export const runInScope = uncurried(AsyncResource.prototype.runInAsyncScope);
 
 /** A class between the two, for the names that an AsyncResource has. */
-const ScopedTimeout = /** @type {any} */ (class extends EngineTimeout {});
+const ScopedTimeout = /** @type {any} */ (class extends EngineTimeout {
+  // A constructor that the engine makes would ask its list of what it was given for an iterator.
+  constructor(/** @type {any} */ callback, /** @type {any} */ after, /** @type {any} */ given, /** @type {any} */ repeats,
+    /** @type {any} */ refed) {
+    super(callback, after, given, repeats, refed);
+  }
+});
 
 /** A timer of the run. Node's class makes its members, and never puts it in node's own lists. */
 export const Timeout = class Timeout extends ScopedTimeout {
