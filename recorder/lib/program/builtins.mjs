@@ -6,7 +6,7 @@ import { defineProperty, getOwnPropertyDescriptor, getPrototypeOf, ownKeys } fro
 /** @type {{ owner: any, key: string | symbol, descriptor: PropertyDescriptor }[]} */
 const kept = [];
 
-/** @param {any} list @returns {object} what the iterators of such lists inherit */
+/** @param {any} list @returns {any} what the iterators of such lists inherit */
 const iteratorsOf = (list) => getPrototypeOf(list[Symbol.iterator]());
 
 const OWNERS = [

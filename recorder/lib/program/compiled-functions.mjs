@@ -5,8 +5,7 @@
 import vm from "node:vm";
 import { uncurried } from "../primordials.mjs";
 
-const { Script } = vm;
-const { compileFunction } = /** @type {any} */ (vm);
+const { Script, compileFunction } = /** @type {any} */ (vm);
 const run = uncurried(Script.prototype.runInThisContext);
 
 /** @typedef {{ filename: string, importModuleDynamically: Function }} Options as vm takes them */
@@ -15,7 +14,7 @@ const run = uncurried(Script.prototype.runInThisContext);
 function scriptOf(text, names, options) {
   // Only a text may begin like a command, and in the script it isn't the beginning.
   const body = text.startsWith("#!") ? `//${text.slice(2)}` : text;
-  return new /** @type {any} */ (Script)(`(function (${names.join(", ")}) {\n${body}\n})`, { ...options, lineOffset: -1 });
+  return new Script(`(function (${names.join(", ")}) {\n${body}\n})`, { ...options, lineOffset: -1 });
 }
 
 export class CompiledFunctions {
