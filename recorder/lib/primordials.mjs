@@ -61,6 +61,15 @@ export const weakGet = uncurried(WeakMap.prototype.get);
 export const weakSet = uncurried(WeakMap.prototype.set);
 export const weakHas = uncurried(WeakMap.prototype.has);
 
+export const mapForEach = uncurried(Map.prototype.forEach);
+
+/** @param {readonly unknown[]} list @returns {any[]} its items in another list; no iterator is asked for them */
+export function copied(list) {
+  const copy = [];
+  for (let at = 0; at < list.length; at += 1) copy[at] = list[at];
+  return copy;
+}
+
 /** @param {readonly unknown[]} list @param {unknown} item that it has @returns {number} its position */
 export function positionIn(list, item) {
   let at = 0;

@@ -264,6 +264,19 @@ const PROGRAMS = {
     "fail.mjs": `\n\nexport function fail() {\n  throw new Error("in a module");\n}`,
     "fail.cjs": `\n\nexports.fail = function fail() {\n    throw new Error("in CommonJS");\n};`,
   },
+  "CommonJS that begins like a command, is strict, or has its error in its first line": {
+    "main.cjs": `#!/usr/bin/env node
+console.log(require("./strict.cjs"), new Error("x").stack.split("\\n")[1]);
+for (const name of ["./first", "./closes", "./ends"]) {
+  try { require(name + ".cjs"); } catch (error) { console.log(error.message, error.stack.split("\\n").slice(0, 2)); }
+}`,
+    "strict.cjs": `"use strict"; exports.isStrict = function () { return this === undefined; }(); // the end`,
+    "first.cjs": `exports.a = 1; throw new Error(Object.keys(arguments).join() + typeof this.a);`,
+    "closes.cjs": `}); console.log("never"); (function () {`,
+    "ends.cjs": `exports.b = 1; <!-- a comment
+--> another
+notThere();`,
+  },
   "a main of CommonJS without a type, which is an ES module by its syntax": {
     "main.js": `import { basename } from "path"; console.log(basename(import.meta.url), typeof require);`,
   },
@@ -361,6 +374,21 @@ test("a thread makes graphs as a process does, without a warning", async () => {
   await new Promise((done) => worker.on("exit", done));
   assert.equal(texts.stderr, "");
   assert.deepEqual(JSON.parse(texts.stdout), [Array(2).fill(["true function [Module: null prototype] { d: 1 }"])]);
+});
+
+test("from the third run on, the engine compiles nothing of CommonJS, and each run has functions of its own", async () => {
+  const body = Array.from({ length: 4_000 }, (_, at) => `function f${at}(a) { return a.b${at} + "c${at}"; }`).join("\n");
+  programIn(join(folder, "compiled"), {
+    "main.cjs": `
+      const begun = process.cpuUsage().user; const large = require("./large.cjs");
+      (globalThis.compiledTimes ??= []).push(process.cpuUsage().user - begun);
+      const { compiledTimes: times } = globalThis; const isNew = !(globalThis.compiledOld ??= new Set()).has(large.f0);
+      globalThis.compiledOld.add(large.f0);
+      console.log(isNew, times.length < 3 || times.at(-1) < times[0] / 2);`,
+    "large.cjs": `${body}\nexports.f0 = f0; for (let at = 0; at < 50; at += 1) f0({});`,
+  });
+  const [runs] = await ownRuns([pathToFileURL(join(folder, "compiled/main.cjs")).href], 6);
+  assert.deepEqual(runs, Array(6).fill(["true true"]));
 });
 
 test("graphs that are over are garbage: memory and time of a run stay", async () => {

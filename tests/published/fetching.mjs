@@ -9,13 +9,36 @@ import { make, mended } from "./making/making.mjs";
 
 /** @typedef {import("./table.mjs").Source} Source */
 
+/** The code can't be fetched on this machine as it is. The message says why, for people. */
+export class NotFetched extends Error {}
+
+/** What apt-get says if it knows no sources, or none of a package. */
+const NO_SOURCES = /'deb-src' URIs|Unable to find a source package/;
+
 /** @param {Source} source @returns {string} the folder of its files */
 const folderOf = ({ folder }) => fileURLToPath(new URL(`${folder}/`, FETCHED));
 
 /** @param {string} command @param {string[]} words @param {string} cwd */
 function run(command, words, cwd) {
   const { status, stderr, error } = spawnSync(command, words, { cwd, encoding: "utf8" });
-  if (status !== 0) throw new Error(`${command} ${words.join(" ")}: ${error?.message ?? stderr.trim()}`);
+  if (status !== 0) throw new NotFetched(`${command} ${words.join(" ")}: ${error?.message ?? stderr.trim()}`);
+}
+
+/**
+ * Downloads the archive of a package's source.
+ * @param {string} name of the package and of its suite: sqlite3/bookworm
+ * @param {string} room the folder for it
+ */
+function download(name, room) {
+  try {
+    run("apt-get", ["source", "--download-only", "--tar-only", name], room);
+  } catch (problem) {
+    if (!(problem instanceof NotFetched) || !NO_SOURCES.test(problem.message)) throw problem;
+    const [, suite] = name.split("/");
+    throw new NotFetched(`apt-get has no sources of ${name}. Put this line into a file such as \
+/etc/apt/sources.list.d/sabsim.list, and run \`apt-get update\` as root:
+    deb-src http://deb.debian.org/debian ${suite} main`);
+  }
 }
 
 /** @param {string} folder @param {RegExp} name @returns {string} the path of the one file with such a name */
@@ -60,7 +83,7 @@ function compile({ files, made = {} }, into) {
   const out = join(into, "made");
   const typed = files.filter((file) => file.endsWith(".ts"));
   const { error } = spawnSync("tsc", [...TSC, "--outDir", out, ...typed], { cwd: into });
-  if (error !== undefined) throw new Error(`tsc is needed for ${into}: ${error.message}`);
+  if (error !== undefined) throw new NotFetched(`tsc is needed for ${into}: ${error.message}`);
   for (const [name, text] of Object.entries(made)) writeFileSync(join(out, name), text);
 }
 
@@ -97,7 +120,7 @@ const FETCH = {
   },
   source: (source, into, room) => {
     const { name, files } = source;
-    run("apt-get", ["source", "--download-only", "--tar-only", name ?? ""], room);
+    download(name ?? "", room);
     const archive = onlyOne(room, /\.orig\.tar\.\w+$/);
     const wanted = files.map((file) => `*/${file}`);
     run("tar", ["xf", archive, "-C", into, "--strip-components=1", "--wildcards", ...wanted], room);

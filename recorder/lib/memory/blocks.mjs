@@ -73,7 +73,10 @@ export class Blocks {
 
   /** @returns {number[]} the numbers of all blocks, in their order */
   numbers() {
-    return [...Array.from({ length: this.count }, (_, block) => block), ...this.more.numbers()];
+    /** @type {number[]} */
+    const numbers = [];
+    for (let block = 0; block < this.count; block += 1) numbers[block] = block;
+    return numbers.concat(this.more.numbers());
   }
 
   /** A run begins, in which nothing was made yet. The referee calls it. */
@@ -173,6 +176,8 @@ export class Blocks {
       memory.known[block] = NO_BYTES;
       lengths[block] = block === MESSAGES ? MESSAGE_BYTES : 0;
     }
-    for (const list of [memory.real, memory.known, lengths]) list.length = SCRIPT_LIMITS.blocks;
+    memory.real.length = SCRIPT_LIMITS.blocks;
+    memory.known.length = SCRIPT_LIMITS.blocks;
+    lengths.length = SCRIPT_LIMITS.blocks;
   }
 }

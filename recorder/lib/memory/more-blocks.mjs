@@ -183,7 +183,9 @@ export class MoreBlocks {
 
   /** @returns {number[]} the numbers of all */
   numbers() {
-    return Array.from({ length: this.count }, (_, at) => FIRST_MORE + at);
+    const numbers = [];
+    for (let at = 0; at < this.count; at += 1) numbers[at] = FIRST_MORE + at;
+    return numbers;
   }
 
   /** @param {number} block */

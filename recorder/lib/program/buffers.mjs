@@ -45,9 +45,9 @@ function areSame(one, other) {
   const theirs = new Uint8Array(other, 0, 1);
   const before = load(mine, 0);
   let same = true;
-  for (const value of [before ^ 0x55, before ^ 0xaa]) {
-    store(mine, 0, value);
-    if (load(theirs, 0) !== value) same = false;
+  for (let bits = 0x55; bits <= 0xaa; bits += 0x55) {
+    store(mine, 0, before ^ bits);
+    if (load(theirs, 0) !== (before ^ bits)) same = false;
   }
   store(mine, 0, before);
   return same;
@@ -203,7 +203,7 @@ export class Buffers {
   handTo(agent) {
     const { blocks, mesh } = this;
     mesh.take();
-    for (const block of blocks.numbers()) mesh.hand(agent, { kind: "block", block, buffer: blocks.buffers[block] });
+    blocks.numbers().forEach((block) => mesh.hand(agent, { kind: "block", block, buffer: blocks.buffers[block] }));
   }
 
   /**
@@ -214,7 +214,9 @@ export class Buffers {
     if (weakGet(this.#known, buffer) !== undefined || sharedLengthOf(buffer) === 0) return;
     this.mesh.take();
     const { blocks } = this;
-    for (const block of blocks.numbers()) {
+    const numbers = blocks.numbers();
+    for (let at = 0; at < numbers.length; at += 1) {
+      const block = numbers[at];
       const other = blocks.buffers[block];
       if (other === undefined || blocks.lengthOf(block) !== sharedLengthOf(buffer) || !areSame(buffer, other)) continue;
       if (sharedLengthOf(other) < sharedLengthOf(buffer)) return this.#grown(other, buffer);

@@ -5,8 +5,8 @@ import fs from "node:fs";
 import Module from "node:module";
 import path from "node:path";
 import process from "node:process";
-import vm from "node:vm";
 import { pathToFileURL } from "node:url";
+import { CompiledFunctions } from "./compiled-functions.mjs";
 import { isModuleSyntax } from "./module-urls.mjs";
 
 /** @typedef {(specifier: string, parent: string, attributes: any) => Promise<any>} Import */
@@ -14,10 +14,11 @@ import { isModuleSyntax } from "./module-urls.mjs";
 const Modules = /** @type {any} */ (Module);
 const { createRequire } = Module;
 const { readFileSync } = /** @type {any} */ (fs);
-const { compileFunction } = /** @type {any} */ (vm);
 const { parse } = createRequire(import.meta.url)("internal/deps/cjs-module-lexer/lexer");
 
 const NAMES = Object.freeze(["exports", "require", "module", "__filename", "__dirname"]);
+/** @type {readonly string[]} */
+const NO_NAMES = Object.freeze([]);
 const GLOBALS = Object.freeze(["require", "module", "exports", "__filename", "__dirname"]);
 
 /** @param {any} module @returns {Function} its `require`, as node makes it */
@@ -38,6 +39,7 @@ function requireOf(module) {
 export class CommonJS {
   /** @type {Map<string, { text: string, names: Set<string> }>} by file */
   #names = new Map();
+  #functions = new CompiledFunctions();
   /** @type {Import} */
   #import;
   #refuse;
@@ -89,7 +91,7 @@ export class CommonJS {
     Object.assign(globalThis, {
       module, exports: module.exports, require: requireOf(module), __filename: name, __dirname: ".",
     });
-    return this.#compiled(code, [], name, parent).call(globalThis);
+    return this.#compiled(code, NO_NAMES, name, parent).call(globalThis);
   }
 
   /**
@@ -132,7 +134,7 @@ export class CommonJS {
 
   /** @param {string} code @param {readonly string[]} names @param {string} filename @param {string} parent */
   #compiled(code, names, filename, parent) {
-    return compileFunction(code, names, {
+    return this.#functions.compiled(code, names, {
       filename,
       importModuleDynamically: (/** @type {string} */ specifier, /** @type {any} */ _, /** @type {any} */ given) =>
         this.#import(specifier, parent, given),

@@ -167,7 +167,7 @@ export class Loop {
     if (this.#hasTask()) {
       if (!moves.offer(pending, this.#mayLook)) return STEP.IS_OVER;
     } else {
-      const kept = [...this.#keepers(), ...moves.silentTexts(pending)];
+      const kept = this.#keepers().concat(moves.silentTexts(pending));
       if (kept.length === 0) return this.#endsNow() ? STEP.IS_OVER : STEP.GOES_ON;
       keepers.write(kept.join("; "));
       this.#mayLook = true;
@@ -281,8 +281,10 @@ export class Loop {
     const { ports, timers: armed, children, ends } = this.served;
     const texts = armed.alive ? armed.keepers().map(keeperText) : [];
     if (this.#tasks.length > 0) texts.push("a task");
-    for (const { refed, where } of children) if (refed) texts.push(`the worker started at ${where}`);
-    return [...texts, ...ports.keepers(), ...ends.keepers()];
+    children.forEach(({ refed, where }) => {
+      if (refed) texts.push(`the worker started at ${where}`);
+    });
+    return texts.concat(ports.keepers(), ends.keepers());
   }
 
   /** Takes up one of the tasks that are there. */
@@ -317,7 +319,7 @@ export class Loop {
       this.#before.set(port, (this.#before.get(port) ?? 0) - 1);
       events.deliver(port);
     });
-    const [task] = this.#tasks;
+    const task = this.#tasks[0];
     if (task !== undefined) {
       acts.push(() => {
         this.#tasks.shift();
@@ -335,7 +337,10 @@ export class Loop {
   /** @param {any[]} ready the ports that have messages @returns {boolean} whether some come before the immediates */
   #areFirst(ready) {
     const { ports } = this.served;
-    if (this.#looks) this.#before = new Map(ready.map((port) => [port, ports.waiting(port)]));
+    if (this.#looks) {
+      this.#before = new Map();
+      ready.forEach((port) => this.#before.set(port, ports.waiting(port)));
+    }
     this.#looks = false;
     return ready.some((port) => (this.#before.get(port) ?? 0) > 0);
   }

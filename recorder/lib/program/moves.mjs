@@ -184,7 +184,8 @@ export class Moves {
    */
   silentTexts({ isSome, byThemselves, texts }) {
     if (!isSome) return [];
-    return [`${[...new Set(texts)].join(", ")} (nothing came for ${this.board.answers.long(byThemselves) / 1_000} s)`];
+    const once = texts.filter((text, at) => texts.indexOf(text) === at);
+    return [`${once.join(", ")} (nothing came for ${this.board.answers.long(byThemselves) / 1_000} s)`];
   }
 
   /** @returns {boolean} whether a real answer may come to this thread now: else it is held back until the row has it */
@@ -258,7 +259,8 @@ export class Moves {
   #ends(made, call, isTimeUp, more) {
     const { board, agent, player: { table: { log, records } } } = this;
     const event = isTimeUp ? TIME_UP : LEAVE;
-    const [from, flags] = [byteOf(call), FLAG.WAITERS | more];
+    const from = byteOf(call);
+    const flags = FLAG.WAITERS | more;
     log.append(event, agent, call.call, flags, made, call.block, from, from + SIZES[call.kind], call, 0);
     records.answer(made, isTimeUp ? "timed-out" : "ok");
     board.did(agent, event);

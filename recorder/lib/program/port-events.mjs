@@ -8,6 +8,7 @@ import { KIND } from "./ports.mjs";
 const EngineMessageEvent = MessageEvent;
 const EngineEvent = Event;
 const TYPES = Object.freeze(["message", "messageerror", "close"]);
+const TARGETS = Object.freeze(["target", "currentTarget", "srcElement"]);
 
 /** What node itself listens to. */
 const ALWAYS = Object.freeze(["newListener", "removeListener"]);
@@ -19,11 +20,16 @@ const ALWAYS = Object.freeze(["newListener", "removeListener"]);
  * @property {() => void} drain runs microtasks until there are none
  */
 
+/** @param {any} event @param {any} port that it is for @returns {any} the event */
+function aimed(event, port) {
+  TARGETS.forEach((name) => defineProperty(event, name, { value: port }));
+  return event;
+}
+
 /** @param {any} port @param {string} type @param {unknown} data */
 function eventOf(port, type, data) {
   const event = type === "close" ? new EngineEvent(type) : new EngineMessageEvent(type, { data });
-  for (const name of ["target", "currentTarget", "srcElement"]) defineProperty(event, name, { value: port });
-  return event;
+  return aimed(event, port);
 }
 
 export class PortEvents {
@@ -68,7 +74,7 @@ export class PortEvents {
    * @param {any} event that its code dispatches by hand: all listeners get the event itself
    */
   dispatch(port, event) {
-    for (const name of ["target", "currentTarget", "srcElement"]) defineProperty(event, name, { value: port });
+    aimed(event, port);
     this.#deliver(port, event.type, () => [event]);
     return !event.defaultPrevented;
   }
@@ -84,14 +90,14 @@ export class PortEvents {
     const all = meta.listeners.filter((each) => each.type === type);
     meta.listeners = meta.listeners.filter((each) => each.type !== type || !each.once);
     this.#changed(port);
-    for (const { listener, isEvent } of all) {
+    all.forEach(({ listener, isEvent }) => {
       try {
         if (typeof listener === "function") apply(listener, port, given(isEvent));
-        else listener.handleEvent(...given(isEvent));
+        else listener.handleEvent(given(isEvent)[0]);
       } catch (thrown) {
         this.uncaught(thrown);
       }
-    }
+    });
     return all.length > 0;
   }
 

@@ -4,7 +4,7 @@
 
 import { AsyncResource } from "node:async_hooks";
 import threads from "node:worker_threads";
-import { put, uncurried, weakGet, weakHas, weakSet } from "../primordials.mjs";
+import { copied, isArray, mapForEach, put, uncurried, weakGet, weakHas, weakSet } from "../primordials.mjs";
 import { NOBODYS } from "../board/port-table.mjs";
 import { toPort, toThread } from "./moves.mjs";
 import { received, sent } from "./values.mjs";
@@ -67,11 +67,14 @@ export const KIND = Object.freeze({ MESSAGE: 0, CLOSE: 1, ONLINE: 2, ERROR: 3, E
  * @property {(name: string, act: () => void) => void} later does something as a task of its own
  */
 
+/** @param {any} items @returns {any[]} a list of them: node, too, asks an array for no iterator */
+export const itemsOf = (items) => (isArray(items) ? copied(items) : [...items]);
+
 /** @param {any} transfer as `postMessage` gets it @returns {any[]} */
 function listOf(transfer) {
   if (transfer === null || transfer === undefined) return [];
-  if (typeof transfer === "object" && Symbol.iterator in transfer) return [...transfer];
-  return transfer.transfer === undefined ? [] : [...transfer.transfer];
+  if (typeof transfer === "object" && Symbol.iterator in transfer) return itemsOf(transfer);
+  return transfer.transfer === undefined ? [] : itemsOf(transfer.transfer);
 }
 
 export class Ports {
@@ -88,7 +91,9 @@ export class Ports {
 
   /** Nothing of an earlier run is left. */
   clear() {
-    for (const port of this.mine.values()) if (this.known(port).queue === undefined) close(port);
+    mapForEach(this.mine, (/** @type {any} */ port) => {
+      if (this.known(port).queue === undefined) close(port);
+    });
     this.mine = new Map();
     this.#metas = new EngineWeakMap();
   }
@@ -154,7 +159,7 @@ export class Ports {
     const number = called === undefined ? moves.sendNow() : moves.send(called, this.#goesTo(id ^ 1));
     const ids = ports.map((each) => this.known(each).id);
     post(port, { value: bare, kind, number, ports, ids }, list);
-    for (const each of ports) this.leave(each);
+    for (let at = 0; at < ports.length; at += 1) this.leave(ports[at]);
     const peer = id ^ 1;
     if (table.isClosed(peer)) return;
     if (kind === KIND.CLOSE) table.closeFrom(peer);
@@ -211,8 +216,12 @@ export class Ports {
   /** @returns {any[]} the ports of this thread that have a message to be delivered, in the order of their numbers */
   ready() {
     const { table } = this.world;
-    const ready = [...this.mine.keys()].filter((id) => table.isReady(id)).sort((one, other) => one - other);
-    return ready.map((id) => this.mine.get(id));
+    /** @type {number[]} */
+    const ready = [];
+    mapForEach(this.mine, (/** @type {any} */ _, /** @type {number} */ id) => {
+      if (table.isReady(id)) ready.push(id);
+    });
+    return ready.sort((one, other) => one - other).map((id) => this.mine.get(id));
   }
 
   /** @param {any} port of this thread @returns {number} how many messages wait there */
@@ -222,11 +231,12 @@ export class Ports {
 
   /** @returns {string[]} what keeps this thread alive, in words */
   keepers() {
+    /** @type {string[]} */
     const texts = [];
-    for (const port of this.mine.values()) {
+    mapForEach(this.mine, (/** @type {any} */ port) => {
       const { refed, closed, keeps, listens, where } = this.known(port);
       if (refed && !closed && keeps) texts.push(`a port ${listens ? "with a listener from" : "that is kept alive at"} ${where}`);
-    }
+    });
     return texts;
   }
 

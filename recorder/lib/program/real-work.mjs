@@ -90,11 +90,12 @@ export class RealWork {
 
   /** The thread has ended: others see that its sockets are closed. None of its own code goes on. */
   close() {
-    for (const handle of this.#used.length === 0 ? [] : activeHandles()) {
+    if (this.#used.length === 0) return;
+    activeHandles().forEach((handle) => {
       // Of all that node lists here, only sockets can be destroyed, and only servers and sockets for datagrams have these.
       if (typeof handle.destroy === "function") handle.destroy();
       else if (typeof handle.address === "function") handle.close();
-    }
+    });
   }
 
   /**

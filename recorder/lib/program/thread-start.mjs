@@ -36,12 +36,12 @@ export function startThread(starting, given, transferList, called) {
   mesh.needs(agent + 1);
   buffers.handTo(agent);
   const { port1, port2 } = ports.channel();
-  const moved = [...transferList.filter((each) => ports.metaOf(each) !== undefined), port2];
+  const moved = transferList.filter((each) => ports.metaOf(each) !== undefined).concat(port2);
   const ids = moved.map((each) => ports.known(each).id);
   const where = here();
   const start = { ...given, where };
-  mesh.hand(agent, { kind: "start", start, number, ports: moved, ids }, [...transferList, port2]);
-  for (const each of moved) ports.leave(each);
+  mesh.hand(agent, { kind: "start", start, number, ports: moved, ids }, transferList.concat(port2));
+  moved.forEach((each) => ports.leave(each));
   threads.start(agent);
   return { agent, port: port1, where };
 }
@@ -57,7 +57,7 @@ export function takenStart({ mesh, ports, moves }) {
   const handed = [];
   mesh.onItem("start", (item) => void handed.push(item));
   mesh.take();
-  const [{ start, number, ports: moved, ids }] = handed;
+  const { start, number, ports: moved, ids } = handed[0];
   moved.forEach((each, at) => ports.adopt(each, ids[at]));
   moves.receive(number);
   return { start, parentPort: moved[moved.length - 1] };

@@ -2,6 +2,8 @@
 // at which their first timer is due. A list whose first timer was cleared keeps its early time until it is looked at,
 // as in node, since this decides which of two late lists comes first.
 
+import { mapForEach } from "../primordials.mjs";
+
 /** @typedef {any} Item a timer: `_idleStart`, and the links `_idleNext` and `_idlePrev` */
 
 /** The name is node's, so that a timer that is printed looks alike. */
@@ -114,12 +116,12 @@ export class TimerLists {
 
   /** @returns {Item[]} all timers, those that are due earlier first */
   all() {
-    const items = [...this.#lists.values()].flatMap((list) => {
-      const inList = [];
+    /** @type {{ item: Item, at: number }[]} */
+    const items = [];
+    mapForEach(this.#lists, (/** @type {TimersList} */ list) => {
       for (let item = list._idlePrev; item !== list; item = item._idlePrev) {
-        inList.push({ item, at: item._idleStart + list.msecs });
+        items.push({ item, at: item._idleStart + list.msecs });
       }
-      return inList;
     });
     return items.sort((one, other) => one.at - other.at).map(({ item }) => item);
   }
@@ -133,21 +135,21 @@ export class TimerLists {
   #first() {
     /** @type {TimersList | undefined} */
     let first;
-    for (const list of this.#lists.values()) {
+    mapForEach(this.#lists, (/** @type {TimersList} */ list) => {
       if (first === undefined || list.expiry < first.expiry || (list.expiry === first.expiry && list.id < first.id)) {
         first = list;
       }
-    }
+    });
     return first;
   }
 
   /** Looks for the earliest time once more, after a timer is gone. */
   #look() {
     let earliest = Infinity;
-    for (const list of this.#lists.values()) {
+    mapForEach(this.#lists, (/** @type {TimersList} */ list) => {
       const item = oldest(list);
       if (item !== undefined && item._idleStart + list.msecs < earliest) earliest = item._idleStart + list.msecs;
-    }
+    });
     this.#earliest = earliest;
   }
 }

@@ -36,10 +36,20 @@ const DISPOSE = /** @type {symbol | undefined} */ (
 export const runInScope = uncurried(AsyncResource.prototype.runInAsyncScope);
 
 /** A class between the two, for the names that an AsyncResource has. */
-const ScopedTimeout = /** @type {any} */ (class extends EngineTimeout {});
+class ScopedTimeout extends EngineTimeout {
+  /**
+   * A constructor that the engine makes would ask its list of what it was given for an iterator.
+   * @param {any[]} given five, as node's own takes them
+   */
+  constructor(...given) {
+    super(given[0], given[1], given[2], given[3], given[4]);
+  }
+}
+
+const Scoped = /** @type {any} */ (ScopedTimeout);
 
 /** A timer of the run. Node's class makes its members, and never puts it in node's own lists. */
-export const Timeout = class Timeout extends ScopedTimeout {
+export const Timeout = class Timeout extends Scoped {
   /** @type {Timers} */
   #timers;
   /** @type {number} what `Number(timer)` returns: counted for each run, so that it is the same in each */

@@ -43,8 +43,8 @@ export class Timers {
   #immediates = 0;
   /** The time of the pass: timers that are started in it aren't due before all others that are due have run. */
   #pass = 0;
-  /** @type {number[]} what was reported last */
-  #reported = [Infinity, 0];
+  /** What was reported last. */
+  #reported = { deadline: Infinity, immediates: 0 };
   #now;
   #changed;
 
@@ -92,8 +92,8 @@ export class Timers {
   /** @returns {Described[]} the timers, by deadline, and the immediates that keep the thread alive */
   keepers() {
     const waiting = this.#lists.all().filter((timer) => isRefed(timer)).map(describedTimer);
-    const ready = [...this.#round, ...this.#next].filter((immediate) => isRefed(immediate)).map(describedImmediate);
-    return [...waiting, ...ready];
+    const ready = this.#round.concat(this.#next).filter((immediate) => isRefed(immediate)).map(describedImmediate);
+    return waiting.concat(ready);
   }
 
   /** @returns {Described | undefined} the timer that `runTimer` would run now */
@@ -118,8 +118,7 @@ export class Timers {
     this.#lists.take(timer);
     const start = timer._repeat ? this.#now() : 0;
     try {
-      const given = timer._timerArgs ?? [];
-      runInScope(timer, (/** @type {unknown[]} */ ...all) => apply(timer._onTimeout, timer, all), timer, ...given);
+      runInScope(timer, () => apply(timer._onTimeout, timer, timer._timerArgs ?? []), timer);
     } finally {
       this.#ended(timer, start);
       this.#report();
@@ -132,13 +131,16 @@ export class Timers {
    * @returns {boolean} whether there was one
    */
   runImmediate() {
-    if (this.#firstOf(this.#round) === undefined) [this.#round, this.#next] = [this.#next, []];
+    if (this.#firstOf(this.#round) === undefined) {
+      this.#round = this.#next;
+      this.#next = [];
+    }
     const immediate = this.#firstOf(this.#round);
     if (immediate === undefined) return false;
     this.#round.shift();
     this.#endImmediate(immediate);
     try {
-      runInScope(immediate, () => immediate._onImmediate(...(immediate._argv ?? [])), immediate);
+      runInScope(immediate, () => apply(immediate._onImmediate, immediate, immediate._argv ?? []), immediate);
     } finally {
       immediate._onImmediate = null;
       this.#report();
@@ -152,7 +154,7 @@ export class Timers {
     this.#known.clear();
     [this.#round, this.#next] = [[], []];
     [this.#numbers, this.#refed, this.#refedImmediates, this.#immediates, this.#pass] = [0, 0, 0, 0, 0];
-    this.#reported = [Infinity, 0];
+    this.#reported = { deadline: Infinity, immediates: 0 };
   }
 
   // ---- what timers do
@@ -285,9 +287,9 @@ export class Timers {
   }
 
   #report() {
-    const [deadline, immediates] = this.#reported;
+    const { deadline, immediates } = this.#reported;
     if (deadline === this.deadline && immediates === this.#immediates) return;
-    this.#reported = [this.deadline, this.#immediates];
+    this.#reported = { deadline: this.deadline, immediates: this.#immediates };
     this.#changed();
   }
 

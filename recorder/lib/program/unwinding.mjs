@@ -7,6 +7,7 @@ import { Session } from "node:inspector";
 import timers from "node:timers";
 import { promiseHooks } from "node:v8";
 import { MessagePort } from "node:worker_threads";
+import { restoreBuiltins } from "./builtins.mjs";
 import { restoreProcess } from "./install.mjs";
 import { clearAsyncIdStack } from "./internals.mjs";
 
@@ -96,6 +97,7 @@ export function leaveOf({ agent, part, table }, late) {
   const { leave } = new Unwinding({
     stop: () => {
       part.isPlaying = false;
+      restoreBuiltins();
       // Nothing of the program listens to what ticks find.
       restoreProcess();
       late.ends?.halt();

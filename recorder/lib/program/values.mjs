@@ -67,12 +67,12 @@ const settled = (value, made) => mirrored(value, made, {
     const copy = isArray(object) ? new EngineArray(object.length) : create(getPrototypeOf(object));
     // An object may stand in itself.
     mapSet(made, object, copy);
-    for (const key of ownKeys(object)) {
+    ownKeys(object).forEach((key) => {
       // A getter may have taken away another property.
-      if (!isTaken(object, key)) continue;
+      if (!isTaken(object, key)) return;
       const inner = settled(object[key], made);
       defineProperty(copy, key, { value: inner, writable: true, enumerable: true, configurable: true });
-    }
+    });
     return copy;
   },
 });
@@ -138,9 +138,9 @@ export function received(value, buffers) {
 export function clonedValue(value, options, buffers) {
   /** @type {any[]} */
   const met = [];
-  const together = [bare(value, (memory) => met.push(memory)), ...met];
+  const given = bare(value, (memory) => met.push(memory));
   if (met.length === 0) return engineClone(value, options);
-  const [clone, ...clones] = engineClone(together, options);
+  const { clone, clones } = engineClone({ clone: given, clones: met }, options);
   clones.forEach((/** @type {any} */ each, /** @type {number} */ at) =>
     buffers.cloned(bufferOfAny(each), bufferOfAny(met[at])));
   return received(clone, buffers);

@@ -68,7 +68,7 @@ export class WaitAsync {
    */
   notify(given) {
     const { buffers, refuse } = this.around;
-    const [view] = given;
+    const view = given[0];
     const refused = (/** @type {string} */ why) => refuse(`called Atomics.notify: ${why}`);
     const call = callOf(NOTIFY, given, view, kindOf(view), NO_WAITER, refused);
     return engineCall(call, view) + this.#wake(buffers.numberOf(bufferOf(view)), byteOf(call), call.limit ?? Infinity);
@@ -79,7 +79,10 @@ export class WaitAsync {
   /** @returns {number} when the first wait ends by its time, on the run's clock; Infinity: none does */
   get deadline() {
     let first = Infinity;
-    for (const waiting of this.#pending) if (this.#orderOf(waiting) === 0) first = Math.min(first, waiting.deadline);
+    for (let at = 0; at < this.#pending.length; at += 1) {
+      const waiting = this.#pending[at];
+      if (this.#orderOf(waiting) === 0 && waiting.deadline < first) first = waiting.deadline;
+    }
     return first;
   }
 
@@ -92,7 +95,7 @@ export class WaitAsync {
   settle() {
     const woken = this.#pending.filter((waiting) => this.#orderOf(waiting) > 0);
     woken.sort((one, other) => this.#orderOf(one) - this.#orderOf(other));
-    for (const waiting of woken) this.#end(waiting, false);
+    woken.forEach((waiting) => this.#end(waiting, false));
   }
 
   /** Settles the one whose time is up first. */
@@ -149,7 +152,8 @@ export class WaitAsync {
    * @param {number} block
    */
   #join(buffer, block) {
-    for (const waiting of this.#pending) {
+    for (let at = 0; at < this.#pending.length; at += 1) {
+      const waiting = this.#pending[at];
       if (waiting.buffer !== buffer || waiting.slot !== NO_WAITER || waiting.order > 0) continue;
       waiting.call.block = block;
       waiting.made = this.around.moves.joinNow(waiting.call);
@@ -160,8 +164,8 @@ export class WaitAsync {
   /** @param {number} buffer that is no block @param {number} byte @param {number} count @returns {number} how many */
   #wake(buffer, byte, count) {
     let woken = 0;
-    for (const waiting of this.#pending) {
-      if (woken >= count) break;
+    for (let at = 0; at < this.#pending.length && woken < count; at += 1) {
+      const waiting = this.#pending[at];
       if (waiting.buffer !== buffer || waiting.order > 0 || byteOf(waiting.call) !== byte) continue;
       waiting.order = this.waiters.nextOrder();
       woken += 1;

@@ -31,6 +31,7 @@ import { TaskNotes } from "../memory/task-notes.mjs";
 import { onceMore } from "../processes/garbage.mjs";
 import { SourceNames } from "../run/source-names.mjs";
 import { Buffers } from "./buffers.mjs";
+import { restoreBuiltins } from "./builtins.mjs";
 import { Children } from "./children.mjs";
 import { installGrowing } from "./growing.mjs";
 import {
@@ -316,6 +317,7 @@ function begin(parts, graph) {
  * @param {Parts} parts
  */
 function clear(parts) {
+  restoreBuiltins();
   const { buffers, waits, ports, timers, loop, ends, children, late } = parts;
   buffers.clear();
   late.wasm?.clear();

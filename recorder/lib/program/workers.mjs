@@ -8,7 +8,7 @@ import process from "node:process";
 import threads from "node:worker_threads";
 import { pathToFileURL } from "node:url";
 import { deserializeError } from "./internals.mjs";
-import { KIND } from "./ports.mjs";
+import { KIND, itemsOf } from "./ports.mjs";
 import { sharedEnv } from "./process-env.mjs";
 import { startThread } from "./thread-start.mjs";
 import { sent } from "./values.mjs";
@@ -62,9 +62,9 @@ const REFUSED = Object.freeze(["stdin", "stdout", "stderr"]);
 
 /** @param {any} options @param {(why: string) => never} refuse */
 function needsSimulated(options, refuse) {
-  for (const name of REFUSED) {
+  REFUSED.forEach((name) => {
     if (options[name]) refuse(`started a Worker with the option ${name}, which isn't simulated`);
-  }
+  });
   if (options.execArgv?.length > 0) refuse("started a Worker with execArgv, which isn't simulated");
 }
 
@@ -82,10 +82,10 @@ function started(starting, file, options, called) {
   const { workerData, environment } = sent(given, starting.buffers);
   const sharesEnv = options.env === SHARE_ENV;
   const start = {
-    url: urlOf(file, options), isCode: options.eval === true, workerData, argv: [...options.argv ?? []].map(String),
+    url: urlOf(file, options), isCode: options.eval === true, workerData, argv: itemsOf(options.argv ?? []).map(String),
     env: sharesEnv ? sharedEnv() : { ...(options.env ?? process.env) }, sharesEnv, environment,
   };
-  return startThread(starting, start, [...options.transferList ?? []], called);
+  return startThread(starting, start, itemsOf(options.transferList ?? []), called);
 }
 
 /** @type {Starting | undefined} a thread has one part in a run */
@@ -115,7 +115,9 @@ class Worker extends EventEmitter {
     this.#own = { refed: true, where };
     this.threadId = agent;
     // Nobody reads or writes them: what asks for them is refused.
-    for (const name of REFUSED) /** @type {any} */ (this)[name] = null;
+    REFUSED.forEach((name) => {
+      /** @type {any} */ (this)[name] = null;
+    });
     this.resourceLimits = {};
     const { ports, children } = world();
     children.add(this.#own);
@@ -176,7 +178,7 @@ class Worker extends EventEmitter {
     world().children.delete(this.#own);
     world().ports.known(this.#port).closed = true;
     this.emit("exit", code);
-    for (const done of this.#awaiting) done(code);
+    this.#awaiting.forEach((done) => done(code));
   }
 }
 

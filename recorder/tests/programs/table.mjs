@@ -192,6 +192,7 @@ const ALL = [
   right("once/right.mjs"),
   wrong("once/late.mjs", failed(/\b13\b/)),
   right("iterator/right.mjs"),
+  right("iterator/replaced.mjs"),
 
   // Memory that grows, and WebAssembly's.
   right("growable/right.mjs"),

@@ -9,6 +9,10 @@ const path = fileURLToPath(new URL(`nodejs/test/${process.argv[2]}`, FETCHED));
 process.umask = () => 0o022;
 // It knows the globals of node 18, and a later one has more.
 process.env.NODE_TEST_KNOWN_GLOBALS = "0";
+// At their end tests leave the folder that they have made, in which none of them is.
+const { chdir } = process;
+const root = fileURLToPath(new URL("nodejs/test", FETCHED));
+process.chdir = (folder) => void (folder === root || chdir(folder));
 // Some tests ask for the collection of garbage, and find nothing of what it does.
 globalThis.gc ??= () => {};
 createRequire(path)(path);

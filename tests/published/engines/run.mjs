@@ -14,9 +14,10 @@ const FEW_SEEDS = 2;
  * @param {number} seeds
  * @returns {Promise<string[]>} what the recorder says of each run; nothing of one that passes
  */
-async function saidOf({ programOf, options }, test, seeds) {
+async function saidOf({ programOf, options, fresh = [] }, test, seeds) {
   const said = [];
-  const runs = explore({ ...programOf(test), ...options, seeds, programOutput: "none" });
+  const how = { ...options, fresh: fresh.includes(test) };
+  const runs = explore({ ...programOf(test), ...how, seeds, programOutput: "none" });
   for await (const { fails, ending, detail } of runs) said.push(fails ? detail || ending : "");
   return said;
 }

@@ -16,6 +16,7 @@ import { pageOf } from "./wpt.mjs";
  * @property {string[]} passing
  * @property {Record<string, Known>} others
  * @property {Record<string, number>} [seeds] of tests that take long
+ * @property {string[]} [fresh] tests that leave in a thread what can't be taken back
  */
 
 const ATOMICS = "js/src/tests/test262/built-ins/Atomics";
@@ -101,7 +102,7 @@ const OF_NODE = {
     "worker-http2-generic-streams-terminate",
     "worker-message-channel-sharedarraybuffer", "worker-message-port-multiple-sharedarraybuffers",
     "worker-message-port-wasm-threads",
-    "worker-nested-on-process-exit", "worker-sharedarraybuffer-from-worker-thread",
+    "worker-nested-on-process-exit", "worker-sharedarraybuffer-from-worker-thread", "worker-terminate-source-map",
     "worker-unref-from-message-during-exit", "worker-voluntarily-exit-followed-by-addition",
     "worker-voluntarily-exit-followed-by-throw", "worker-workerdata-sharedarraybuffer",
   ].map(parallel),
@@ -113,14 +114,11 @@ const OF_NODE = {
     [parallel("worker-stack-overflow-stack-size")]: {
       says: /v8\.setFlagsFromString/, why: "the engine's flags are the process's, and to change them is refused",
     },
-    [parallel("worker-terminate-source-map")]: {
-      says: /Symbol\.iterator/,
-      why: "its thread replaces the iterators of the language, by which the recorder sends the thread's last message",
-    },
     "node-api/test_worker_terminate/test.js": {
       says: /Cannot find module/, why: "it is about an addon in C, which has to be compiled first",
     },
   },
+  fresh: [parallel("worker-terminate-source-map")],
 };
 
 /** @type {Family} */
