@@ -45,7 +45,7 @@ const OWN = /^\..*\.mjs$/;
  * @property {Uint8Array} [compiled] what the engine has made of it, for another thread
  */
 
-/** @typedef {{ code: string, imported: string[] }} Alone a module's code, and the URLs of the modules that it imports */
+/** @typedef {{ code: string, imported: string[] }} Alone a module's code, and the URLs of those that it imports */
 /** @typedef {OwnModule & Alone} WholeModule */
 
 /**
@@ -153,8 +153,8 @@ function compiledModules(url) {
 }
 
 /**
- * The same, with all functions in them. By itself the engine compiles most functions when they are called first, in each
- * thread anew. No thread may begin meanwhile, since a flag of the engine differs then.
+ * The same, with all functions in them. By itself the engine compiles most functions when they are called first, anew
+ * in each thread. No thread may begin meanwhile, since a flag of the engine differs then.
  * @param {URL} url
  * @returns {WholeModule[]}
  */

@@ -173,8 +173,8 @@ export class RemoteJob {
         }
       };
       this.onMessage = onMessage;
-      // Where it can't be sent, the process is about to end, and its exit reports it.
-      if (this.lost === undefined) this.child.send(request, () => {});
+      // If it can't be sent, the process is about to end or hasn't begun, and its events report it.
+      if (this.lost === undefined) this.child.send?.(request, () => {});
       else onMessage({ failed: { kind: "LostJob", message: this.lost } });
     });
   }

@@ -1,5 +1,5 @@
-// Starts the process of a job, which awaits then what it is to do. While the first one begins, the command line compiles
-// what the workers of all its jobs evaluate. This is a CommonJS module, since such a one is loaded sooner.
+// Starts the process of a job, which awaits then what it is to do. While the first one begins, the command line
+// compiles what the workers of all jobs evaluate. This is a CommonJS module, since such a one is loaded sooner.
 "use strict";
 
 const { fork } = require("node:child_process");
@@ -50,13 +50,13 @@ function forked({ root, count, flags }, awaits) {
   return fork(PROGRAM, words, { stdio, execArgv, serialization: "advanced", detached: true, windowsHide: true });
 }
 
-/** @type {import("../processes/own-modules.cjs").WholeModule[] | undefined} of workers, if this process compiles them */
+/** @type {import("../processes/own-modules.cjs").WholeModule[] | undefined} of workers, if it compiles them here */
 let modules;
 
 /** @param {import("node:child_process").ChildProcess} child that awaits the modules */
 function sendModules(child) {
-  // If it can't be sent, the process is about to end, and its exit reports it.
-  child.send({ modules }, () => {});
+  // If it can't be sent, the process is about to end or hasn't begun, and its events report it.
+  child.send?.({ modules }, () => {});
 }
 
 /**
@@ -70,7 +70,7 @@ function startJob(isProgram = false) {
 }
 
 /**
- * The same in a process that is the recorder's own, and has no threads: it compiles the modules of the workers meanwhile.
+ * The same in a process that is the recorder's own, and has no threads: meanwhile it compiles the workers' modules.
  * @param {boolean} isProgram as above
  * @returns {import("node:child_process").ChildProcess} as above
  */
