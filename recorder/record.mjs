@@ -5,11 +5,12 @@
 import { createRequire } from "node:module";
 
 const require = createRequire(import.meta.url);
-const { startJob } = require("./lib/seeds/start-job.cjs");
+const { startFirstJob } = require("./lib/seeds/start-job.cjs");
 const words = process.argv.slice(2);
 /** @param {RegExp} pattern @returns {boolean} */
 const hasWord = (pattern) => words.some((word) => pattern.test(word));
-const child = hasWord(/^(-[hV]$|--(help|version|replay))/) ? undefined : startJob(hasWord(/^--program(=|$)/));
+const startsJob = !hasWord(/^(-[hV]$|--(help|version|replay))/);
+const child = startsJob ? startFirstJob(hasWord(/^--program(=|$)/)) : undefined;
 const { evaluated, ownModules } = require("./lib/processes/own-modules.cjs");
 const { main } = evaluated(ownModules(new URL("./lib/command/main.mjs", import.meta.url)));
 const status = await main(words, child);

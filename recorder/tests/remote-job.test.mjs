@@ -59,3 +59,16 @@ test("a process that ends by itself leaves no failing run behind, if there was n
   assert.deepEqual(outcomes, [passed]);
   assert.ok(failure instanceof LostJob);
 });
+
+test("a job whose process can't be started is lost, and says why", async () => {
+  const child = new Child();
+  // Node gives it no channel then.
+  child.send = undefined;
+  const job = new RemoteJob(child);
+  const made = assert.rejects(job.open({}), (problem) => {
+    return problem instanceof LostJob && problem.message === "a job's process can't be started: spawn EMFILE";
+  });
+  child.emit("error", new Error("spawn EMFILE"));
+  await made;
+  await job.close();
+});

@@ -14,6 +14,7 @@ import { KeepsGlobals } from "./first-again.mjs";
  * @property {Parameters<import("./job.mjs").Job["open"]>[0]} [open]
  * @property {import("../run/outcome.mjs").Wanted[]} [run]
  * @property {import("../run/same.mjs").RunSummary} [shorten]
+ * @property {import("../processes/own-modules.cjs").WholeModule[]} [modules] of its workers: there is no answer
  */
 
 /**
@@ -174,8 +175,8 @@ export class RemoteJob {
         }
       };
       this.onMessage = onMessage;
-      // Where it can't be sent, the process is about to end, and its exit reports it.
-      if (this.lost === undefined) this.child.send(request, () => {});
+      // If it can't be sent, the process is about to end or hasn't begun, and its events report it.
+      if (this.lost === undefined) this.child.send?.(request, () => {});
       else onMessage({ failed: { kind: "LostJob", message: this.lost } });
     });
   }
