@@ -32,7 +32,7 @@ fn changed(alloc: Global, script: &[u8], path: &str, word: &str) -> Result<Vec<u
     Ok(tree.to_vec(alloc)?)
 }
 
-/// Checks the changes of a line of a table, and answers how many there are.
+/// Checks the changes of a line of a table, and returns how many there are.
 fn check_line<R: Threads + Wait + Sync>(
     rt: &R,
     alloc: Global,
@@ -52,7 +52,7 @@ fn check_line<R: Threads + Wait + Sync>(
     Ok(count)
 }
 
-/// Checks that each change of a script is refused as its table says, with nothing written, and answers how many there
+/// Checks that each change of a script is refused as its table says, with nothing written, and returns how many there
 /// are.
 ///
 /// A line of the table has the number of a fault, the path of a part of the script (a JSON Pointer), and the values

@@ -4,7 +4,7 @@ use anyhow::{Context, Result, ensure};
 use sab_tool::{ToolFault, replay_bytes};
 use std::alloc::Global;
 
-/// Checks that each cut of a script is refused as no JSON text, with nothing written, and answers how many there are.
+/// Checks that each cut of a script is refused as no JSON text, with nothing written, and returns how many there are.
 ///
 /// The cuts are the starts of the script that end before its last closing brace, the empty one too.
 pub fn check_cuts(alloc: Global, script: &[u8]) -> Result<usize> {

@@ -62,7 +62,7 @@ fn check_report<R: Files + AllocGlobal + Threads + Wait + Sync>(
     Ok(tally)
 }
 
-/// Checks a case of a folder, and answers what it adds to a tally.
+/// Checks a case of a folder, and returns what it adds to a tally.
 fn check<R: Files + AllocGlobal + Threads + Wait + Sync>(
     rt: &R,
     folder: &str,
@@ -102,7 +102,7 @@ fn go_over<R: Files + AllocGlobal + Print + Threads + Wait + Sync + Clone + Drop
     Ok(tally)
 }
 
-/// Goes over the cases of all subjects, and answers whether there is no finding.
+/// Goes over the cases of all subjects, and returns whether there is no finding.
 fn go_over_all<R: Files + AllocGlobal + Print + Threads + Wait + Sync + Clone + Drop>(
     rt: &R,
     data: &str,

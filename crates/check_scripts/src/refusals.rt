@@ -52,8 +52,11 @@ fn find<R: Threads + Wait + Sync>(rt: &R, alloc: Global, call: Call) -> Result<F
     })
 }
 
-/// Makes the call of a case, prints what it came to, and answers whether it may come to that.
-fn tell<R: Print + AllocGlobal + Threads + Wait + Sync>(rt: &R, case: Case) -> io::Result<bool> {
+/// Makes the call of a case, prints what it came to, and returns whether it may come to that.
+fn print_call<R: Print + AllocGlobal + Threads + Wait + Sync>(
+    rt: &R,
+    case: Case,
+) -> io::Result<bool> {
     let name = case.name;
     let found = find(rt, rt.alloc(), case.call);
     let (what, then, answer) = match found {
@@ -73,7 +76,7 @@ fn tell<R: Print + AllocGlobal + Threads + Wait + Sync>(rt: &R, case: Case) -> i
     Ok(!matches!(found, Ok(Found::Wrong(_)) | Err(Unmade::Wrong(_))))
 }
 
-/// Runs the case of this name, or all, and answers whether nothing wrong is found.
+/// Runs the case of this name, or all, and returns whether nothing wrong is found.
 pub fn run_calls<R: Print + AllocGlobal + Threads + Wait + Sync>(
     rt: &R,
     name: Option<&str>,
@@ -82,7 +85,7 @@ pub fn run_calls<R: Print + AllocGlobal + Threads + Wait + Sync>(
     let mut count: usize = 0;
     for case in cases() {
         if name.is_none_or(|name| name == case.name) {
-            is_right &= tell(rt, case)?;
+            is_right &= print_call(rt, case)?;
             count = count.saturating_add(1);
         }
     }

@@ -6,7 +6,7 @@ use std::alloc::Global;
 use std::sync::Wait;
 use std::thread::Threads;
 
-/// Checks that each way to run a script answers the fault of this number, with nothing written, and answers its name.
+/// Checks that each way to run a script returns the fault of this number, with nothing written, and returns its name.
 pub fn check_number<R: Threads + Wait + Sync>(
     rt: &R,
     alloc: Global,
@@ -28,7 +28,7 @@ pub fn check_number<R: Threads + Wait + Sync>(
     Ok(name)
 }
 
-/// Checks that each way to run a script answers the fault of this line, with nothing written.
+/// Checks that each way to run a script returns the fault of this line, with nothing written.
 pub fn check_fault<R: Threads + Wait + Sync>(
     rt: &R,
     alloc: Global,

@@ -74,7 +74,7 @@ value_at view mem p = operand (kind_of view) (element view mem p)
 abbrev pub written : View → List ℕ → ℕ → ℕ → List ℕ
 written view mem p r = put mem p (element_size (kind_of view)) r
 
--- at the place p of its element, the access answers x, and leaves the bytes mem as mem'
+-- at the place p of its element, the access returns x, and leaves the bytes mem as mem'
 abbrev pub ActsAt : View → Access → ℕ → List ℕ → Operand → List ℕ → Type 0
 -- Atomics.load
 ActsAt view (Load index) p mem x mem' = (x ≡ value_at view mem p) × (mem' ≡ mem)

@@ -91,7 +91,7 @@ impl Block {
         write_at(&mut self.bytes, place as usize, size, raw);
     }
 
-    /// Makes one access through a view of this block, as a whole, and answers its value.
+    /// Makes one access through a view of this block, as a whole, and returns its value.
     ///
     /// The checks come in this order: the view's kind is one that the functions of `Atomics` take, else TypeError
     /// (ValidateIntegerTypedArray); the index has an element, else RangeError (ValidateAtomicAccess); each operand,

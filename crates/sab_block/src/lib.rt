@@ -1,7 +1,7 @@
 //! Shared blocks of bytes, the integer typed arrays on them, and the accesses of `Atomics`.
 //!
 //! A [`Kind`] says what an element is, a [`View`] where elements lie in a block, an [`Operand`] what a call is handed
-//! or answers, and [`Block::access`] makes one access as a whole. The rules are those of ECMA-262, 14th edition.
+//! or returns, and [`Block::access`] makes one access as a whole. The rules are those of ECMA-262, 14th edition.
 #![tactic(auto)]
 
 mod access;

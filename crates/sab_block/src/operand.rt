@@ -9,7 +9,7 @@ use crate::kind::Kind;
 use crate::thrown::Thrown;
 use std::fmt;
 
-/// A Number or a BigInt that is whole: what a call is handed, and the value that it answers.
+/// A Number or a BigInt that is whole: what a call is handed, and the value that it returns.
 #[derive(Clone, Copy, PartialEq, Eq)]
 pub struct Operand {
     big: bool,

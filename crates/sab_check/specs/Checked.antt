@@ -39,7 +39,7 @@ Says script (Tree e) text = text ≡ refusal_text (Tree e) ++ codes "\n"
 pub record IsRefused (script text : List ℕ) : Type 0 where
   pub refusal : Refusal
   pub refused : IsRefusedBy script refusal
-  pub told : IsTrueRefusal script refusal
+  pub reported : IsTrueRefusal script refusal
   pub known : IsMemory refusal → ⊥
   pub said : Says script refusal text
 

@@ -5,7 +5,7 @@ use Rattle.std.specs.Option.{option_eq}
 use borrow.Author.Tests.{eqb-true}
 use Rattle.std.proofs.lemmas.Bool.{and_parts, false≢true}
 use Rattle.sab_race.proofs.Equality.{same_share}
-use Rattle.sab_text.proofs.Equality.{same_telling, same_verdict_format}
+use Rattle.sab_text.proofs.Equality.{same_report_form, same_verdict_format}
 use Rattle.sab_command.specs.declared.job.RunForm.{RunForm}
 use Rattle.sab_command.specs.declared.job.RunForm.TheVariants.{Report, Script}
 use Rattle.sab_command.specs.contracts.job.RunFormPartialEq.TheImpl as form
@@ -25,7 +25,7 @@ same_seed (Some n) None e = absurd (false≢true e)
 same_seed (Some n) (Some m) e = ap Some (eqb-true n m e)
 
 same_form : (x y : RunForm) → (form.ghosts).eq x y ≡ true → x ≡ y
-same_form (Report t) (Report u) e = ap Report (same_telling t u e)
+same_form (Report t) (Report u) e = ap Report (same_report_form t u e)
 same_form Script Script e = refl
 same_form _ _ e = absurd (false≢true e)
 

@@ -51,8 +51,8 @@ IsLines value All = IsGiven value false
 -- a script is asked for by its name, and a report by every other format; acts is the value of --acts
 abbrev pub IsForm : Option Text → Option Text → RunForm → Type 0
 IsForm value acts Script = value ≡ Some (codes "script")
-IsForm value acts (Report telling) = (value ≢ Some (codes "script")) × IsFormat value telling.format
-    × IsLines acts telling.lines
+IsForm value acts (Report report_form) = (value ≢ Some (codes "script")) × IsFormat value report_form.format
+    × IsLines acts report_form.lines
 
 -- rings are asked for by their name, and a lock by every other value
 abbrev pub IsShare : Option Text → Share → Type 0

@@ -1,13 +1,13 @@
 //! What is done with a script.
 
 use sab_race::Share;
-use sab_text::{Telling, VerdictFormat};
+use sab_text::{ReportForm, VerdictFormat};
 
 /// In which form a run is written.
 #[derive(Clone, Copy, Debug, PartialEq, Eq)]
 pub enum RunForm {
     /// Its report, which is written so.
-    Report(Telling),
+    Report(ReportForm),
     /// A script that replays to that report.
     Script,
 }

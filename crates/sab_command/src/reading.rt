@@ -12,7 +12,7 @@ use crate::job::{Job, RaceJob, RunForm};
 use crate::request::{Request, Source, Task};
 use clap::{ArgMatches, Command, Error};
 use sab_race::{MAX_SPINS, Share};
-use sab_text::{Format, Lines, Telling, VerdictFormat};
+use sab_text::{Format, Lines, ReportForm, VerdictFormat};
 use std::alloc::Global;
 use std::convert::AsStr;
 
@@ -49,7 +49,7 @@ fn mix_of(matches: &ArgMatches<'_>) -> Option<u64>
     matches.get_one::<u64>("mix")
 }
 
-/// In which format a report is to be told.
+/// In which format a report is to be written.
 fn format_of(matches: &ArgMatches<'_>) -> Format
     ensures { IsFormat (first_value (found_of matches.now) (codes "format")) result }
 {
@@ -80,13 +80,13 @@ fn form_of(matches: &ArgMatches<'_>) -> RunForm
     if matches.get_str("format") == Some("script") {
         return RunForm::Script;
     }
-    RunForm::Report(Telling {
+    RunForm::Report(ReportForm {
         format: format_of(matches),
         lines: lines_of(matches),
     })
 }
 
-/// How a verdict is to be told.
+/// How a verdict is to be written.
 fn verdict_format_of(matches: &ArgMatches<'_>) -> VerdictFormat
     ensures { IsVerdictFormat (first_value (found_of matches.now) (codes "format")) result }
 {

@@ -9,7 +9,7 @@ use clap::Error;
 use clap::error::ErrorKind;
 use sab_tool::ToolFault;
 
-/// Prints the help that was asked for, or why the command line was refused, and answers how the program ends.
+/// Prints the help that was asked for, or why the command line was refused, and returns how the program ends.
 ///
 /// Help that can't be printed is a write that failed. Where memory ran out nothing is printed.
 pub fn without_job(rt: &(impl Print + Eprint), error: &Error) -> Ending

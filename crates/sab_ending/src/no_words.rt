@@ -7,7 +7,7 @@ use crate::ending::Ending;
 use sab_tool::ToolFault;
 use std::io::{Error, ErrorKind};
 
-/// Says on standard error that the words are no text, unless memory ran out, and answers how the program ends.
+/// Says on standard error that the words are no text, unless memory ran out, and returns how the program ends.
 pub fn without_words(rt: &impl Eprint, error: &Error) -> Ending
     ensures memory { error_kind error.now ≡ ErrorKind.OutOfMemory → result ≡ Ending.Failed ToolFault.OutOfMemory }
     ensures text { error_kind error.now ≢ ErrorKind.OutOfMemory → result ≡ Ending.Refused }

@@ -43,7 +43,7 @@ seq_cst t reads writes = record {
   order = SeqCst;
 }
 
--- the access of a function of Atomics that answers x
+-- the access of a function of Atomics that returns x
 abbrev pub access_of : B.Access → Operand → Target → Access
 -- Atomics.load: ReadSharedMemory
 access_of (X.Load index) x t = seq_cst t true false

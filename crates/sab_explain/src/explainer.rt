@@ -67,10 +67,10 @@ impl Explainer {
     pub fn step(&mut self, m: Move) -> Result<Explained, SimFault>
         ensures plan { self.new.plan ≡ self.old.plan }
         ensures moves { OnOk result (self.new.moves ≡ self.old.moves ++ m ∷ []) }
-        ensures journal { IfOk result (λ told. self.new.journal ≡ self.old.journal ++ told.entry ∷ []) }
-        ensures fact { IfOk result (λ told. IsFact self.old.plan self.old.journal told.entry told.fact) }
-        ensures only { IfOk result (λ told. IsOnlyFact self.old.plan self.old.journal told.entry told.fact) }
-        ensures waker { IfOk result (λ told. NamesWaker self.old.plan self.old.journal told.entry told.fact.found) }
+        ensures journal { IfOk result (λ explained. self.new.journal ≡ self.old.journal ++ explained.entry ∷ []) }
+        ensures fact { IfOk result (λ explained. IsFact self.old.plan self.old.journal explained.entry explained.fact) }
+        ensures only { IfOk result (λ explained. IsOnlyFact self.old.plan self.old.journal explained.entry explained.fact) }
+        ensures waker { IfOk result (λ explained. NamesWaker self.old.plan self.old.journal explained.entry explained.fact.found) }
         ensures longer { OnOk result (length self.new.journal ≡ length self.old.journal + 1) }
         ensures err { OnErr result (self.new ≡ self.old) }
 

@@ -6,4 +6,4 @@ pub mod ReadingBack
 pub mod TreesRead
 pub mod ShortCalls
 pub mod ShortElements
-pub mod Telling
+pub mod ReportLines

@@ -1,9 +1,9 @@
--- Members of objects that are left out where there is nothing to tell.
+-- Members of objects that are left out if there is nothing to report.
 use Rattle.std.specs.Prelude.{ℕ, List, [], ◌++◌, Option, Some, None, codes}
 use Rattle.serde_json.specs.Data.{Data, Members, member}
 use Rattle.serde_json.specs.Written.{compact_text}
 
--- a member before others, where it has something to tell
+-- a member before others, if it has something to report
 abbrev pub member_if : List ℕ → Option Data → Members → Members
 member_if key None rest = rest
 member_if key (Some d) rest = member key d rest

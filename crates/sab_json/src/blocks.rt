@@ -10,7 +10,7 @@ use std::io;
 use std::io::Write;
 
 /// Writes a line for each block; the last lines may stay in the chunk.
-#[tactic(auto, using(sab_text::proofs::Appending::all_left, sab_text::proofs::Appending::none_left, crate::proofs::Telling::blocks_after))]
+#[tactic(auto, using(sab_text::proofs::Appending::all_left, sab_text::proofs::Appending::none_left, crate::proofs::ReportLines::blocks_after))]
 pub(crate) fn write_blocks<W: Write>(
     blocks: &[Vec<u8>],
     chunk: &mut Chunk,

@@ -28,28 +28,35 @@ impl FactFormat for Json<'_> {
 
     ghost texts = { λ f. json_texts f.names.now f.lines };
 
-    #[tactic(auto, using(sab_words::proofs::Telling::appends_none))]
+    #[tactic(auto, using(sab_words::proofs::ChunkTexts::appends_none))]
     fn write_start<W: Write>(&mut self, _chunk: &mut Chunk, _w: &mut W) -> io::Result<()> {
         Ok(())
     }
 
-    #[tactic(auto, using(sab_words::proofs::Telling::room_then))]
+    #[tactic(auto, using(sab_words::proofs::ChunkTexts::room_then))]
     fn write_entry<W: Write>(
         &mut self,
         _plan: &Plan,
         _sinces: &[Option<u32>],
         k: u32,
-        told: &Explained,
+        explained: &Explained,
         chunk: &mut Chunk,
         w: &mut W,
     ) -> io::Result<()> {
         chunk.make_room(w)?;
         let k = k as usize;
-        push_entry_if(self.names, self.lines, k, &told.entry, &told.fact, chunk);
+        push_entry_if(
+            self.names,
+            self.lines,
+            k,
+            &explained.entry,
+            &explained.fact,
+            chunk,
+        );
         Ok(())
     }
 
-    #[tactic(auto, using(sab_text::proofs::Appending::appends_both, sab_words::proofs::Telling::kept_then, sab_words::proofs::Telling::told_out))]
+    #[tactic(auto, using(sab_text::proofs::Appending::appends_both, sab_words::proofs::ChunkTexts::kept_then, sab_words::proofs::ChunkTexts::chunk_written_out))]
     fn write_end<W: Write>(
         &mut self,
         report: &Report,

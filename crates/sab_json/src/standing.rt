@@ -23,7 +23,7 @@ const STANDING_LEN: usize = 400;
 const MEMBER_LEN: usize = 412;
 
 /// Writes a line for each agent; the last lines may stay in the chunk.
-#[tactic(auto, using(sab_text::proofs::Appending::all_left, sab_text::proofs::Appending::none_left, crate::proofs::Telling::agents_after))]
+#[tactic(auto, using(sab_text::proofs::Appending::all_left, sab_text::proofs::Appending::none_left, crate::proofs::ReportLines::agents_after))]
 pub(crate) fn write_agents<W: Write>(
     names: &[Name],
     standings: &[Option<Standing>],

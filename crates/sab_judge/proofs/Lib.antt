@@ -10,7 +10,7 @@ pub mod DataRaces
 pub mod Counting
 pub mod Lists
 pub mod Linking
-pub mod Telling
+pub mod RacesSoFar
 pub mod Reading
 pub mod Seeing
 pub mod NoRace

@@ -16,16 +16,16 @@ no_races_counted (and_of counted here) apart =
     omega (arith, no_races_counted counted apart, none_counted here (λ i. apart i _))
 
 -- if there is no race, none is listed, and none is left
-pub none_left : (trace : List Event) (most : ℕ) (told : List Race) (rest data_races : ℕ)
-    → IsVerdict trace most told rest data_races
-    → HaveNoRace trace → length told + rest ≡ 0
-none_left trace most told rest data_races v apart = no_races_counted v.count apart
+pub none_left : (trace : List Event) (most : ℕ) (reported : List Race) (rest data_races : ℕ)
+    → IsVerdict trace most reported rest data_races
+    → HaveNoRace trace → length reported + rest ≡ 0
+none_left trace most reported rest data_races v apart = no_races_counted v.count apart
 
 -- if none is listed, and none is left, there is no race
-pub no_race : (trace : List Event) (most : ℕ) (told : List Race) (rest data_races : ℕ)
-    → IsVerdict trace most told rest data_races
-    → length told + rest ≡ 0 → HaveNoRace trace
-no_race trace most told rest data_races v clean i j race = elim (v.each i j race) [
+pub no_race : (trace : List Event) (most : ℕ) (reported : List Race) (rest data_races : ℕ)
+    → IsVerdict trace most reported rest data_races
+    → length reported + rest ≡ 0 → HaveNoRace trace
+no_race trace most reported rest data_races v clean i j race = elim (v.each i j race) [
   | inl among ↦ omega (arith, among.inside, clean)
   | inr left ↦ omega (arith, left.some, clean)
 ]

@@ -12,7 +12,7 @@ pub mod Lookups
 pub mod Stretch
 pub mod Past
 pub mod Readers
-pub mod Telling
+pub mod RacesSoFar
 pub mod Link
 pub mod Cell
 pub mod Shelf

@@ -116,7 +116,7 @@ fn count_read_from(
     count
 }
 
-/// Notes that the `j`-th event reads a byte from its last writer, and answers whether that is one more which races with
+/// Notes that the `j`-th event reads a byte from its last writer, and returns whether that is one more which races with
 /// it.
 fn is_one_more(
     trace: &[Event],

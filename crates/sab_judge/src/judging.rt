@@ -13,7 +13,7 @@ ghost use Rattle.sab_judge.specs.Readers.{AreNoted};
 ghost use Rattle.sab_judge.specs.Seen.{IsSeen};
 ghost use Rattle.sab_judge.specs.Trace.{IsInBlocks};
 ghost use Rattle.sab_judge.specs.Verdict.{IsLastSeen, IsVerdict};
-ghost use Rattle.sab_judge.specs.Telling.{HasTold};
+ghost use Rattle.sab_judge.specs.RacesSoFar.{HasReported};
 ghost use Rattle.sab_judge.specs.declared.trace.TheConstants.Trace.{MAX_EVENTS};
 
 use crate::clock::Clock;
@@ -65,7 +65,7 @@ fn judge_events(alloc: Global, trace: &[Event], most: usize) -> Result<Verdict, 
         let clock = clock_of(trace, &clocks, &past, j);
         let count = seen.count_races(trace, &clock, j, RaceKind::Any);
         data_races += data_races_of(trace, &clock, &past, &seen, &mut readers, j, count);
-        tell_or_count(&mut verdict, trace, &past, &clock, j, most, count)?;
+        report_or_count(&mut verdict, trace, &past, &clock, j, most, count)?;
         clocks.push_reserved(clock);
         past.note(alloc, trace, j)?;
         seen.keep(alloc, trace, j)?;
@@ -100,7 +100,7 @@ fn data_races_of(
 
 /// Lists the races of which the `j`-th event is the later one, which are so many; or counts them, if no more are to be
 /// listed.
-fn tell_or_count(
+fn report_or_count(
     verdict: &mut Verdict,
     trace: &[Event],
     past: &Past,
@@ -112,18 +112,18 @@ fn tell_or_count(
     requires event_clock { HasClock trace.now j clock.now }
     requires past { IsPast trace.now j past.now }
     requires count { Counts (λ i. IsRace trace.now i j) j count }
-    requires told { HasTold trace.now j 0 most verdict.old.races.items verdict.old.rest }
-    ensures { IfOk result (λ _. HasTold trace.now j j most verdict.new.races.items verdict.new.rest) }
+    requires reported { HasReported trace.now j 0 most verdict.old.races.items verdict.old.rest }
+    ensures { IfOk result (λ _. HasReported trace.now j j most verdict.new.races.items verdict.new.rest) }
 {
     if count > 0 && verdict.races.len() < most {
-        return tell_races(verdict, trace, past, clock, j, most);
+        return report_races(verdict, trace, past, clock, j, most);
     }
     verdict.rest += count;
     Ok(())
 }
 
 /// Lists the races of which the `j`-th event is the later one.
-fn tell_races(
+fn report_races(
     verdict: &mut Verdict,
     trace: &[Event],
     past: &Past,
@@ -133,19 +133,19 @@ fn tell_races(
 ) -> Result<(), AllocError>
     requires event_clock { HasClock trace.now j clock.now }
     requires past { IsPast trace.now j past.now }
-    requires told { HasTold trace.now j 0 most verdict.old.races.items verdict.old.rest }
-    ensures { IfOk result (λ _. HasTold trace.now j j most verdict.new.races.items verdict.new.rest) }
+    requires reported { HasReported trace.now j 0 most verdict.old.races.items verdict.old.rest }
+    ensures { IfOk result (λ _. HasReported trace.now j j most verdict.new.races.items verdict.new.rest) }
 {
     for i in 0..j {
         if is_race(trace, clock, i, j) {
-            tell(verdict, trace, past, clock, i, j, most)?;
+            report_race(verdict, trace, past, clock, i, j, most)?;
         }
     }
     Ok(())
 }
 
 /// Lists the race of the `i`-th event and the `j`-th, or counts it if no more are to be listed.
-fn tell(
+fn report_race(
     verdict: &mut Verdict,
     trace: &[Event],
     past: &Past,
@@ -157,8 +157,8 @@ fn tell(
     requires race { IsRace trace.now i j }
     requires event_clock { HasClock trace.now j clock.now }
     requires past { IsPast trace.now j past.now }
-    requires told { HasTold trace.now j i most verdict.old.races.items verdict.old.rest }
-    ensures { IfOk result (λ _. HasTold trace.now j (i + 1) most verdict.new.races.items verdict.new.rest) }
+    requires reported { HasReported trace.now j i most verdict.old.races.items verdict.old.rest }
+    ensures { IfOk result (λ _. HasReported trace.now j (i + 1) most verdict.new.races.items verdict.new.rest) }
 {
     if verdict.races.len() < most {
         let is_data_race = is_data_race(trace, past, i, j);

@@ -92,7 +92,7 @@ fn position_of(
         .position(|latest| latest.is_of(trace, agent, access))
 }
 
-/// Takes the `j`-th event, which is the next and whose access begins in the cell, into the cell's list, and answers its
+/// Takes the `j`-th event, which is the next and whose access begins in the cell, into the cell's list, and returns its
 /// link.
 pub(crate) fn note_latest(
     list: &mut Vec<Latest>,

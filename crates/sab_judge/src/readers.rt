@@ -23,7 +23,7 @@ impl Readers {
         })
     }
 
-    /// Notes that the `j`-th event reads from the `i`-th, and answers whether that wasn't noted before.
+    /// Notes that the `j`-th event reads from the `i`-th, and returns whether that wasn't noted before.
     pub(crate) fn note(&mut self, i: usize, j: usize) -> bool
         requires within { i < length self.old.last.items }
         requires small { j < MAX_EVENTS }

@@ -212,7 +212,7 @@ impl Seen {
     }
 }
 
-/// Takes the `j`-th event, which is the next and whose access begins in the cell, into the cells; answers its link.
+/// Takes the `j`-th event, which is the next and whose access begins in the cell, into the cells; returns its link.
 fn note(
     alloc: Global,
     cells: &mut Cells,

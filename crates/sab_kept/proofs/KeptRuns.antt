@@ -18,9 +18,9 @@ use Rattle.sab_script.proofs.OnlySetup.{only_setup}
 use Rattle.sab_tool.specs.declared.tool_fault.ToolFault.{ToolFault}
 use Rattle.sab_tool.specs.Replay.{IsRefused, as_tool_fault, script_as_tool_fault}
 use Rattle.sab_kept.specs.Rescheduled.{rescheduled, with_schedule}
-use Rattle.sab_kept.specs.Keeping.{IsParsed, IsTextWith, IsKept, IsUntold, IsUnkept}
+use Rattle.sab_kept.specs.Keeping.{IsParsed, IsTextWith, IsKept, IsTextFault, IsUnkept}
 use Rattle.sab_kept.proofs.RescheduledTree.{respelled}
-use Rattle.sab_kept.proofs.TellingLaw.{journal_tells}
+use Rattle.sab_kept.proofs.RecordedMoves.{journal_records_schedule}
 
 -- bytes without a tree
 pub unread_script : (script : List ℕ) (r : Refusal) → IsUnread script r → IsRefused script (script_as_tool_fault r)
@@ -50,35 +50,35 @@ script_of script tree setup parsed =
 pub kept : (IsRun : SetupParts → ReportParts → Type 0) (script : List ℕ) (tree : Data) (setup : SetupParts)
     (report : ReportParts) (text : List ℕ) → IsParsed script tree setup → IsRun setup report → Fits setup.plan report
     → IsOnly setup.plan report → IsTextWith tree report.schedule text → IsKept IsRun script report text
-kept IsRun script tree setup report text parsed run fits one told =
+kept IsRun script tree setup report text parsed run fits one recorded =
     let moves = report.schedule in
-    let spells = respelled tree setup moves parsed.spelled told.few fits.moves.named in
+    let spells = respelled tree setup moves parsed.spelled recorded.few fits.moves.named in
     record {
       setup = setup;
       spelled = script_of script tree setup parsed;
       run = run;
-      canonical = told.canonical;
-      short = told.short;
+      canonical = recorded.canonical;
+      short = recorded.short;
       reads_back = record {
         tree = rescheduled tree moves;
-        reading = told.reading;
+        reading = recorded.reading;
         spelled = spells;
         only = only_setup (rescheduled tree moves) (with_schedule setup moves) spells;
       };
       its = record { fits = fits; schedule = refl; one = one };
-      told = journal_tells setup.plan report fits;
+      recorded = journal_records_schedule setup.plan report fits;
     }
 
 -- a run that there is none of
 pub unkept : (IsRun : SetupParts → ReportParts → Type 0) (script : List ℕ) (tree : Data) (setup : SetupParts)
     (report : ReportParts) (fault : ToolFault) → IsParsed script tree setup → IsRun setup report
-    → IsUntold tree report.schedule fault → IsUnkept IsRun script fault
-unkept IsRun script tree setup report fault parsed run untold = record {
+    → IsTextFault tree report.schedule fault → IsUnkept IsRun script fault
+unkept IsRun script tree setup report fault parsed run no_text = record {
   setup = setup;
   spelled = script_of script tree setup parsed;
   report = report;
   run = run;
-  untold = untold;
+  no_text = no_text;
 }
 
 -- at the exit of a `?`

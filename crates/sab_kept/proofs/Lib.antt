@@ -1,4 +1,4 @@
-pub mod TellingLaw
+pub mod RecordedMoves
 pub mod LineFeed
 pub mod NoFloat
 pub mod PutMember

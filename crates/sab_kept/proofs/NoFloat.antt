@@ -54,11 +54,11 @@ lens_exact d s h =
 
 view_exact : (d : Data) (s : SetupParts) (h : Spells d s) (t : Data) (v : List ℕ × ViewSpec)
     → SpellsView h.form s.plan.lens t v → has_float t ≡ false
-view_exact d s h t v told =
-    let rest : members_have_float told.rest ≡ false =
-    rw (told.description.members, optional_exact v.1.length, whole_exact v.1.offset) refl in
-    let whole = by_form (λ form. has_float (object (with_block form v.1.block told.rest)) ≡ false) rest rest h.form in
-    rw told.tree whole
+view_exact d s h t v recorded =
+    let rest : members_have_float recorded.rest ≡ false =
+    rw (recorded.description.members, optional_exact v.1.length, whole_exact v.1.offset) refl in
+    let whole = by_form (λ form. has_float (object (with_block form v.1.block recorded.rest)) ≡ false) rest rest h.form in
+    rw recorded.tree whole
 
 argument_exact : (d : Data) (x : Argument) → SpellsArgument d x → has_float d ≡ false
 argument_exact d (Value x) h = rw h.0 (operand_exact x)

@@ -1,4 +1,4 @@
--- What keeping a run as a script answers.
+-- What keeping a run as a script returns.
 use Rattle.std.specs.Prelude.{◌≡◌, ◌⊎◌, ℕ, ◌<◌, ◌≤◌, List, length, Option}
 use Rattle.std.specs.Io.KnownBytes.{Appends, Keeps}
 use Rattle.serde_json.specs.Data.{Data}
@@ -14,7 +14,7 @@ use Rattle.sab_tool.specs.Racing.{IsRaceOf, IsScriptUnraced}
 use Rattle.sab_tool.specs.Replay.{IsReportOf, IsRefused}
 use Rattle.sab_kept.specs.Canonical.{canonical_text}
 use Rattle.sab_kept.specs.Rescheduled.{rescheduled, with_schedule}
-use Rattle.sab_kept.specs.Telling.{schedule_of}
+use Rattle.sab_kept.specs.RecordedMoves.{schedule_of}
 
 -- the script reads as the tree, which spells the setup, and no other
 pub record IsParsed (script : List ℕ) (tree : Data) (setup : SetupParts) : Type 0 where
@@ -45,7 +45,7 @@ pub record IsKept (IsRun : SetupParts → ReportParts → Type 0) (script : List
   -- the one report that fits these is this one
   pub its : IsReportOf (with_schedule setup report.schedule) report
   -- its moves are those that its journal records
-  pub told : report.schedule ≡ schedule_of report.journal
+  pub recorded : report.schedule ≡ schedule_of report.journal
 
 -- just such a text came behind what the writer held
 abbrev pub KeepsRun : (SetupParts → ReportParts → Type 0) → Option (List ℕ) → Option (List ℕ) → List ℕ → ReportParts
@@ -62,10 +62,10 @@ HasNoScript tree moves =
     (MAX_MOVES < length moves) ⊎ (MAX_INPUT < length (canonical_text (rescheduled tree moves)))
 
 -- why there is no text of them: they have no script, or memory ran out
-abbrev pub IsUntold : Data → List Move → ToolFault → Type 0
-IsUntold tree moves TooMany = HasNoScript tree moves
-IsUntold tree moves OutOfMemory = Unit {0}
-IsUntold tree moves _ = ⊥
+abbrev pub IsTextFault : Data → List Move → ToolFault → Type 0
+IsTextFault tree moves TooMany = HasNoScript tree moves
+IsTextFault tree moves OutOfMemory = Unit {0}
+IsTextFault tree moves _ = ⊥
 
 -- the script spells a setup, and there is no text of a run of it
 pub record IsUnkept (IsRun : SetupParts → ReportParts → Type 0) (script : List ℕ) (fault : ToolFault) : Type 0 where
@@ -73,7 +73,7 @@ pub record IsUnkept (IsRun : SetupParts → ReportParts → Type 0) (script : Li
   pub spelled : IsScriptOf script setup
   pub report : ReportParts
   pub run : IsRun setup report
-  pub untold : IsUntold spelled.tree report.schedule fault
+  pub no_text : IsTextFault spelled.tree report.schedule fault
 
 -- why a replay isn't kept: the script is refused, or there is no text of the replay
 abbrev pub IsReplayUnkept : List ℕ → ToolFault → Type 0

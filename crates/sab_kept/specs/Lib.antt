@@ -1,4 +1,4 @@
-pub mod Telling
+pub mod RecordedMoves
 pub mod Canonical
 pub mod Rescheduled
 pub mod Keeping

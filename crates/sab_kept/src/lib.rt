@@ -5,10 +5,10 @@ mod canonical;
 mod moves;
 mod parsing;
 mod racing;
+mod recorded_moves;
 mod replaying;
 mod rescheduled;
-mod telling;
 
 pub use racing::keep_race;
+pub use recorded_moves::recorded_move;
 pub use replaying::keep_replay;
-pub use telling::move_told_by;

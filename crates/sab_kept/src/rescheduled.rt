@@ -6,7 +6,7 @@ ghost use Rattle.serde_json.specs.Read.{max_depth};
 ghost use Rattle.serde_json.specs.View.{view};
 ghost use Rattle.serde_json.specs.Written.{has_float};
 ghost use Rattle.sab_kept.specs.Rescheduled.{rescheduled};
-ghost use Rattle.sab_kept.specs.Keeping.{IsTextWith, IsUntold};
+ghost use Rattle.sab_kept.specs.Keeping.{IsTextWith, IsTextFault};
 
 use crate::canonical::canonical_text;
 use crate::moves::trees_of;
@@ -42,7 +42,7 @@ pub(crate) fn rescheduled_text(
     requires nests { depth (view tree) ≤ max_depth }
     requires whole { has_float (view tree) ≡ false }
     ensures text { IfOk result (λ text. IsTextWith (view tree) moves.now text.items) }
-    ensures err { IfErr result (IsUntold (view tree) moves.now) }
+    ensures err { IfErr result (IsTextFault (view tree) moves.now) }
 {
     if moves.len() > MAX_MOVES {
         return Err(ToolFault::TooMany);

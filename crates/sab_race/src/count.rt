@@ -1,4 +1,4 @@
-//! How many moves agents make, told before any is made.
+//! How many moves agents make, counted before any is made.
 
 ghost use Rattle.std.specs.Prelude.{◌≡◌, ◌≤◌, length, All};
 ghost use Rattle.sab_plan.specs.Script.{ScriptParts};

@@ -1,6 +1,6 @@
 //! Gates, which are called at each move of a race.
 
-/// Is told of each move of an agent's own thread, before it and after it. An agent's moves are numbered from 0.
+/// Is called at each move of an agent's own thread, before it and after it. An agent's moves are numbered from 0.
 ///
 /// A gate can hold a thread back, as long as it likes, and so force an order on a race.
 pub trait Gate: Send + Sync + Drop {

@@ -75,7 +75,7 @@ impl<N: RaceName> Locked<N> {
     }
 }
 
-/// Runs each agent in a thread of its own, each of its moves under one lock, and answers the report of what happened.
+/// Runs each agent in a thread of its own, each of its moves under one lock, and returns the report of what happened.
 ///
 /// Each agent makes its `moves`. What is left over once the threads have ended is made without calls of the gate.
 /// Refused are, in this order, agents with more than 2^20 moves in all (TooManyMoves), and a race for which there is no

@@ -22,7 +22,7 @@ use std::sync::Arc;
 use std::thread;
 use std::thread::{JoinHandle, Threads};
 
-/// Runs each agent in a thread of its own, which sends its moves to the caller by a ring, and answers the report of
+/// Runs each agent in a thread of its own, which sends its moves to the caller by a ring, and returns the report of
 /// what happened.
 ///
 /// Each agent sends its `moves`, by `feed`. The caller goes round the rings and makes what comes, until all moves are

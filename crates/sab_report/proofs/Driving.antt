@@ -15,9 +15,9 @@ use Rattle.sab_explain.specs.Standing.{IsStanding, IsOnlyStanding}
 use Rattle.sab_plan.specs.declared.fact.Fact.{Fact}
 use Rattle.sab_plan.specs.declared.standing.Standing.{Standing}
 use Rattle.sab_text.proofs.Appending.{appends_both}
-use Rattle.sab_words.proofs.Telling.{appends_none, from_empty}
+use Rattle.sab_words.proofs.ChunkTexts.{appends_none, from_empty}
 use Rattle.sab_words.specs.FactFormat.{Texts, noted, sinces_after, no_sinces, entries_text, facts_text}
-use Rattle.sab_report.specs.Facts.{IsTheFact, AreFacts, TellsEntries, IsStandingOf, AreStandings, TellsFacts}
+use Rattle.sab_report.specs.Facts.{IsTheFact, AreFacts, ReportsEntries, IsStandingOf, AreStandings, ReportsFacts}
 
 pub sinces_after-push : (sinces : List (Option ℕ)) (k : ℕ) (journal : List Entry) (e : Entry)
     → sinces_after sinces k (journal ++ e ∷ []) ≡ noted (sinces_after sinces k journal) (k + length journal) e
@@ -69,18 +69,18 @@ entries-push texts plan sinces k (f ∷ journal) (g ∷ facts) e fact h =
     fact))
 
 -- nothing is written about no entry
-pub told_none : (texts : Texts) (plan : PlanParts) (journal : List Entry) (a : Option (List ℕ)) → journal ≡ []
-    → TellsEntries texts plan journal a a
-told_none texts plan journal a e =
+pub reported_none : (texts : Texts) (plan : PlanParts) (journal : List Entry) (a : Option (List ℕ)) → journal ≡ []
+    → ReportsEntries texts plan journal a a
+reported_none texts plan journal a e =
     rw e (record { facts = []; are = AreFacts-none plan; written = appends_none a })
 
 -- what is written about one entry more comes behind what was written
-pub told_more : (texts : Texts) (plan : PlanParts) (journal : List Entry) (a b y : Option (List ℕ))
+pub reported_more : (texts : Texts) (plan : PlanParts) (journal : List Entry) (a b y : Option (List ℕ))
     (sinces : List (Option ℕ)) (k : ℕ) (e : Entry) (fact : Fact)
-    → length journal ≡ k → sinces ≡ sinces_after no_sinces 0 journal → TellsEntries texts plan journal a b
+    → length journal ≡ k → sinces ≡ sinces_after no_sinces 0 journal → ReportsEntries texts plan journal a b
     → IsTheFact plan journal e fact → Appends b y (texts.entry plan sinces k e fact)
-    → TellsEntries texts plan (journal ++ e ∷ []) a y
-told_more texts plan journal a b y sinces k e fact n s t f q =
+    → ReportsEntries texts plan (journal ++ e ∷ []) a y
+reported_more texts plan journal a b y sinces k e fact n s t f q =
     let z : 0 + length journal ≡ k = omega (arith, n) in
     record {
       facts = t.facts ++ fact ∷ [];
@@ -96,15 +96,15 @@ pub standing_is : (plan : PlanParts) (journal : List Entry) (a : ℕ) (s : Optio
 standing_is plan journal a None n s o = n
 standing_is plan journal a (Some x) n s o = (s, o)
 
--- the start, what was told of all entries, and the end
-pub tells : (texts : Texts) (plan : PlanParts) (moves : List Move) (sim : SimParts) (report : ReportParts)
+-- the start, what was reported about all entries, and the end
+pub reports_facts : (texts : Texts) (plan : PlanParts) (moves : List Move) (sim : SimParts) (report : ReportParts)
     (standings : List (Option Standing)) (a b c y : Option (List ℕ)) (chunk : List ℕ)
     → chunk ≡ [] → sim.plan ≡ plan → sim.moves ≡ moves → Appends (append_known a chunk) b texts.start
-    → TellsEntries texts plan sim.journal b c
+    → ReportsEntries texts plan sim.journal b c
     → AreStandings sim.plan sim.journal standings → Fits sim.plan report → IsOnly sim.plan report
     → report.schedule ≡ sim.moves → report.journal ≡ sim.journal → Appends c y (texts.finish report standings)
-    → TellsFacts texts plan moves a y report
-tells texts plan moves sim report standings a b c y chunk empty p m f t s fits one schedule journal last =
+    → ReportsFacts texts plan moves a y report
+reports_facts texts plan moves sim report standings a b c y chunk empty p m f t s fits one schedule journal last =
     let entries = entries_text texts plan no_sinces 0 sim.journal t.facts in
     let end = texts.finish report standings in
     record {

@@ -30,7 +30,7 @@ use Rattle.sab_json.proofs.ReadingBack.{reads_back}
 use Rattle.sab_json.proofs.TreesRead.{entry_in_order, block_in_order, agent_in_order}
 use Rattle.sab_json.proofs.ShortNumbers.{HasShortNumbers, short_if}
 use Rattle.sab_json.proofs.ShortCalls.{All-at, does_short}
-use Rattle.sab_report.specs.Facts.{IsStandingOf, TellsFacts}
+use Rattle.sab_report.specs.Facts.{IsStandingOf, ReportsFacts}
 use Rattle.sab_report.specs.Formats.{ExplainsAsJson}
 use Rattle.sab_report.specs.ReadsBack.{LinesReadBack}
 use Rattle.sab_report.proofs.RunStates.{Reaches-sound}
@@ -197,9 +197,9 @@ lines_read_back names plan report fits is_plan safe = record {
       (agent_short names plan report a p s is_plan safe fits at is);
 }
 
--- what was told reads back
+-- what was reported reads back
 pub explains : (names : List (List ℕ)) (lines : Lines) (plan : PlanParts) (moves : List Move) (old new : Option (List ℕ))
-    (report : ReportParts) → TellsFacts (json_texts names lines) plan moves old new report
+    (report : ReportParts) → ReportsFacts (json_texts names lines) plan moves old new report
     → ExplainsAsJson names lines plan moves old new report
-explains names lines plan moves old new report told =
-    record { told = told; read_back = lines_read_back names plan report told.is_its.fits }
+explains names lines plan moves old new report reported =
+    record { reported = reported; read_back = lines_read_back names plan report reported.is_its.fits }

@@ -13,42 +13,42 @@ use Rattle.sab_script.specs.Views.{SpellsName}
 use Rattle.sab_script.specs.Calls.{SpellsArgument, SpellsArguments, call_tree, SpellsCall}
 use Rattle.sab_words.specs.CallText.{name_of}
 use Rattle.sab_json.specs.CallData.{whole_data, operand_data, argument_data, argument_items, call_data}
-use Rattle.sab_report.specs.Spelling.{IsToldAsSpelled}
+use Rattle.sab_report.specs.Spelling.{IsReportedAsSpelled}
 
-operand_told : (x : Operand) → numbers.operand_tree x ≡ operand_data x
+operand_reported : (x : Operand) → numbers.operand_tree x ≡ operand_data x
 unfolding operand_data
-operand_told x = go (is_bigint x) (whole_of x)
+operand_reported x = go (is_bigint x) (whole_of x)
   where
     go : (big : Bool) (z : ℤ) → numbers.operand_data big z ≡ whole_data big z
     go false z = refl
     go true z = refl
 
-argument_told : (d : Data) (x : Argument) → SpellsArgument d x → d ≡ argument_data x
-argument_told d (Value x) h = h.0 ∙ operand_told x
-argument_told d (Limit z) h = h.0
+argument_reported : (d : Data) (x : Argument) → SpellsArgument d x → d ≡ argument_data x
+argument_reported d (Value x) h = h.0 ∙ operand_reported x
+argument_reported d (Limit z) h = h.0
 
-arguments_told : (ds : Items) (xs : List Argument) → SpellsArguments ds xs → ds ≡ argument_items xs
-arguments_told no_items [] h = refl
-arguments_told no_items (x ∷ xs) h = absurd h
-arguments_told (item d ds) [] h = absurd h
-arguments_told (item d ds) (x ∷ xs) h =
-    let first = argument_told d x h.0 in
-    let others = arguments_told ds xs h.1 in
+arguments_reported : (ds : Items) (xs : List Argument) → SpellsArguments ds xs → ds ≡ argument_items xs
+arguments_reported no_items [] h = refl
+arguments_reported no_items (x ∷ xs) h = absurd h
+arguments_reported (item d ds) [] h = absurd h
+arguments_reported (item d ds) (x ∷ xs) h =
+    let first = argument_reported d x h.0 in
+    let others = arguments_reported ds xs h.1 in
     λ i. item (first i) (others i)
 
-name_told : (names : List (List ℕ)) (d : Data) (view : ℕ) → SpellsName names d view → d ≡ string (name_of names view)
-name_told names d view h = h.tree ∙ ap string (sym (get_or_from_slice_get names view h.text [] h.there))
+name_reported : (names : List (List ℕ)) (d : Data) (view : ℕ) → SpellsName names d view → d ≡ string (name_of names view)
+name_reported names d view h = h.tree ∙ ap string (sym (get_or_from_slice_get names view h.text [] h.there))
 
-call_told : (names : List (List ℕ)) (d : Data) (call : Call) → SpellsCall names d call → d ≡ call_data names call
+call_reported : (names : List (List ℕ)) (d : Data) (call : Call) → SpellsCall names d call → d ≡ call_data names call
 unfolding call_data
-call_told names d call h =
-    let name = name_told names h.view_tree (view_of call) h.view in
-    let arguments = arguments_told h.argument_trees (arguments_of call) h.arguments in
+call_reported names d call h =
+    let name = name_reported names h.view_tree (view_of call) h.view in
+    let arguments = arguments_reported h.argument_trees (arguments_of call) h.arguments in
     h.tree ∙ (λ i. call_tree (function_of call) (name i) (index_of call) (arguments i))
 
-pub told_as_spelled : (names : List (List ℕ)) (d : Data) (call : Call) → SpellsCall names d call
-    → IsToldAsSpelled names call
-told_as_spelled names d call h = record {
-  spelled = subst (λ (x : Data). SpellsCall names x call) (call_told names d call h) h;
-  only = λ x. call_told names x call;
+pub reported_as_spelled : (names : List (List ℕ)) (d : Data) (call : Call) → SpellsCall names d call
+    → IsReportedAsSpelled names call
+reported_as_spelled names d call h = record {
+  spelled = subst (λ (x : Data). SpellsCall names x call) (call_reported names d call h) h;
+  only = λ x. call_reported names x call;
 }

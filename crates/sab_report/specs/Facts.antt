@@ -30,8 +30,8 @@ pub record AreFacts (plan : PlanParts) (journal : List Entry) (facts : List Fact
   pub each : (k : ℕ) (e : Entry) (fact : Fact) → slice_get journal k ≡ Some e → slice_get facts k ≡ Some fact
       → IsTheFact plan (take k journal) e fact
 
--- the texts of a journal's entries came behind what was told
-pub record TellsEntries (texts : Texts) (plan : PlanParts) (journal : List Entry) (old new : Option (List ℕ)) : Type 0
+-- the texts of a journal's entries came behind what was reported
+pub record ReportsEntries (texts : Texts) (plan : PlanParts) (journal : List Entry) (old new : Option (List ℕ)) : Type 0
   where
     pub facts : List Fact
     pub are : AreFacts plan journal facts
@@ -47,7 +47,7 @@ abbrev pub AreStandings : PlanParts → List Entry → List (Option Standing) �
 AreStandings plan journal standings = (a : ℕ) → a < 16 → IsStandingOf plan journal a (slice_index_or standings a None)
 
 -- the one report of the moves, and its text by facts and standings came behind what the writer held
-pub record TellsBy (text_of : ReportParts → List Fact → List (Option Standing) → List ℕ) (plan : PlanParts)
+pub record ReportsBy (text_of : ReportParts → List Fact → List (Option Standing) → List ℕ) (plan : PlanParts)
     (moves : List Move) (old new : Option (List ℕ)) (report : ReportParts) : Type 0 where
   pub is_its : IsReplayOf plan moves report
   pub facts : List Fact
@@ -57,5 +57,5 @@ pub record TellsBy (text_of : ReportParts → List Fact → List (Option Standin
   pub written : Appends old new (text_of report facts standings)
 
 -- the same, where a format has a text for each part
-abbrev pub TellsFacts : Texts → PlanParts → List Move → Option (List ℕ) → Option (List ℕ) → ReportParts → Type 0
-TellsFacts texts plan = TellsBy (facts_text texts plan) plan
+abbrev pub ReportsFacts : Texts → PlanParts → List Move → Option (List ℕ) → Option (List ℕ) → ReportParts → Type 0
+ReportsFacts texts plan = ReportsBy (facts_text texts plan) plan

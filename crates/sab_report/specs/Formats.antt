@@ -1,4 +1,4 @@
--- What telling facts in each format answers.
+-- What reporting facts in each format returns.
 use Rattle.std.specs.Prelude.{ℕ, List, Option, length}
 use Rattle.sab_plan.specs.declared.schedule.Move.{Move}
 use Rattle.sab_plan.specs.Plan.{PlanParts, IsPlan}
@@ -10,25 +10,25 @@ use Rattle.sab_json.specs.SafeNumbers.{HasSafeNumbers}
 use Rattle.sab_xml.specs.WellFormed.{IsDocument}
 use Rattle.sab_svg.specs.Shape.{shape_of, HaveRoom}
 use Rattle.sab_svg.specs.Picture.{svg_text}
-use Rattle.sab_report.specs.Facts.{TellsBy, TellsFacts}
+use Rattle.sab_report.specs.Facts.{ReportsBy, ReportsFacts}
 use Rattle.sab_report.specs.ReadsBack.{LinesReadBack}
 
 -- the one report of the moves, and its explained text came behind what the writer held
 abbrev pub Explains : ℕ → List (List ℕ) → PlanParts → Lines → List Move → Option (List ℕ) → Option (List ℕ)
     → ReportParts → Type 0
-Explains column names plan lines = TellsFacts (words_texts column names lines) plan
+Explains column names plan lines = ReportsFacts (words_texts column names lines) plan
 
 -- the one report of the moves, its text as JSON came behind what the writer held, and its lines are read as their
 -- trees, if the plan's Numbers are safe integers
 pub record ExplainsAsJson (names : List (List ℕ)) (lines : Lines) (plan : PlanParts) (moves : List Move)
     (old new : Option (List ℕ)) (report : ReportParts) : Type 0 where
-  pub told : TellsFacts (json_texts names lines) plan moves old new report
+  pub reported : ReportsFacts (json_texts names lines) plan moves old new report
   pub read_back : IsPlan plan → HasSafeNumbers plan → LinesReadBack names plan report
 
 -- the one report of the moves, its picture came behind what the writer held, the text is a document of XML, and no call
 -- runs into another lane
 pub record Draws (names : List (List ℕ)) (plan : PlanParts) (moves : List Move) (old new : Option (List ℕ))
     (report : ReportParts) : Type 0 where
-  pub told : TellsBy (svg_text names plan) plan moves old new report
-  pub well_formed : IsDocument (svg_text names plan report told.facts told.standings)
+  pub reported : ReportsBy (svg_text names plan) plan moves old new report
+  pub well_formed : IsDocument (svg_text names plan report reported.facts reported.standings)
   pub room : HaveRoom names plan (shape_of names plan (length report.schedule))

@@ -1,4 +1,4 @@
--- What judging a script's run answers.
+-- What judging a script's run returns.
 use Rattle.std.specs.Prelude.{◌≡◌, ◌⊎◌, ◌↔◌, ℕ, true, false, Bool, List, Option}
 use Rattle.std.specs.Io.KnownBytes.{Appends, Keeps}
 use Rattle.sab_plan.specs.Plan.{PlanParts}
@@ -18,18 +18,18 @@ use Rattle.sab_tool.specs.declared.tool_fault.ToolFault.{ToolFault}
 use Rattle.sab_tool.specs.declared.tool_fault.ToolFault.TheVariants.{OrdinaryData, WriteFailed}
 use Rattle.sab_tool.specs.Replay.{IsRefused, IsReportOf}
 use Rattle.sab_tool.specs.Ended.{ended_of}
-use Rattle.sab_report.specs.declared.judging.TheConstants.{MAX_TOLD}
+use Rattle.sab_report.specs.declared.judging.TheConstants.{MAX_REPORTED}
 use Rattle.sab_report.specs.declared.judging.Judged.{Judged}
 use Rattle.sab_report.specs.Ordinary.{has_ordinary_data}
 
 -- just the verdict on the events of the run came behind what the writer held, its lines as JSON are read as their trees,
 -- and it is said truly whether two of them race
-pub record TellsVerdict (format : VerdictFormat) (names : List (List ℕ)) (plan : PlanParts) (report : ReportParts)
+pub record ReportsVerdict (format : VerdictFormat) (names : List (List ℕ)) (plan : PlanParts) (report : ReportParts)
     (old new : Option (List ℕ)) (is_racy : Bool) : Type 0 where
   pub races : List Race
   pub rest : ℕ
   pub data_races : ℕ
-  pub verdict : IsVerdict (events_of plan report.journal) MAX_TOLD races rest data_races
+  pub verdict : IsVerdict (events_of plan report.journal) MAX_REPORTED races rest data_races
   pub racy : (is_racy ≡ false) ↔ HaveNoRace (events_of plan report.journal)
   pub written : Appends old new
       (run_verdict_text names plan report.journal (events_of plan report.journal) format races rest data_races)
@@ -45,7 +45,7 @@ pub record JudgesAs (format : VerdictFormat) (old new : Option (List ℕ)) (scri
   pub by_atomics : has_ordinary_data setup ≡ false
   pub report : ReportParts
   pub is_its : IsReportOf setup report
-  pub told : TellsVerdict format (view_names setup.views) setup.plan report old new judged.is_racy
+  pub reported : ReportsVerdict format (view_names setup.views) setup.plan report old new judged.is_racy
   pub ended_is : judged.ended ≡ ended_of report
 
 -- the script spells a setup, which has ordinary data or hasn't

@@ -1,7 +1,7 @@
 pub mod Facts
 pub mod ReadsBack
 pub mod Formats
-pub mod Telling
+pub mod RunReport
 pub mod Racing
 pub mod Reporting
 pub mod Ordinary

@@ -6,16 +6,16 @@ use Rattle.sab_plan.specs.Report.{ReportParts}
 use Rattle.sab_tool.specs.declared.tool_fault.ToolFault.{ToolFault}
 use Rattle.sab_tool.specs.declared.tool_fault.ToolFault.TheVariants.{WriteFailed}
 use Rattle.sab_tool.specs.Racing.{IsRaceOf, IsUnraced}
-use Rattle.sab_text.specs.declared.format.Telling.{Telling}
-use Rattle.sab_report.specs.Telling.{Tells}
+use Rattle.sab_text.specs.declared.format.ReportForm.{ReportForm}
+use Rattle.sab_report.specs.RunReport.{WritesReport}
 
--- the report of a race of the plan was told
-pub record TellsRace (telling : Telling) (names : List (List ℕ)) (plan : PlanParts) (spins : ℕ)
+-- the report of a race of the plan was written
+pub record ReportsRace (report_form : ReportForm) (names : List (List ℕ)) (plan : PlanParts) (spins : ℕ)
     (old new : Option (List ℕ)) (report : ReportParts) : Type 0 where
   pub is_its : IsRaceOf plan spins report
-  pub told : Tells telling names plan report old new
+  pub reported : WritesReport report_form names plan report old new
 
 -- the race is refused and nothing was written, or a write failed
-abbrev pub IsTellingRaceFault : PlanParts → ℕ → Option (List ℕ) → Option (List ℕ) → ToolFault → Type 0
-IsTellingRaceFault plan spins old new fault =
+abbrev pub IsRaceReportingFault : PlanParts → ℕ → Option (List ℕ) → Option (List ℕ) → ToolFault → Type 0
+IsRaceReportingFault plan spins old new fault =
     (Keeps old new × IsUnraced plan spins fault) ⊎ (fault ≡ WriteFailed)

@@ -6,6 +6,6 @@ use Rattle.sab_script.specs.Calls.{SpellsCall}
 use Rattle.sab_json.specs.CallData.{call_data}
 
 -- the `does` of a line of JSON spells the call, in a script with views of these names, and no other value spells it
-pub record IsToldAsSpelled (names : List (List ℕ)) (call : Call) : Type 0 where
+pub record IsReportedAsSpelled (names : List (List ℕ)) (call : Call) : Type 0 where
   pub spelled : SpellsCall names (call_data names call) call
   pub only : (d : Data) → SpellsCall names d call → d ≡ call_data names call

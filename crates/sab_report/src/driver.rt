@@ -3,9 +3,9 @@
 ghost use Rattle.std.specs.Prelude.{◌≡◌, ◌^◌, ◌≤◌, [], length, IfOk, IfErr, OnOk};
 ghost use Rattle.std.specs.Io.KnownBytes.{append_known};
 ghost use Rattle.sab_plan.specs.Plan.{IsPlan};
-ghost use Rattle.sab_report.specs.Facts.{TellsEntries, TellsFacts};
+ghost use Rattle.sab_report.specs.Facts.{ReportsEntries, ReportsFacts};
 ghost use Rattle.sab_report.specs.Driver.{AreMovesOf, IsFreshFor};
-ghost use Rattle.sab_report.specs.Telling.{IsTellingFault};
+ghost use Rattle.sab_report.specs.RunReport.{IsReportingFault};
 
 use crate::noting::note;
 use crate::standings::standings_of;
@@ -20,7 +20,7 @@ use std::io::Write;
 
 /// Makes the moves of a schedule, and writes their report with its facts; it doesn't flush.
 #[tactic(auto, using(sab_tool::proofs::ReplaySteps::keeps_same))]
-pub(crate) fn tell_facts<F: FactFormat, W: Write>(
+pub(crate) fn report_facts<F: FactFormat, W: Write>(
     alloc: Global,
     plan: Plan,
     schedule: &[Move],
@@ -29,8 +29,8 @@ pub(crate) fn tell_facts<F: FactFormat, W: Write>(
 ) -> Result<Report, ToolFault>
     requires plan { IsPlan plan }
     requires moves { AreMovesOf plan schedule.now }
-    ensures ok { IfOk result (TellsFacts (F.texts format.old) plan schedule.now (W.contents w.old) (W.contents w.new)) }
-    ensures err { IfErr result (IsTellingFault (W.contents w.old) (W.contents w.new)) }
+    ensures ok { IfOk result (ReportsFacts (F.texts format.old) plan schedule.now (W.contents w.old) (W.contents w.new)) }
+    ensures err { IfErr result (IsReportingFault (W.contents w.old) (W.contents w.new)) }
 {
     let explainer = explainer_for(alloc, plan, schedule)?;
     match write_facts(explainer, schedule, format, w) {
@@ -62,7 +62,7 @@ fn write_facts<F: FactFormat, W: Write>(
     requires plan { IsPlan explainer.plan }
     requires fresh { IsFreshFor explainer schedule.now }
     ensures { IfOk result
-        (TellsFacts (F.texts format.old) explainer.plan schedule.now (W.contents w.old) (W.contents w.new)) }
+        (ReportsFacts (F.texts format.old) explainer.plan schedule.now (W.contents w.old) (W.contents w.new)) }
 {
     let mut chunk = Chunk::new();
     format.write_start(&mut chunk, w)?;
@@ -88,17 +88,17 @@ fn write_entries<F: FactFormat, W: Write>(
     ensures plan { OnOk result (explainer.new.plan ≡ explainer.old.plan) }
     ensures moves { OnOk result (explainer.new.moves ≡ schedule.now) }
     ensures same { OnOk result (F.texts format.new ≡ F.texts format.old) }
-    ensures told { OnOk result (TellsEntries (F.texts format.old) explainer.old.plan explainer.new.journal
+    ensures reported { OnOk result (ReportsEntries (F.texts format.old) explainer.old.plan explainer.new.journal
         (append_known (W.contents w.old) chunk.old) (append_known (W.contents w.new) chunk.new)) }
 {
     let mut sinces = [None; 16];
     for (k, m) in schedule.iter().enumerate() {
-        let Ok(told) = explainer.step(*m) else {
+        let Ok(reported) = explainer.step(*m) else {
             unreachable!();
         };
         let plan = explainer.sim().plan();
-        format.write_entry(plan, &sinces, k as u32, &told, chunk, w)?;
-        note(&mut sinces, k as u32, told.entry);
+        format.write_entry(plan, &sinces, k as u32, &reported, chunk, w)?;
+        note(&mut sinces, k as u32, reported.entry);
     }
     Ok(())
 }

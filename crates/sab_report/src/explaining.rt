@@ -1,4 +1,4 @@
-//! The formats that tell facts.
+//! The formats that report facts.
 
 ghost use Rattle.std.specs.Prelude.{IfOk, IfErr};
 ghost use Rattle.sab_plan.specs.Plan.{IsPlan};
@@ -8,9 +8,9 @@ ghost use Rattle.sab_json.specs.CallData.{AreNames};
 ghost use Rattle.sab_report.specs.Formats.{ExplainsAsJson};
 ghost use Rattle.sab_report.specs.Formats.{Draws};
 ghost use Rattle.sab_report.specs.Driver.{AreMovesOf};
-ghost use Rattle.sab_report.specs.Telling.{IsColumnOf, IsTellingFault};
+ghost use Rattle.sab_report.specs.RunReport.{IsColumnOf, IsReportingFault};
 
-use crate::driver::tell_facts;
+use crate::driver::report_facts;
 use sab_json::Json;
 use sab_sim::{Move, Plan, Report};
 use sab_svg::Picture;
@@ -34,11 +34,11 @@ pub(crate) fn explain<W: Write>(
     requires moves { AreMovesOf plan schedule.now }
     ensures ok { IfOk result (λ report. Explains (column_of report) names.now plan lines schedule.now
         (W.contents w.old) (W.contents w.new) report) }
-    ensures err { IfErr result (IsTellingFault (W.contents w.old) (W.contents w.new)) }
+    ensures err { IfErr result (IsReportingFault (W.contents w.old) (W.contents w.new)) }
 {
     let column = measure(alloc, &plan, schedule)?;
     let layout = Layout { lines, column };
-    tell_facts(alloc, plan, schedule, &mut Words { names, layout }, w)
+    report_facts(alloc, plan, schedule, &mut Words { names, layout }, w)
 }
 
 /// The column at which the words of the moves' report begin. The moves are made for it once, before the first line is
@@ -64,9 +64,9 @@ pub(crate) fn explain_as_json<W: Write>(
     requires plan { IsPlan plan }
     requires moves { AreMovesOf plan schedule.now }
     ensures ok { IfOk result (ExplainsAsJson names.now lines plan schedule.now (W.contents w.old) (W.contents w.new)) }
-    ensures err { IfErr result (IsTellingFault (W.contents w.old) (W.contents w.new)) }
+    ensures err { IfErr result (IsReportingFault (W.contents w.old) (W.contents w.new)) }
 {
-    tell_facts(alloc, plan, schedule, &mut Json { names, lines }, w)
+    report_facts(alloc, plan, schedule, &mut Json { names, lines }, w)
 }
 
 /// Makes the moves of a schedule, and writes the picture of their report.
@@ -80,8 +80,8 @@ pub(crate) fn draw<W: Write>(
     requires plan { IsPlan plan }
     requires moves { AreMovesOf plan schedule.now }
     ensures ok { IfOk result (Draws names.now plan schedule.now (W.contents w.old) (W.contents w.new)) }
-    ensures err { IfErr result (IsTellingFault (W.contents w.old) (W.contents w.new)) }
+    ensures err { IfErr result (IsReportingFault (W.contents w.old) (W.contents w.new)) }
 {
     let mut picture = Picture::new(names, &plan, schedule.len() as u32);
-    tell_facts(alloc, plan, schedule, &mut picture, w)
+    report_facts(alloc, plan, schedule, &mut picture, w)
 }

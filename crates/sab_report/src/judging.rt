@@ -5,8 +5,8 @@ ghost use Rattle.sab_plan.specs.Plan.{IsPlan};
 ghost use Rattle.sab_sim.specs.Fits.{Fits};
 ghost use Rattle.sab_json.specs.CallData.{AreNames};
 ghost use Rattle.sab_json.specs.SafeNumbers.{HasSafeNumbers};
-ghost use Rattle.sab_report.specs.Telling.{IsTellingFault};
-ghost use Rattle.sab_report.specs.Judging.{IsJudgeFault, JudgesAs, TellsVerdict};
+ghost use Rattle.sab_report.specs.RunReport.{IsReportingFault};
+ghost use Rattle.sab_report.specs.Judging.{IsJudgeFault, JudgesAs, ReportsVerdict};
 
 use crate::names::names_of;
 use crate::ordinary::has_ordinary;
@@ -21,10 +21,10 @@ use std::alloc::Global;
 use std::io::Write;
 
 /// How many races of a run are listed at most; the others are counted.
-pub const MAX_TOLD: usize = 100;
+pub const MAX_REPORTED: usize = 100;
 
 // The clauses cite the constant: so its number is held here.
-const _: () = prove!(MAX_TOLD == 100);
+const _: () = prove!(MAX_REPORTED == 100);
 
 /// What a run came to that was judged.
 #[derive(Clone, Copy, Debug)]
@@ -38,7 +38,7 @@ pub struct Judged {
 /// Runs a script, judges the run for unordered accesses, writes the verdict, and returns what the run came to; it doesn't
 /// flush.
 ///
-/// The first races are listed, at most [`MAX_TOLD`]. OrdinaryData if a view's name begins with `ordinary_` or `init_`:
+/// The first races are listed, at most [`MAX_REPORTED`]. OrdinaryData if a view's name begins with `ordinary_` or `init_`:
 /// such a script stands for a run with ordinary accesses, which it has as stores or not at all, so no verdict on it
 /// would be one on that run. WriteFailed if a write failed; nothing is said then about how much was written. Any other
 /// fault is a refusal of the script, or want of memory. Except after WriteFailed nothing was written.
@@ -66,7 +66,7 @@ pub fn judge_as<W: Write>(
     })
 }
 
-/// Judges the run of a report, writes the verdict, and answers whether the run has a race.
+/// Judges the run of a report, writes the verdict, and returns whether the run has a race.
 #[tactic(auto, using(sab_tool::proofs::ReplaySteps::keeps_same, sab_events::proofs::Fitting::few_in_report, sab_events::proofs::Fitting::agents_in_report))]
 fn judge_report<W: Write>(
     alloc: Global,
@@ -81,12 +81,12 @@ fn judge_report<W: Write>(
     requires fits { Fits plan.now report.now }
     requires names { AreNames names.now }
     ensures ok { IfOk result
-        (TellsVerdict format names.now plan.now report.now (W.contents w.old) (W.contents w.new)) }
-    ensures err { IfErr result (IsTellingFault (W.contents w.old) (W.contents w.new)) }
+        (ReportsVerdict format names.now plan.now report.now (W.contents w.old) (W.contents w.new)) }
+    ensures err { IfErr result (IsReportingFault (W.contents w.old) (W.contents w.new)) }
 {
     let journal = report.journal.as_slice();
     let trace = trace_of(alloc, plan, journal)?;
-    let verdict = judge(alloc, &trace, MAX_TOLD)?;
+    let verdict = judge(alloc, &trace, MAX_REPORTED)?;
     match write_run_verdict(names, plan, journal, &trace, &verdict, format, w) {
         Ok(()) => Ok(!verdict.has_no_race()),
         Err(error) => Err(ToolFault::of_write(error)),

@@ -5,12 +5,12 @@ ghost use Rattle.serde_json.specs.Data.{Data};
 ghost use Rattle.sab_plan.specs.declared.call.Call.{Call};
 ghost use Rattle.sab_script.specs.Calls.{SpellsCall};
 ghost use Rattle.sab_report.specs.Facts.{NotesLast};
-ghost use Rattle.sab_report.specs.Spelling.{IsToldAsSpelled};
+ghost use Rattle.sab_report.specs.Spelling.{IsReportedAsSpelled};
 
 /// What a line of JSON has as a call's `does` is what a script spells for that call. A value that spells it is there
 /// where its view has one of the names, and its numbers are in range.
-pub fn calls_are_told_as_spelled()
-    ensures { (names : List (List ℕ)) (d : Data) (call : Call) → SpellsCall names d call → IsToldAsSpelled names call }
+pub fn calls_are_reported_as_spelled()
+    ensures { (names : List (List ℕ)) (d : Data) (call : Call) → SpellsCall names d call → IsReportedAsSpelled names call }
 {}
 
 /// What a format has noted of an agent, after any journal, is the agent's last entry with an effect: its own, or a notify

@@ -7,13 +7,13 @@ ghost use Rattle.sab_plan.specs.Plan.{IsPlan};
 ghost use Rattle.sab_json.specs.CallData.{AreNames};
 ghost use Rattle.sab_json.specs.SafeNumbers.{HasSafeNumbers};
 ghost use Rattle.sab_tool.specs.Racing.{IsRaceOf, IsRaceFault};
-ghost use Rattle.sab_report.specs.Racing.{TellsRace, IsTellingRaceFault};
+ghost use Rattle.sab_report.specs.Racing.{ReportsRace, IsRaceReportingFault};
 ghost use Rattle.sab_report.specs.Reporting.{RacesAs};
 
+use crate::moves::report_moves;
 use crate::names::names_of;
-use crate::telling::tell_moves;
 use sab_sim::{Plan, Report};
-use sab_text::{Format, Lines, Telling, write_plain};
+use sab_text::{Format, Lines, ReportForm, write_plain};
 use sab_tool::{Ended, MAX_SPINS, Share, ToolFault, race_plan, setup_of};
 use sab_words::Name;
 use std::alloc::Global;
@@ -32,7 +32,7 @@ pub struct RaceOptions {
     pub seed: u64,
 }
 
-/// Runs the agents of a script in threads, writes the report as it is to be told, and answers how it ended; it doesn't
+/// Runs the agents of a script in threads, writes the report in its form, and returns how it ended; it doesn't
 /// flush.
 ///
 /// The script's schedule is read and checked and then not used: the report's is the order in which the moves took
@@ -45,42 +45,42 @@ pub fn race_as<R: Threads + Wait + Sync, W: Write>(
     alloc: Global,
     script: &[u8],
     race: RaceOptions,
-    telling: Telling,
+    report_form: ReportForm,
     w: &mut W,
 ) -> Result<Ended, ToolFault>
     requires { race.spins ≤ MAX_SPINS }
-    ensures ok { IfOk result (RacesAs telling (W.contents w.old) (W.contents w.new) script.now race.spins) }
+    ensures ok { IfOk result (RacesAs report_form (W.contents w.old) (W.contents w.new) script.now race.spins) }
     ensures err { IfErr result (IsRaceFault (W.contents w.old) (W.contents w.new) script.now race.spins) }
 {
     let setup = setup_of(alloc, script)?;
     let names = names_of(alloc, &setup)?;
     let (plan, _) = setup.into_parts();
-    let report = tell_race(rt, alloc, plan, &names, race, telling, w)?;
+    let report = report_race(rt, alloc, plan, &names, race, report_form, w)?;
     Ok(Ended::of(&report))
 }
 
 /// Runs the agents of a plan in threads, and writes the report.
 #[tactic(auto, using(crate::proofs::Formats::raced_plainly))]
-fn tell_race<R: Threads + Wait + Sync, W: Write>(
+fn report_race<R: Threads + Wait + Sync, W: Write>(
     rt: &R,
     alloc: Global,
     plan: Plan,
     names: &[Name],
     race: RaceOptions,
-    telling: Telling,
+    report_form: ReportForm,
     w: &mut W,
 ) -> Result<Report, ToolFault>
     requires spins { race.spins ≤ MAX_SPINS }
     requires plan { IsPlan plan }
     requires numbers { HasSafeNumbers plan }
     requires names { AreNames names.now }
-    ensures ok { IfOk result (TellsRace telling names.now plan race.spins (W.contents w.old) (W.contents w.new)) }
-    ensures err { IfErr result (IsTellingRaceFault plan race.spins (W.contents w.old) (W.contents w.new)) }
+    ensures ok { IfOk result (ReportsRace report_form names.now plan race.spins (W.contents w.old) (W.contents w.new)) }
+    ensures err { IfErr result (IsRaceReportingFault plan race.spins (W.contents w.old) (W.contents w.new)) }
 {
-    match telling.format {
-        Format::Plain => race_plainly(rt, alloc, plan, race, telling.lines, w),
+    match report_form.format {
+        Format::Plain => race_plainly(rt, alloc, plan, race, report_form.lines, w),
         Format::Explained | Format::Json | Format::Svg => {
-            race_and_replay(rt, alloc, plan, names, race, telling, w)
+            race_and_replay(rt, alloc, plan, names, race, report_form, w)
         }
     }
 }
@@ -98,7 +98,7 @@ fn race_plainly<R: Threads + Wait + Sync, W: Write>(
     requires { race.spins ≤ MAX_SPINS }
     ensures race { IfOk result (IsRaceOf plan race.spins) }
     ensures written { IfOk result (λ report. Appends (W.contents w.old) (W.contents w.new) (text_by lines report)) }
-    ensures err { IfErr result (IsTellingRaceFault plan race.spins (W.contents w.old) (W.contents w.new)) }
+    ensures err { IfErr result (IsRaceReportingFault plan race.spins (W.contents w.old) (W.contents w.new)) }
 {
     let report = race_plan(rt, alloc, plan, race.share, race.spins, race.seed)?;
     match write_plain(&report, lines, w) {
@@ -107,32 +107,32 @@ fn race_plainly<R: Threads + Wait + Sync, W: Write>(
     }
 }
 
-/// Runs them, and then makes the moves of the race once more, to tell what each of them found.
-#[tactic(auto, using(sab_tool::proofs::ReplaySteps::keeps_same, crate::proofs::Formats::told_again))]
+/// Runs them, and then makes the moves of the race once more, to report what each of them found.
+#[tactic(auto, using(sab_tool::proofs::ReplaySteps::keeps_same, crate::proofs::Formats::reported_again))]
 fn race_and_replay<R: Threads + Wait + Sync, W: Write>(
     rt: &R,
     alloc: Global,
     plan: Plan,
     names: &[Name],
     race: RaceOptions,
-    telling: Telling,
+    report_form: ReportForm,
     w: &mut W,
 ) -> Result<Report, ToolFault>
     requires spins { race.spins ≤ MAX_SPINS }
     requires plan { IsPlan plan }
     requires numbers { HasSafeNumbers plan }
     requires names { AreNames names.now }
-    ensures ok { IfOk result (TellsRace telling names.now plan race.spins (W.contents w.old) (W.contents w.new)) }
-    ensures err { IfErr result (IsTellingRaceFault plan race.spins (W.contents w.old) (W.contents w.new)) }
+    ensures ok { IfOk result (ReportsRace report_form names.now plan race.spins (W.contents w.old) (W.contents w.new)) }
+    ensures err { IfErr result (IsRaceReportingFault plan race.spins (W.contents w.old) (W.contents w.new)) }
 {
     let same_plan = plan.copy(alloc)?;
     let report = race_plan(rt, alloc, plan, race.share, race.spins, race.seed)?;
-    tell_moves(
+    report_moves(
         alloc,
         same_plan,
         names,
         report.schedule.as_slice(),
-        telling,
+        report_form,
         w,
     )
 }

@@ -4,14 +4,14 @@ ghost use Rattle.std.specs.Prelude.{IfOk, IfErr};
 ghost use Rattle.sab_tool.specs.Replay.{IsReplayFault};
 ghost use Rattle.sab_report.specs.Reporting.{ReplaysAs};
 
+use crate::moves::report_moves;
 use crate::names::names_of;
-use crate::telling::tell_moves;
-use sab_text::Telling;
+use sab_text::ReportForm;
 use sab_tool::{Ended, ToolFault, setup_of};
 use std::alloc::Global;
 use std::io::Write;
 
-/// Runs a script, writes its report as it is to be told, and answers how it ended; it doesn't flush.
+/// Runs a script, writes its report in its form, and returns how it ended; it doesn't flush.
 ///
 /// WriteFailed where a write failed; nothing is said then of how much was written. Every other fault is a refusal of
 /// the script, or want of memory, and nothing was written.
@@ -19,15 +19,15 @@ use std::io::Write;
 pub fn replay_as<W: Write>(
     alloc: Global,
     script: &[u8],
-    telling: Telling,
+    report_form: ReportForm,
     w: &mut W,
 ) -> Result<Ended, ToolFault>
-    ensures ok { IfOk result (ReplaysAs telling (W.contents w.old) (W.contents w.new) script.now) }
+    ensures ok { IfOk result (ReplaysAs report_form (W.contents w.old) (W.contents w.new) script.now) }
     ensures err { IfErr result (IsReplayFault (W.contents w.old) (W.contents w.new) script.now) }
 {
     let setup = setup_of(alloc, script)?;
     let names = names_of(alloc, &setup)?;
     let (plan, schedule) = setup.into_parts();
-    let report = tell_moves(alloc, plan, &names, schedule.as_slice(), telling, w)?;
+    let report = report_moves(alloc, plan, &names, schedule.as_slice(), report_form, w)?;
     Ok(Ended::of(&report))
 }

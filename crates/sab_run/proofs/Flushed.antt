@@ -12,9 +12,9 @@ use Rattle.sab_tool.specs.declared.tool_fault.ToolFault.TheVariants.{WriteFailed
 use Rattle.sab_run.specs.Racing.{RacesIn, IsFaultOfRace}
 use Rattle.sab_run.specs.Running.{ReplaysIn, IsFaultOfReplay}
 use Rattle.sab_tool.specs.declared.ended.Ended.{Ended}
-use Rattle.sab_text.specs.declared.format.Telling.{Telling}
+use Rattle.sab_text.specs.declared.format.ReportForm.{ReportForm}
 use Rattle.sab_text.specs.declared.format.VerdictFormat.{VerdictFormat}
-use Rattle.sab_report.specs.Telling.{Tells}
+use Rattle.sab_report.specs.RunReport.{WritesReport}
 use Rattle.sab_report.specs.declared.judging.Judged.{Judged}
 use Rattle.sab_report.specs.Judging.{JudgesAs, IsJudgeFault}
 use Rattle.sab_report.specs.Reporting.{ReplaysAs, RacesAs}
@@ -26,20 +26,20 @@ appends_kept (Some x) None new bs a k = absurd a
 appends_kept (Some x) (Some y) None bs a k = absurd k
 appends_kept (Some x) (Some y) (Some z) bs a k = k ∙ a
 
-told_kept : (telling : Telling) (names : List (List ℕ)) (plan : PlanParts) (report : ReportParts)
-    (old mid new : Option (List ℕ)) → Tells telling names plan report old mid → Keeps mid new
-    → Tells telling names plan report old new
-told_kept telling names plan report old mid new t k =
+report_kept : (report_form : ReportForm) (names : List (List ℕ)) (plan : PlanParts) (report : ReportParts)
+    (old mid new : Option (List ℕ)) → WritesReport report_form names plan report old mid → Keeps mid new
+    → WritesReport report_form names plan report old new
+report_kept report_form names plan report old mid new t k =
     record { text = t.text; text_is = t.text_is; written = appends_kept old mid new t.text t.written k }
 
-flushed : (telling : Telling) (old mid new : Option (List ℕ)) (script : List ℕ) (ended : Ended)
-    → ReplaysAs telling old mid script ended → Keeps mid new → ReplaysAs telling old new script ended
-flushed telling old mid new script ended r k = record {
+flushed : (report_form : ReportForm) (old mid new : Option (List ℕ)) (script : List ℕ) (ended : Ended)
+    → ReplaysAs report_form old mid script ended → Keeps mid new → ReplaysAs report_form old new script ended
+flushed report_form old mid new script ended r k = record {
   setup = r.setup;
   spelled = r.spelled;
   report = r.report;
   is_its = r.is_its;
-  told = told_kept telling _ r.setup.plan r.report old mid new r.told k;
+  reported = report_kept report_form _ r.setup.plan r.report old mid new r.reported k;
   ended_is = r.ended_is;
 }
 
@@ -51,26 +51,26 @@ flushed_verdict format old mid new script judged j k = record {
   by_atomics = j.by_atomics;
   report = j.report;
   is_its = j.is_its;
-  told = record {
-    races = j.told.races;
-    rest = j.told.rest;
-    data_races = j.told.data_races;
-    verdict = j.told.verdict;
-    racy = j.told.racy;
-    written = appends_kept old mid new _ j.told.written k;
-    read_back = j.told.read_back;
+  reported = record {
+    races = j.reported.races;
+    rest = j.reported.rest;
+    data_races = j.reported.data_races;
+    verdict = j.reported.verdict;
+    racy = j.reported.racy;
+    written = appends_kept old mid new _ j.reported.written k;
+    read_back = j.reported.read_back;
   };
   ended_is = j.ended_is;
 }
 
-flushed_report : (telling : Telling) (old mid new : Option (List ℕ)) (script : List ℕ) (spins : ℕ) (ended : Ended)
-    → RacesAs telling old mid script spins ended → Keeps mid new → RacesAs telling old new script spins ended
-flushed_report telling old mid new script spins ended r k = record {
+flushed_report : (report_form : ReportForm) (old mid new : Option (List ℕ)) (script : List ℕ) (spins : ℕ) (ended : Ended)
+    → RacesAs report_form old mid script spins ended → Keeps mid new → RacesAs report_form old new script spins ended
+flushed_report report_form old mid new script spins ended r k = record {
   setup = r.setup;
   spelled = r.spelled;
   report = r.report;
   is_its = r.is_its;
-  told = told_kept telling _ r.setup.plan r.report old mid new r.told k;
+  reported = report_kept report_form _ r.setup.plan r.report old mid new r.reported k;
   ended_is = r.ended_is;
 }
 
@@ -80,26 +80,26 @@ flushed_kept IsRun old mid new script report r k = (r.0, r.1, appends_kept old m
 
 pub flushed_replay : (form : RunForm) (old mid new : Option (List ℕ)) (script : List ℕ) (ended : Ended)
     → ReplaysIn form old mid script ended → Keeps mid new → ReplaysIn form old new script ended
-flushed_replay (Report telling) old mid new script ended r k = flushed telling old mid new script ended r k
+flushed_replay (Report report_form) old mid new script ended r k = flushed report_form old mid new script ended r k
 flushed_replay Script old mid new script ended r k =
     (r.0, flushed_kept IsReportOf old mid new script r.0 r.1 k, r.2)
 
 pub flushed_race : (form : RunForm) (old mid new : Option (List ℕ)) (script : List ℕ) (spins : ℕ) (ended : Ended)
     → RacesIn form spins old mid script ended → Keeps mid new → RacesIn form spins old new script ended
-flushed_race (Report telling) old mid new script spins ended r k =
-    flushed_report telling old mid new script spins ended r k
+flushed_race (Report report_form) old mid new script spins ended r k =
+    flushed_report report_form old mid new script spins ended r k
 flushed_race Script old mid new script spins ended r k =
     (r.0, flushed_kept (IsRaceIn spins) old mid new script r.0 r.1 k, r.2)
 
 -- where the flush fails, the script spells a setup all the same
 pub unflushed_replay : (form : RunForm) (old mid new : Option (List ℕ)) (script : List ℕ) (ended : Ended)
     → ReplaysIn form old mid script ended → IsFaultOfReplay form old new script WriteFailed
-unflushed_replay (Report telling) old mid new script ended r = inr (refl, (r.setup, r.spelled))
+unflushed_replay (Report report_form) old mid new script ended r = inr (refl, (r.setup, r.spelled))
 unflushed_replay Script old mid new script ended r = inr (refl, (r.1.1.setup, r.1.1.spelled))
 
 pub unflushed_race : (form : RunForm) (old mid new : Option (List ℕ)) (script : List ℕ) (spins : ℕ) (ended : Ended)
     → RacesIn form spins old mid script ended → IsFaultOfRace form spins old new script WriteFailed
-unflushed_race (Report telling) old mid new script spins ended r = inr (refl, (r.setup, r.spelled))
+unflushed_race (Report report_form) old mid new script spins ended r = inr (refl, (r.setup, r.spelled))
 unflushed_race Script old mid new script spins ended r = inr (refl, (r.1.1.setup, r.1.1.spelled))
 
 pub unflushed_verdict : (format : VerdictFormat) (old mid new : Option (List ℕ)) (script : List ℕ) (judged : Judged)

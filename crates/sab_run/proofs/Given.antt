@@ -8,7 +8,7 @@ use Rattle.sab_command.specs.declared.job.Job.{Job}
 use Rattle.sab_command.specs.declared.job.RaceJob.{RaceJob}
 use Rattle.sab_ending.specs.declared.outcome.Outcome.{Outcome}
 use Rattle.sab_run.specs.declared.failure.Explanation.{Explanation}
-use Rattle.sab_run.specs.declared.failure.Explanation.TheVariants.{Untold}
+use Rattle.sab_run.specs.declared.failure.Explanation.TheVariants.{Absent}
 use Rattle.sab_run.specs.Explaining.{IsExplanation}
 use Rattle.sab_run.specs.Racing.{RunsRace, RunsRaceGiven, IsFaultOfRace}
 use Rattle.sab_run.specs.Running.{Runs, RunsGiven, IsFaultOf}
@@ -53,16 +53,16 @@ race_failed (Some bytes) old new race fault input script all same few refused =
 
 -- what is reported besides
 pub explained : (known : Option (List ℕ)) (is_asked : Bool) (fault : ToolFault) (input script : List ℕ)
-    (told : Explanation) → IfSome known (λ bytes. input ≡ bytes) → script ≡ input
-    → IsExplanation is_asked fault script told → IfSome known (λ s. IsExplanation is_asked fault s told)
-explained None is_asked fault input script told all same e = tt
-explained (Some bytes) is_asked fault input script told all same e =
-    subst (λ (s : List ℕ). IsExplanation is_asked fault s told) all
-    (subst (λ (s : List ℕ). IsExplanation is_asked fault s told) same e)
+    (reported : Explanation) → IfSome known (λ bytes. input ≡ bytes) → script ≡ input
+    → IsExplanation is_asked fault script reported → IfSome known (λ s. IsExplanation is_asked fault s reported)
+explained None is_asked fault input script reported all same e = tt
+explained (Some bytes) is_asked fault input script reported all same e =
+    subst (λ (s : List ℕ). IsExplanation is_asked fault s reported) all
+    (subst (λ (s : List ℕ). IsExplanation is_asked fault s reported) same e)
 
 -- about an input that can't be had nothing else is reported
 pub unread : (known : Option (List ℕ)) (is_asked : Bool) (fault : ToolFault) → IsInputFault known fault
-    → IfSome known (λ s. IsExplanation is_asked fault s Untold)
+    → IfSome known (λ s. IsExplanation is_asked fault s Absent)
 unread None is_asked fault h = tt
 unread (Some bytes) is_asked OutOfMemory h = λ asked status few.
     let bad : ◌≡◌ {A = ℕ} 4 1 = status in absurd (omega (arith, bad))

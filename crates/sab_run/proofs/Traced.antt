@@ -11,7 +11,7 @@ use Rattle.sab_text.specs.declared.format.VerdictFormat.{VerdictFormat}
 use Rattle.sab_verdict.specs.Json.{access_side, judged_trace}
 use Rattle.sab_verdict.specs.ReadsBack.{LinesReadBack}
 use Rattle.sab_verdict.specs.Verdict.{trace_verdict_text}
-use Rattle.sab_report.specs.declared.judging.TheConstants.{MAX_TOLD}
+use Rattle.sab_report.specs.declared.judging.TheConstants.{MAX_REPORTED}
 use Rattle.sab_ending.specs.declared.outcome.Outcome.{Outcome}
 use Rattle.sab_ending.specs.declared.outcome.Outcome.TheVariants.{Done, Racy}
 use Rattle.sab_run.specs.Tracing.{JudgesTrace, IsOutcomeOf}
@@ -27,7 +27,7 @@ racy_outcome events clean same is = inr (refl, λ none. false≢true (sym is ∙
 -- where the reader's bytes are known, they spell what was judged
 pub judged : (known old new : Option (List ℕ)) (format : VerdictFormat) (outcome : Outcome) (events : List Event)
     (races : List Race) (rest data_races : ℕ) → IfSome known (λ bytes. SpellsTrace bytes events)
-    → IsVerdict events MAX_TOLD races rest data_races
+    → IsVerdict events MAX_REPORTED races rest data_races
     → Appends old new (trace_verdict_text events format races rest data_races)
     → LinesReadBack access_side judged_trace events races rest data_races → IsOutcomeOf events outcome
     → IfSome known (JudgesTrace format outcome old new)

@@ -6,7 +6,7 @@ use Rattle.sab_tool.specs.declared.tool_fault.ToolFault.{ToolFault}
 use Rattle.sab_check.specs.Checked.{IsAccepted, IsRefused}
 use Rattle.sab_ending.specs.Status.{status_after}
 use Rattle.sab_run.specs.declared.failure.Explanation.{Explanation}
-use Rattle.sab_run.specs.declared.failure.Explanation.TheVariants.{Untold, NoMemory, Told, AtLine}
+use Rattle.sab_run.specs.declared.failure.Explanation.TheVariants.{Absent, NoMemory, CheckText, AtLine}
 
 -- what a check says of a script that it refuses, or none where it doesn't refuse the script
 abbrev pub IsExplained : List ℕ → Option (String Global) → Type 0
@@ -16,9 +16,9 @@ IsExplained script (Some text) = IsRefused script (string_bytes text)
 -- it is reported why the script is refused exactly if that is asked for, the script itself is refused with the fault,
 -- and there is memory: a script that is too long isn't checked; that there is none is said only if it is asked for too
 abbrev pub IsExplanation : Bool → ToolFault → List ℕ → Explanation → Type 0
-IsExplanation is_asked fault script Untold =
+IsExplanation is_asked fault script Absent =
     is_asked ≡ true → status_after fault ≡ 1 → length script ≤ MAX_INPUT → (text : List ℕ) × IsAccepted script text
 IsExplanation is_asked fault script NoMemory = (is_asked ≡ true) × (status_after fault ≡ 1)
-IsExplanation is_asked fault script (Told text) =
+IsExplanation is_asked fault script (CheckText text) =
     (is_asked ≡ true) × (status_after fault ≡ 1) × IsRefused script (string_bytes text)
 IsExplanation is_asked fault script (AtLine line) = ⊥

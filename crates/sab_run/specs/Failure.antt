@@ -8,18 +8,18 @@ use Rattle.sab_tool.specs.declared.tool_fault.ToolFault.TheVariants.{ReadFailed}
 use Rattle.sab_command.specs.declared.request.Source.{Source}
 use Rattle.sab_command.specs.declared.request.Source.TheVariants.{Standard, File}
 use Rattle.sab_run.specs.declared.failure.Explanation.{Explanation}
-use Rattle.sab_run.specs.declared.failure.Explanation.TheVariants.{Untold, NoMemory, Told, AtLine}
+use Rattle.sab_run.specs.declared.failure.Explanation.TheVariants.{Absent, NoMemory, CheckText, AtLine}
 use Rattle.sab_run.specs.declared.failure.Failure.{Failure}
 
 -- a fault about which nothing else is reported
-abbrev pub untold : ToolFault → Failure
-untold fault = record { fault = fault; explanation = Untold }
+abbrev pub unexplained : ToolFault → Failure
+unexplained fault = record { fault = fault; explanation = Absent }
 
 -- what a check says, if that is reported
 abbrev pub explanation_text : Explanation → List ℕ
-explanation_text Untold = []
+explanation_text Absent = []
 explanation_text NoMemory = []
-explanation_text (Told text) = string_bytes text
+explanation_text (CheckText text) = string_bytes text
 explanation_text (AtLine line) = []
 
 -- the line of a trace, if that is reported
@@ -28,9 +28,9 @@ line_of (AtLine line) = Some line
 line_of _ = None
 
 -- a file is named exactly where a read failed and it is one, and its name has no control characters
-abbrev pub TellsFile : Source → ToolFault → Option (Bor (List ℕ)) → Type 0
-TellsFile Standard fault None = ⊤
-TellsFile Standard fault (Some told) = ⊥
-TellsFile (File name) fault None = (fault ≢ ReadFailed) ⊎ (list_any is_ascii_control name.now ≡ true)
-TellsFile (File name) fault (Some told) =
-    (fault ≡ ReadFailed) × (told.now ≡ name.now) × (list_any is_ascii_control name.now ≡ false)
+abbrev pub NamesFile : Source → ToolFault → Option (Bor (List ℕ)) → Type 0
+NamesFile Standard fault None = ⊤
+NamesFile Standard fault (Some reported) = ⊥
+NamesFile (File name) fault None = (fault ≢ ReadFailed) ⊎ (list_any is_ascii_control name.now ≡ true)
+NamesFile (File name) fault (Some reported) =
+    (fault ≡ ReadFailed) × (reported.now ≡ name.now) × (list_any is_ascii_control name.now ≡ false)

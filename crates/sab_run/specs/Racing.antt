@@ -18,7 +18,7 @@ use Rattle.sab_run.specs.Running.{KeepsAs}
 -- just the report of a race of the script with so many steps at a wait, or the script that keeps the race, came behind
 -- what the writer held
 abbrev pub RacesIn : RunForm → ℕ → Option (List ℕ) → Option (List ℕ) → List ℕ → Ended → Type 0
-RacesIn (Report telling) spins old new script ended = RacesAs telling old new script spins ended
+RacesIn (Report report_form) spins old new script ended = RacesAs report_form old new script spins ended
 RacesIn Script spins old new script ended = KeepsAs (IsRaceIn spins) old new script ended
 
 -- the race came behind what the writer held in its form, and the outcome is by how it ended
@@ -28,7 +28,7 @@ RunsRace race outcome old new script =
 
 -- what a race is refused for
 abbrev pub IsFaultOfRace : RunForm → ℕ → Option (List ℕ) → Option (List ℕ) → List ℕ → ToolFault → Type 0
-IsFaultOfRace (Report telling) spins old new script fault = IsRaceFault old new script spins fault
+IsFaultOfRace (Report report_form) spins old new script fault = IsRaceFault old new script spins fault
 IsFaultOfRace Script spins old new script fault = IsKeepFault (IsRaceUnkept spins) old new script fault
 
 -- the script isn't too long, and the race came to this

@@ -37,7 +37,7 @@ KeepsAs IsRun old new script ended =
 
 -- just the report of the script's replay, or the script that keeps the replay, came behind what the writer held
 abbrev pub ReplaysIn : RunForm → Option (List ℕ) → Option (List ℕ) → List ℕ → Ended → Type 0
-ReplaysIn (Report telling) old new script ended = ReplaysAs telling old new script ended
+ReplaysIn (Report report_form) old new script ended = ReplaysAs report_form old new script ended
 ReplaysIn Script old new script ended = KeepsAs IsReportOf old new script ended
 
 -- the run came behind what the writer held in its form, and the outcome is by how it ended; or what a check or a judge
@@ -56,7 +56,7 @@ IsCheckFault old new fault = (Keeps old new × (fault ≡ OutOfMemory)) ⊎ (fau
 
 -- what a replay is refused for that is written in this form
 abbrev pub IsFaultOfReplay : RunForm → Option (List ℕ) → Option (List ℕ) → List ℕ → ToolFault → Type 0
-IsFaultOfReplay (Report telling) old new script fault = IsReplayFault old new script fault
+IsFaultOfReplay (Report report_form) old new script fault = IsReplayFault old new script fault
 IsFaultOfReplay Script old new script fault = IsKeepFault IsReplayUnkept old new script fault
 
 -- what a job of a script is refused for

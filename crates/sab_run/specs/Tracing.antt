@@ -1,4 +1,4 @@
--- What judging a trace answers.
+-- What judging a trace returns.
 use Rattle.std.specs.Prelude.{◌≡◌, ◌⊎◌, ℕ, List, Option, IfSome}
 use Rattle.std.specs.Io.KnownBytes.{Appends, Keeps}
 use Rattle.sab_judge.specs.declared.event.Event.{Event}
@@ -14,12 +14,12 @@ use Rattle.sab_verdict.specs.Json.{access_side, judged_trace}
 use Rattle.sab_verdict.specs.ReadsBack.{LinesReadBack}
 use Rattle.sab_verdict.specs.Verdict.{trace_verdict_text}
 use Rattle.sab_tool.specs.declared.tool_fault.ToolFault.TheVariants.{TooMany, OutOfMemory, BadShape, BadNumber, BadAgent, NotJson, WriteFailed, TooLong, ReadFailed}
-use Rattle.sab_report.specs.declared.judging.TheConstants.{MAX_TOLD}
+use Rattle.sab_report.specs.declared.judging.TheConstants.{MAX_REPORTED}
 use Rattle.sab_ending.specs.declared.outcome.Outcome.{Outcome}
 use Rattle.sab_ending.specs.declared.outcome.Outcome.TheVariants.{Done, Racy}
 use Rattle.sab_run.specs.declared.failure.Explanation.TheVariants.{AtLine}
 use Rattle.sab_run.specs.declared.failure.Failure.{Failure}
-use Rattle.sab_run.specs.Failure.{untold}
+use Rattle.sab_run.specs.Failure.{unexplained}
 
 -- the outcome says truly whether two of the events race
 abbrev pub IsOutcomeOf : List Event → Outcome → Type 0
@@ -35,25 +35,25 @@ pub record JudgesTrace (format : VerdictFormat) (outcome : Outcome) (old new : O
   pub races : List Race
   pub rest : ℕ
   pub data_races : ℕ
-  pub verdict : IsVerdict events MAX_TOLD races rest data_races
+  pub verdict : IsVerdict events MAX_REPORTED races rest data_races
   pub written : Appends old new (trace_verdict_text events format races rest data_races)
   pub read_back : LinesReadBack access_side judged_trace events races rest data_races
   pub outcome_is : IsOutcomeOf events outcome
 
 -- what the program reports about a trace that is refused: the fault, and at which line
-abbrev pub told_of : LineFault → ℕ → Failure
-told_of L.OutOfMemory line = untold OutOfMemory
-told_of L.ReadFailed line = untold ReadFailed
-told_of L.TooMany line = record { fault = TooMany; explanation = AtLine line }
-told_of L.TooLong line = record { fault = TooLong; explanation = AtLine line }
-told_of L.NotJson line = record { fault = NotJson; explanation = AtLine line }
-told_of L.BadShape line = record { fault = BadShape; explanation = AtLine line }
-told_of L.BadNumber line = record { fault = BadNumber; explanation = AtLine line }
-told_of L.BadBytes line = record { fault = BadNumber; explanation = AtLine line }
-told_of L.BadAgent line = record { fault = BadAgent; explanation = AtLine line }
+abbrev pub failure_at : LineFault → ℕ → Failure
+failure_at L.OutOfMemory line = unexplained OutOfMemory
+failure_at L.ReadFailed line = unexplained ReadFailed
+failure_at L.TooMany line = record { fault = TooMany; explanation = AtLine line }
+failure_at L.TooLong line = record { fault = TooLong; explanation = AtLine line }
+failure_at L.NotJson line = record { fault = NotJson; explanation = AtLine line }
+failure_at L.BadShape line = record { fault = BadShape; explanation = AtLine line }
+failure_at L.BadNumber line = record { fault = BadNumber; explanation = AtLine line }
+failure_at L.BadBytes line = record { fault = BadNumber; explanation = AtLine line }
+failure_at L.BadAgent line = record { fault = BadAgent; explanation = AtLine line }
 
 abbrev pub refused_at : Refusal → Failure
-refused_at refusal = told_of refusal.fault refusal.line
+refused_at refusal = failure_at refusal.fault refusal.line
 
 -- the bytes are refused at a line and nothing was written, or there was no memory and nothing was written, or a write
 -- failed
@@ -61,5 +61,5 @@ abbrev pub IsTraceFailure : Option (List ℕ) → Option (List ℕ) → Option (
 IsTraceFailure known old new failure =
     ((refusal : Refusal) × (failure ≡ refused_at refusal) × Keeps old new
     × IfSome known (λ bytes. IsRefusedBy bytes refusal))
-    ⊎ ((failure ≡ untold OutOfMemory) × Keeps old new)
-    ⊎ (failure ≡ untold WriteFailed)
+    ⊎ ((failure ≡ unexplained OutOfMemory) × Keeps old new)
+    ⊎ (failure ≡ unexplained WriteFailed)

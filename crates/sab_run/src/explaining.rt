@@ -29,11 +29,11 @@ pub(crate) fn explanation_of(
     ensures { IsExplanation is_asked fault script.now result }
 {
     if !is_asked || Ending::Failed(fault).status() != 1 {
-        return Explanation::Untold;
+        return Explanation::Absent;
     }
     match explain_script(alloc, script) {
-        Ok(Some(text)) => Explanation::Told(text),
-        Ok(None) => Explanation::Untold,
+        Ok(Some(text)) => Explanation::CheckText(text),
+        Ok(None) => Explanation::Absent,
         Err(_) => Explanation::NoMemory,
     }
 }

@@ -4,7 +4,7 @@ ghost use Rattle.std.specs.Prelude.{◌≡◌, ◌≢◌};
 ghost use Rattle.std.specs.List.{list_any};
 ghost use Rattle.std.specs.Char.{is_ascii_control};
 ghost use Rattle.std.specs.IoError.{error_kind};
-ghost use Rattle.sab_run.specs.Failure.{TellsFile, explanation_text, line_of, untold};
+ghost use Rattle.sab_run.specs.Failure.{NamesFile, explanation_text, line_of, unexplained};
 
 use sab_command::Source;
 use sab_ending::Complaint;
@@ -15,11 +15,11 @@ use std::io::{Error, ErrorKind};
 #[derive(Drop)]
 pub enum Explanation {
     /// Nothing: it isn't asked for, or the fault isn't one of the script, or a check doesn't refuse the script.
-    Untold,
+    Absent,
     /// There is no memory for it.
     NoMemory,
     /// What a check says of the script, which it refuses: a line.
-    Told(String),
+    CheckText(String),
     /// The line of the trace that is refused, from 1.
     AtLine(u32),
 }
@@ -36,8 +36,8 @@ pub struct Failure {
 impl Failure {
     /// That of a file that can't be opened: OutOfMemory where there is no memory for it, and else ReadFailed.
     pub fn of_open(error: &Error) -> Failure
-        ensures memory { error_kind error.now ≡ ErrorKind.OutOfMemory → result ≡ untold ToolFault.OutOfMemory }
-        ensures other { error_kind error.now ≢ ErrorKind.OutOfMemory → result ≡ untold ToolFault.ReadFailed }
+        ensures memory { error_kind error.now ≡ ErrorKind.OutOfMemory → result ≡ unexplained ToolFault.OutOfMemory }
+        ensures other { error_kind error.now ≢ ErrorKind.OutOfMemory → result ≡ unexplained ToolFault.ReadFailed }
     {
         if error.kind() == ErrorKind::OutOfMemory {
             return Failure::from(ToolFault::OutOfMemory);
@@ -50,7 +50,7 @@ impl Failure {
     /// A file is named where it can't be opened or read, unless its name has control characters.
     pub fn complaint<'a>(&'a self, source: Source<'a>) -> Complaint<'a>
         ensures fault { result.fault ≡ self.now.fault }
-        ensures file { TellsFile source.entry self.now.fault result.file }
+        ensures file { NamesFile source.entry self.now.fault result.file }
         ensures line { result.line ≡ line_of self.now.explanation }
         ensures why { result.why.now ≡ explanation_text self.now.explanation }
     {
@@ -65,7 +65,7 @@ impl Failure {
 
 /// The name of the file that failed, if it is reported.
 fn file_of<'a>(source: Source<'a>, fault: ToolFault) -> Option<&'a str>
-    ensures { TellsFile source.entry fault result }
+    ensures { NamesFile source.entry fault result }
 {
     let Source::File(name) = source else {
         return None;
@@ -89,7 +89,7 @@ fn line_of(explanation: &Explanation) -> Option<u32>
 {
     match explanation {
         Explanation::AtLine(line) => Some(*line),
-        Explanation::Untold | Explanation::NoMemory | Explanation::Told(_) => None,
+        Explanation::Absent | Explanation::NoMemory | Explanation::CheckText(_) => None,
     }
 }
 
@@ -98,8 +98,8 @@ fn text_of(explanation: &Explanation) -> &str
     ensures { result.now ≡ explanation_text explanation.now }
 {
     match explanation {
-        Explanation::Told(text) => text.as_str(),
-        Explanation::Untold => "",
+        Explanation::CheckText(text) => text.as_str(),
+        Explanation::Absent => "",
         Explanation::NoMemory => "",
         Explanation::AtLine(_) => "",
     }
@@ -107,14 +107,14 @@ fn text_of(explanation: &Explanation) -> &str
 
 impl From<ToolFault> for Failure {
     ghost use Rattle.std.specs.Prelude.{◌≡◌};
-    ghost use Rattle.sab_run.specs.Failure.{untold};
+    ghost use Rattle.sab_run.specs.Failure.{unexplained};
 
-    ghost from_gives = { λ fault failure. failure ≡ untold fault };
+    ghost from_gives = { λ fault failure. failure ≡ unexplained fault };
 
     fn from(fault: ToolFault) -> Failure {
         Failure {
             fault,
-            explanation: Explanation::Untold,
+            explanation: Explanation::Absent,
         }
     }
 }

@@ -96,7 +96,7 @@ fn seed_of(rt: &impl RandomSource, mix: Option<u64>) -> u64
     }
 }
 
-/// Runs the agents of a script in threads, writes the run in its form, and answers how it ended.
+/// Runs the agents of a script in threads, writes the run in its form, and returns how it ended.
 fn race_in<T: Threads + Wait + Sync + AllocGlobal, W: Write>(
     rt: &T,
     how: RaceOptions,
@@ -112,7 +112,7 @@ fn race_in<T: Threads + Wait + Sync + AllocGlobal, W: Write>(
 {
     let alloc = rt.alloc();
     match form {
-        RunForm::Report(telling) => race_as(rt, alloc, script, how, telling, output),
+        RunForm::Report(report_form) => race_as(rt, alloc, script, how, report_form, output),
         RunForm::Script => {
             let RaceOptions { share, spins, seed } = how;
             let report = keep_race(rt, alloc, script, share, spins, seed, output)?;

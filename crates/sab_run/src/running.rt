@@ -84,7 +84,7 @@ pub(crate) fn flush<W: Write>(output: &mut W) -> Result<(), ToolFault>
     output.flush().map_err(ToolFault::of_write)
 }
 
-/// Replays a script, writes the run in its form, and answers how it ended.
+/// Replays a script, writes the run in its form, and returns how it ended.
 fn replay<W: Write>(
     alloc: Global,
     form: RunForm,
@@ -96,7 +96,7 @@ fn replay<W: Write>(
     ensures unwritten { IfErr result (IsUnwritten (W.contents output.old) (W.contents output.new)) }
 {
     match form {
-        RunForm::Report(telling) => replay_as(alloc, script, telling, output),
+        RunForm::Report(report_form) => replay_as(alloc, script, report_form, output),
         RunForm::Script => {
             let report = keep_replay(alloc, script, output)?;
             Ok(Ended::of(&report))
@@ -135,11 +135,11 @@ fn check<W: Write>(alloc: Global, script: &[u8], output: &mut W) -> Result<Outco
 {
     match check_script(alloc, script)? {
         Checked::Accepted(text) => {
-            tell(text.as_str(), output)?;
+            write_and_flush(text.as_str(), output)?;
             Ok(Outcome::Done)
         }
         Checked::Refused(text) => {
-            tell(text.as_str(), output)?;
+            write_and_flush(text.as_str(), output)?;
             Ok(Outcome::Refused)
         }
     }
@@ -147,7 +147,7 @@ fn check<W: Write>(alloc: Global, script: &[u8], output: &mut W) -> Result<Outco
 
 /// Writes a text, and flushes.
 #[tactic(auto, using(crate::proofs::Flushed::appends_kept))]
-fn tell<W: Write>(text: &str, output: &mut W) -> Result<(), ToolFault>
+fn write_and_flush<W: Write>(text: &str, output: &mut W) -> Result<(), ToolFault>
     ensures ok { OnOk result (Appends (W.contents output.old) (W.contents output.new) text.now) }
     ensures err { IfErr result (λ fault. fault ≡ ToolFault.WriteFailed) }
 {

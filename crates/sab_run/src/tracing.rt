@@ -2,7 +2,7 @@
 
 ghost use Rattle.std.specs.Prelude.{◌≡◌, All, IfOk, IfErr, IfSome, OnOk};
 ghost use Rattle.std.specs.Io.KnownBytes.{Appends, IsAtEnd};
-ghost use Rattle.sab_judge.specs.Verdict.{IsTold};
+ghost use Rattle.sab_judge.specs.Verdict.{IsReported};
 ghost use Rattle.sab_verdict.specs.Json.{access_side, judged_trace};
 ghost use Rattle.sab_verdict.specs.ReadsBack.{LinesReadBack};
 ghost use Rattle.sab_verdict.specs.Verdict.{trace_verdict_text};
@@ -11,7 +11,7 @@ ghost use Rattle.sab_run.specs.Tracing.{JudgesTrace, IsTraceFailure, refused_at}
 use crate::failure::{Explanation, Failure};
 use sab_ending::Outcome;
 use sab_judge::{Trace, Verdict, judge};
-use sab_report::{MAX_TOLD, VerdictFormat};
+use sab_report::{MAX_REPORTED, VerdictFormat};
 use sab_tool::ToolFault;
 use sab_trace::{LineFault, Refusal, read_trace};
 use sab_verdict::write_trace_verdict;
@@ -20,7 +20,7 @@ use std::io::{Read, Write};
 
 /// Judges a trace that a reader gives for unordered accesses, writes the verdict, and flushes.
 ///
-/// The first races are listed, at most [`MAX_TOLD`]. A line of the trace that is refused is reported with its fault.
+/// The first races are listed, at most [`MAX_REPORTED`]. A line of the trace that is refused is reported with its fault.
 /// ReadFailed if a read failed, OutOfMemory if there is no memory, and WriteFailed if a write or the flush failed;
 /// nothing is said then about how much was written. After every other fault nothing was written.
 pub fn judge_trace<R: Read, W: Write>(
@@ -39,10 +39,10 @@ pub fn judge_trace<R: Read, W: Write>(
         Ok(trace) => trace,
         Err(refusal) => return Err(failure_of(refusal)),
     };
-    let Ok(verdict) = judge(alloc, &trace, MAX_TOLD) else {
+    let Ok(verdict) = judge(alloc, &trace, MAX_REPORTED) else {
         return Err(Failure::from(ToolFault::OutOfMemory));
     };
-    tell(&trace, &verdict, format, output)?;
+    report_verdict(&trace, &verdict, format, output)?;
     if verdict.has_no_race() {
         Ok(Outcome::Done)
     } else {
@@ -52,13 +52,13 @@ pub fn judge_trace<R: Read, W: Write>(
 
 /// Writes the verdict on a trace, and flushes.
 #[tactic(auto, using(crate::proofs::Flushed::appends_kept))]
-fn tell<W: Write>(
+fn report_verdict<W: Write>(
     trace: &Trace,
     verdict: &Verdict,
     format: VerdictFormat,
     output: &mut W,
 ) -> Result<(), ToolFault>
-    requires { All (IsTold trace.now) verdict.now.races.items }
+    requires { All (IsReported trace.now) verdict.now.races.items }
     ensures ok { OnOk result (Appends (W.contents output.old) (W.contents output.new)
         (trace_verdict_text trace.now format verdict.now.races.items verdict.now.rest verdict.now.data_races)) }
     ensures read_back { LinesReadBack access_side judged_trace trace.now verdict.now.races.items verdict.now.rest

@@ -72,7 +72,7 @@ is_call ds (ToAccess v (CompareExchange i x y)) h = ((x, y), h, refl)
 is_call ds (Wait v i x t) h = ((x, t), h, refl)
 is_call ds (Notify v i n) h = (n, h, refl)
 
--- its name tells what its arguments are
+-- its name determines its arguments
 pub named_call : (word : List ℕ) (v : ℕ) (i : ℤ) (ds : Items) (c : Call) → SpellsParts word v i ds (spelling_of c)
     → IsCallOf (verb_of word) v i ds c
 named_call word v i ds c h = rw (h.name, h.view, h.index) (is_call ds c h.arguments)

@@ -1,4 +1,4 @@
--- A call, by what the tokens of its parts tell.
+-- A call, by what the tokens of its parts hold.
 use Rattle.std.proofs.Common.{◌≡◌, ◌≤◌, ℕ, ℤ, List, Some, refl, ap, ◌∙◌, arith}
 use Rattle.std.specs.Prelude.{slice_get, option_map}
 use Rattle.json.specs.Token.{Token}
@@ -11,15 +11,15 @@ use Rattle.sab_plan.specs.declared.call.Call.{Call}
 use Rattle.sab_script.specs.Calls.{spelling_of, SpellsParts, SpellsCall}
 use Rattle.sab_script.specs.Numbers.{SpellsWhole}
 use Rattle.sab_script.proofs.Tokens.{item_read, shallow, items_shallow}
-use Rattle.sab_script.specs.Plain.{Tells, TellsItems, TellsNext}
+use Rattle.sab_script.specs.Plain.{HoldsTree, HoldsItems, HoldsNext}
 
-pub call_told : (names : List (List ℕ)) (ts at_name at_view at_index rest : List Token) (name view_name : List ℕ) (v : ℕ)
+pub call_reported : (names : List (List ℕ)) (ts at_name at_view at_index rest : List Token) (name view_name : List ℕ) (v : ℕ)
     (z : ℤ) (c : Call)
     → ((j : text.Json) → BeginsWith ts j → (js : text.Items) × (j ≡ text.array js) × InItems at_name js)
-    → TellsNext 0 (λ d. d ≡ string name) at_name at_view → TellsNext 0 (λ d. d ≡ string view_name) at_view at_index
-    → TellsNext 0 (λ d. SpellsWhole d z) at_index rest → slice_get names v ≡ Some view_name
-    → TellsItems 0 (λ ds. SpellsParts name v z ds (spelling_of c)) rest → Tells 1 (λ d. SpellsCall names d c) ts
-call_told names ts at_name at_view at_index rest name view_name v z c is first second third there behind = λ j begins.
+    → HoldsNext 0 (λ d. d ≡ string name) at_name at_view → HoldsNext 0 (λ d. d ≡ string view_name) at_view at_index
+    → HoldsNext 0 (λ d. SpellsWhole d z) at_index rest → slice_get names v ≡ Some view_name
+    → HoldsItems 0 (λ ds. SpellsParts name v z ds (spelling_of c)) rest → HoldsTree 1 (λ d. SpellsCall names d c) ts
+call_reported names ts at_name at_view at_index rest name view_name v z c is first second third there behind = λ j begins.
     let a = is j begins in
     let n = first a.0 a.2 in
     let w = second n.1 n.4 in

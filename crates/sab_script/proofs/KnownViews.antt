@@ -157,25 +157,25 @@ tree_stands root place ts i t is stands lt e =
     (tree_there ts i t lt e)
 
 -- what is known where the views are read
-abbrev pub IsViewsTold : Form → List ℕ → Location → Items → Located → Type 0
-IsViewsTold form lens place ds e =
+abbrev pub IsViewsReported : Form → List ℕ → Location → Items → Located → Type 0
+IsViewsReported form lens place ds e =
     IsTrueWhere place (array ds) (λ root. (place ≡ at.Member M.Views) × HasLens root form lens) e
 
--- what is told of one view is true of each script that has the views
-pub one_told : (form : Form) (lens : List ℕ) (place part : Location) (ts : List Value) (i n : ℕ) (t : Value) (e : Located)
+-- what is reported about one view is true of each script that has the views
+pub one_reported : (form : Form) (lens : List ℕ) (place part : Location) (ts : List Value) (i n : ℕ) (t : Value) (e : Located)
     → part ≡ item_at place n → n ≡ i → i < length ts → t ≡ get_or ts i t
     → IsTrueWhere part (view t) (λ root. ((k : ℕ) × (part ≡ at.Item M.Views k)) × HasLens root form lens) e
-    → IsViewsTold form lens place (items_view ts) e
-one_told form lens place part ts i n t e part_is count lt is told = λ root stands known.
+    → IsViewsReported form lens place (items_view ts) e
+one_reported form lens place part ts i n t e part_is count lt is reported = λ root stands known.
     let there = item_place place part i n part_is count known.0 in
     let here = tree_stands root place ts i t known.0 stands lt is in
-    told root (subst (λ l. Stands root l (view t)) (sym there) here) ((i, there), known.1)
+    reported root (subst (λ l. Stands root l (view t)) (sym there) here) ((i, there), known.1)
 
 -- there are too many
-pub many_told : (form : Form) (lens : List ℕ) (place : Location) (ts : List Value) → MAX_VIEWS < length ts
-    → IsViewsTold form lens place (items_view ts)
+pub many_reported : (form : Form) (lens : List ℕ) (place : Location) (ts : List Value) → MAX_VIEWS < length ts
+    → IsViewsReported form lens place (items_view ts)
     (record { at = place; why = why.TooMany unit.Views (length ts) MAX_VIEWS })
-many_told form lens place ts many = λ root stands known.
+many_reported form lens place ts many = λ root stands known.
     ((known.0, (items_view ts, stands, items_count ts)), refl, many)
 
 -- the element of a place among names
@@ -187,13 +187,13 @@ named_by (x ∷ vs) (suc v) name g =
     let found = named_by vs v name g in (found.0, found.1, found.2, omega (arith, found.3))
 
 -- the name of a view before
-pub twice_told : (form : Form) (lens : List ℕ) (place part name_place : Location) (ts : List Value) (i n : ℕ) (t : Value)
-    (name : List ℕ) (spec : ViewSpec) (vs : List (List ℕ × ViewSpec)) (v : ℕ) (told : Excerpt)
+pub twice_reported : (form : Form) (lens : List ℕ) (place part name_place : Location) (ts : List Value) (i n : ℕ) (t : Value)
+    (name : List ℕ) (spec : ViewSpec) (vs : List (List ℕ × ViewSpec)) (v : ℕ) (reported : Excerpt)
     → part ≡ item_at place n → n ≡ i → name_place ≡ member_at part M.Name → i < length ts → t ≡ get_or ts i t
     → length vs ≡ i → StandSoFar (SpellsView form lens) (items_view ts) vs → SpellsView form lens (view t) (name, spec)
-    → slice_get (view_names vs) v ≡ Some name → IsStart told name
-    → IsViewsTold form lens place (items_view ts) (record { at = name_place; why = why.Twice told v })
-twice_told form lens place part name_place ts i n t name spec vs v told part_is count name_is lt is length_is before
+    → slice_get (view_names vs) v ≡ Some name → IsStart reported name
+    → IsViewsReported form lens place (items_view ts) (record { at = name_place; why = why.Twice reported v })
+twice_reported form lens place part name_place ts i n t name spec vs v reported part_is count name_is lt is length_is before
     spelled g start = λ root stands known.
     let there = item_place place part i n part_is count known.0 in
     let name_there = name_is ∙ ap (λ l. member_at l M.Name) there in

@@ -1,4 +1,4 @@
--- Members of objects, one after another, as their tokens tell them.
+-- Members of objects, one after another, as their tokens spell them.
 use Rattle.std.proofs.Common.{◌≡◌, ℕ, zero, suc, ◌<◌, List, [], ◌∷◌, map, length, get_or, Option, Some, None, true, false, is_some, refl, sym, ◌∙◌, inl, inr, arith}
 use Rattle.std.specs.Prelude.{IfSome}
 use Rattle.std.specs.Str.{bytes_eq}
@@ -9,7 +9,7 @@ use Rattle.json.specs.Find.{BeginsWith, InMembers, NextMember}
 use Rattle.sab_refusal.specs.declared.member.Member.{Member}
 use Rattle.sab_refusal.specs.Location.{member_name}
 use Rattle.serde_json.specs.Data.{Data}
-use Rattle.sab_script.specs.Plain.{IsAmong, AreNamed, HasNone, HasOnly, Tells, TellsMember}
+use Rattle.sab_script.specs.Plain.{IsAmong, AreNamed, HasNone, HasOnly, HoldsTree, HoldsMember}
 
 pub among_at : (names : List Member) (i : ℕ) (d : Member) (name : List ℕ) → i < length names
     → name ≡ member_name (get_or names i d) → IsAmong name (map member_name names)
@@ -101,7 +101,7 @@ pub alike : (x y z : List ℕ) → true ≡ bytes_eq x y → y ≡ z → x ≡ z
 alike x y z e is = (bytes_eq-Decides x y).0 (sym e) ∙ is
 
 -- the value of the only member of a name, by its own tokens
-pub member_told : {P : Data → Type 0} (name : List ℕ) (ts value : List Token)
+pub member_reported : {P : Data → Type 0} (name : List ℕ) (ts value : List Token)
     → ((ms : text.Members) → BeginsWith ts (text.object ms) → (j : text.Json) × HasOnly name j ms × BeginsWith value j)
-    → Tells 0 P value → TellsMember name P ts
-member_told name ts value only tells = λ ms begins. let m = only ms begins in (m.0, m.1, tells m.0 m.2)
+    → HoldsTree 0 P value → HoldsMember name P ts
+member_reported name ts value only holds = λ ms begins. let m = only ms begins in (m.0, m.1, holds m.0 m.2)

@@ -1,4 +1,4 @@
--- Objects of a script, by what the tokens of their parts tell.
+-- Objects of a script, by what the tokens of their parts hold.
 use Rattle.std.proofs.Common.{◌≡◌, ℕ, suc, ◌≤◌, List, [], ◌∷◌, map, Some, codes, refl, ap, subst}
 use Rattle.std.specs.Prelude.{IsTrue, is_some}
 use Rattle.json.specs.Token.{Token}
@@ -15,7 +15,7 @@ use Rattle.sab_script.specs.declared.view_spec.ViewSpec.{ViewSpec}
 use Rattle.sab_script.specs.Agents.{agent_object}
 use Rattle.sab_script.specs.Blocks.{lens_name}
 use Rattle.sab_script.specs.Places.{view_members}
-use Rattle.sab_script.specs.Plain.{Tells, AreNamed, IsObjectOf, TellsBlock, TellsDescription, agent_members, description_members, script_members}
+use Rattle.sab_script.specs.Plain.{HoldsTree, AreNamed, IsObjectOf, HoldsBlock, HoldsDescription, agent_members, description_members, script_members}
 use Rattle.sab_script.specs.Setup.{script_object}
 use Rattle.sab_script.specs.Views.{SpellsView, IsDescribed, count_on, description}
 use Rattle.sab_script.proofs.AnyOrder.{Before, object_read, before}
@@ -72,16 +72,16 @@ abbrev pub IsNamedObject : List (List ℕ) → List Token → Type 0
 IsNamedObject names ts =
     (j : text.Json) → BeginsWith ts j → (ms : text.Members) × (j ≡ text.object ms) × AreNamed names ms
 
-pub view_told : (form : Form) (lens : List ℕ) (ts : List Token) (v : List ℕ × ViewSpec) (w : PlanView)
-    → IsNamedObject (map member_name (view_members form)) ts → TellsBlock form ts v.1.block → TellsDescription ts v
-    → IsDescribed lens v.1 w → Tells 1 (λ d. SpellsView form lens d v) ts
-view_told Bytes lens ts v w named block told made = λ j begins.
+pub view_reported : (form : Form) (lens : List ℕ) (ts : List Token) (v : List ℕ × ViewSpec) (w : PlanView)
+    → IsNamedObject (map member_name (view_members form)) ts → HoldsBlock form ts v.1.block → HoldsDescription ts v
+    → IsDescribed lens v.1 w → HoldsTree 1 (λ d. SpellsView form lens d v) ts
+view_reported Bytes lens ts v w named block reported made = λ j begins.
     let o = named j begins in
     let is_object = subst (BeginsWith ts) o.1 begins in
-    let kind = told.kind o.0 is_object in
-    let long = told.length o.0 is_object in
-    let name = told.name o.0 is_object in
-    let offset = told.offset o.0 is_object in
+    let kind = reported.kind o.0 is_object in
+    let long = reported.length o.0 is_object in
+    let name = reported.name o.0 is_object in
+    let offset = reported.offset o.0 is_object in
     let rest = description kind.2.0 long.2.0 name.2.0 offset.2.0 in (
       object rest,
       description_read 0 j kind.0 long.0 name.0 offset.0 kind.2.0 long.2.0 name.2.0 offset.2.0
@@ -92,21 +92,21 @@ view_told Bytes lens ts v w named block told made = λ j begins.
         block = block;
         description = record {
           members = λ i. description (kind.2.2 i) (long.2.2.0 i) (name.2.2 i) (offset.2.2.0 i);
-          name = told.is_name;
+          name = reported.is_name;
           length = long.2.2.1;
           offset = offset.2.2.1;
           made = view_made lens v.1 w made;
         };
       },
     )
-view_told Blocks lens ts v w named told_block told made = λ j begins.
+view_reported Blocks lens ts v w named reported_block reported made = λ j begins.
     let o = named j begins in
     let is_object = subst (BeginsWith ts) o.1 begins in
-    let block = told_block o.0 is_object in
-    let kind = told.kind o.0 is_object in
-    let long = told.length o.0 is_object in
-    let name = told.name o.0 is_object in
-    let offset = told.offset o.0 is_object in
+    let block = reported_block o.0 is_object in
+    let kind = reported.kind o.0 is_object in
+    let long = reported.length o.0 is_object in
+    let name = reported.name o.0 is_object in
+    let offset = reported.offset o.0 is_object in
     let rest = description kind.2.0 long.2.0 name.2.0 offset.2.0 in (
       object (member (codes "block") block.2.0 rest),
       view_read 0 j block.0 kind.0 long.0 name.0 offset.0 block.2.0 kind.2.0 long.2.0 name.2.0 offset.2.0
@@ -118,7 +118,7 @@ view_told Blocks lens ts v w named told_block told made = λ j begins.
         block = tt;
         description = record {
           members = λ i. description (kind.2.2 i) (long.2.2.0 i) (name.2.2 i) (offset.2.2.0 i);
-          name = told.is_name;
+          name = reported.is_name;
           length = long.2.2.1;
           offset = offset.2.2.1;
           made = view_made lens v.1 w made;
@@ -126,7 +126,7 @@ view_told Blocks lens ts v w named told_block told made = λ j begins.
       },
     )
 
--- a script: the member that tells of its blocks comes second, in either form
+-- a script: the member about its blocks comes second, in either form
 
 agents_first : (form : Form) → Before (codes "agents") (lens_name form)
 agents_first Bytes = before (codes "agents") (codes "bytes") refl refl

@@ -150,7 +150,7 @@ pub whole_script : (form : Form) (d : Data) (m0 m1 m2 m3 m4 : Members) (a l s v 
     → m3 ≡ member (codes "views") v m4 → m4 ≡ no_members → d ≡ script_object form a l s v
 whole_script form d m0 m1 m2 m3 m4 a l s v e0 e1 e2 e3 e4 e5 = rw (← e5, ← e4, ← e3, ← e2, ← e1) e0
 
--- the member of a script that tells of its blocks, by another spelling of its name
+-- the member of a script about its blocks, by another spelling of its name
 pub named : (n k : List ℕ) (m rest : Members) (d : Data) → n ≡ k → m ≡ member n d rest → m ≡ member k d rest
 named n k m rest d same e = e ∙ ap (λ (x : List ℕ). member x d rest) same
 

@@ -42,9 +42,9 @@ refused_tree script d BadAgent r h = record { tree = d; reading = r; unspelled =
 refused_tree script d NoBlock r h = record { tree = d; reading = r; unspelled = h }
 
 -- what is true of the tree that a script was read as is true of each that it reads as
-pub told_tree : (script : List ℕ) (d : Data) (e : Located) → read script ≡ Some d → IsTrueOf d e → (tree : Data)
+pub reported_tree : (script : List ℕ) (d : Data) (e : Located) → read script ≡ Some d → IsTrueOf d e → (tree : Data)
     → ReadsAs script tree → IsTrueOf tree e
-told_tree script d e was told tree reads =
+reported_tree script d e was reported tree reads =
     let is = reads.1 in
     let same : d ≡ tree = cc in
-    subst (λ t. IsTrueOf t e) same told
+    subst (λ t. IsTrueOf t e) same reported

@@ -1,4 +1,4 @@
--- An object's members that are read one after another: what is told where one is missing, or isn't called for.
+-- An object's members that are read one after another: what is reported where one is missing, or isn't called for.
 use Rattle.std.proofs.Common.{◌≡◌, ℕ, zero, suc, List, [], ◌∷◌, Bool, true, false, not, ◌&&◌, Option, Some, None, refl, sym, ap, ◌∙◌, subst, arith, true≢false}
 use Rattle.std.specs.Prelude.{Contains}
 use Rattle.std.specs.Ordering.{nat_cmp, ordering_reverse, match_ordering, is_lt}
@@ -125,18 +125,18 @@ no_more k (y ∷ xs) e x (zero, within, is) p =
     not_both true _ parts.0 refl (ap (λ z. is_lt (slice_cmp nat_cmp k (member_name z))) is ∙ ap is_lt p)
 no_more k (y ∷ xs) e x (suc i, within, is) p = no_more k xs (split _ _ e).1 x (i, omega (arith, within), is) p
 
--- what is told where a member that is called for doesn't come next; none that is called for before it is unread
-pub member_told : (root : Data) (place : Location) (names : List Member) (ms : Members) (last : Option (List ℕ))
+-- what is reported where a member that is called for doesn't come next; none that is called for before it is unread
+pub member_reported : (root : Data) (place : Location) (names : List Member) (ms : Members) (last : Option (List ℕ))
     (rest : Members) (m : Member) (reason : Reason)
     → Stands root place (object ms) → members_at (form_of root) place ≡ names → Unread ms last rest → Contains names m
     → IsBehind last (member_name m) → none_between last (member_name m) names ≡ true → LackMember m rest reason
     → IsTrueAt root place reason
-member_told root place names ms last rest m (why.Missing n) stands called unread here behind none h =
+member_reported root place names ms last rest m (why.Missing n) stands called unread here behind none h =
     let names_it : Contains names n = subst (λ x. Contains names x) (sym h.0) here in
     let absent : get_member (member_name n) ms ≡ None =
     ap (λ x. get_member (member_name x) ms) h.0 ∙ unread.same (member_name m) behind ∙ h.1 in
     (ms, stands, absent, subst (λ xs. Contains xs n) (sym called) names_it)
-member_told root place names ms last rest m (why.Surplus told) stands called unread here behind none h =
+member_reported root place names ms last rest m (why.Surplus reported) stands called unread here behind none h =
     let name = h.0 in
     let order = subst (λ (r : Members). Follow last r) h.3 unread.behind in
     let after = first_behind last name h.1 h.2 order in
@@ -144,31 +144,31 @@ member_told root place names ms last rest m (why.Surplus told) stands called unr
       members = ms;
       stands = stands;
       name = name;
-      told_name = h.4;
+      reported_name = h.4;
       member = h.1;
       there = next_there ms last rest name h.1 h.2 h.3 unread;
       uncalled = λ x c e.
           gap last (member_name m) names none x (subst (λ xs. Contains xs x) called c)
           (subst (λ k. IsBehind last k) e after) (subst (λ k. IsBefore k (member_name m)) e h.5);
     }
-member_told root place names ms last rest m reason stands called unread here behind none h = absurd h
+member_reported root place names ms last rest m reason stands called unread here behind none h = absurd h
 
--- what is told of a member behind all that are called for
-pub end_told : (root : Data) (place : Location) (names : List Member) (ms : Members) (k : List ℕ) (rest : Members)
+-- what is reported about a member behind all that are called for
+pub end_reported : (root : Data) (place : Location) (names : List Member) (ms : Members) (k : List ℕ) (rest : Members)
     (reason : Reason)
     → Stands root place (object ms) → members_at (form_of root) place ≡ names → Unread ms (Some k) rest
     → none_behind k names ≡ true → IsFirst rest reason → IsTrueAt root place reason
-end_told root place names ms k rest (why.Surplus told) stands called unread none h =
+end_reported root place names ms k rest (why.Surplus reported) stands called unread none h =
     let name = h.0 in
     let order = subst (λ (r : Members). Follow (Some k) r) h.3 unread.behind in
     record {
       members = ms;
       stands = stands;
       name = name;
-      told_name = h.4;
+      reported_name = h.4;
       member = h.1;
       there = next_there ms (Some k) rest name h.1 h.2 h.3 unread;
       uncalled = λ x c e.
           no_more k names none x (subst (λ xs. Contains xs x) called c) (subst (λ n. IsBefore k n) e order.0);
     }
-end_told root place names ms k rest reason stands called unread none h = absurd h
+end_reported root place names ms k rest reason stands called unread none h = absurd h

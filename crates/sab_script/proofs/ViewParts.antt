@@ -1,4 +1,4 @@
--- The parts of a view where they stand in a script, and what is told of them.
+-- The parts of a view where they stand in a script, and what is reported about them.
 use Rattle.std.proofs.Common.{◌≡◌, ℕ, pos, List, [], ◌∷◌, length, true, Option, Some, None, Result, Ok, Err, refl, sym, ap, ◌∙◌, subst, codes, arith}
 use Rattle.std.specs.Prelude.{Contains, IfErr, slice_get}
 use Rattle.serde_json.specs.Data.{Data, string, object, Members, member}
@@ -21,7 +21,7 @@ use Rattle.sab_script.specs.Places.{Stands, part_of, form_of, members_at, view_m
 use Rattle.sab_script.specs.Truth.{IsTrueAt, IsTrueOf, IsTrueWhere, HasBlockLen}
 use Rattle.sab_script.specs.Known.{AreInOrder, IsFirst, LackMember, HasLens}
 use Rattle.sab_script.specs.ViewPlaces.{HasBlocks, HasView, IsTrueOfView}
-use Rattle.sab_script.proofs.Unread.{IsBehind, Unread, none_read, one_read, rest_order, none_between, none_behind, member_told, end_told}
+use Rattle.sab_script.proofs.Unread.{IsBehind, Unread, none_read, one_read, rest_order, none_between, none_behind, member_reported, end_reported}
 
 -- ---- parts
 
@@ -33,18 +33,18 @@ part_place : (place part : Location) (i : ℕ) (m : Member) → part ≡ member_
     → part ≡ at.Part M.Views i m
 part_place place part i m e is = e ∙ ap (λ l. member_at l m) is
 
--- what is told of a part is true of each script that has the view
-pub told_of_part : (place part : Location) (m : Member) (ms : Members) (d : Data) (e : Located)
+-- what is reported about a part is true of each script that has the view
+pub reported_of_part : (place part : Location) (m : Member) (ms : Members) (d : Data) (e : Located)
     (Known PartKnown : Data → Type 0)
     → part ≡ member_at place m → get_member (member_name m) ms ≡ Some d
     → ((root : Data) (i : ℕ) → part ≡ at.Part M.Views i m → Known root → PartKnown root)
     → IsTrueWhere part d PartKnown e → IsTrueOfView place ms Known e
-told_of_part place part m ms d e Known PartKnown part_is there known_of told = λ order root stands known.
+reported_of_part place part m ms d e Known PartKnown part_is there known_of reported = λ order root stands known.
     let i = known.0.0 in
     let is = part_place place part i m part_is known.0.1 in
     let view_stands = subst (λ l. Stands root l (object ms)) known.0.1 stands in
     let here = subst (λ l. Stands root l d) (sym is) (part_stands root i ms m d view_stands there) in
-    told root here (known_of root i is known.1)
+    reported root here (known_of root i is known.1)
 
 -- the members of a view that is described
 pub kind_there : (form : Form) (block : ℕ) (rest : Members) (k l n o : Data) → rest ≡ description k l n o
@@ -79,14 +79,14 @@ member_of_view form place ms last rest m e at_is lacks unread_of here behind non
     let unread = unread_of order in
     let called : members_at (form_of root) place ≡ view_members form =
     ap (λ l. members_at (form_of root) l) known.0.1 ∙ ap view_members known.1 in
-    let told = member_told root place (view_members form) ms last rest m e.why stands called unread here behind none
+    let reported = member_reported root place (view_members form) ms last rest m e.why stands called unread here behind none
     (lacks (rest_order ms last rest unread)) in
-    subst (λ l. IsTrueAt root l e.why) (sym at_is) told
+    subst (λ l. IsTrueAt root l e.why) (sym at_is) reported
 
 -- where the block that is called for doesn't come first
-pub block_told : (place : Location) (ms : Members) (e : Located) → e.at ≡ place
+pub block_reported : (place : Location) (ms : Members) (e : Located) → e.at ≡ place
     → (AreInOrder ms → LackMember M.Block ms e.why) → IsTrueOfView place ms (λ root. form_of root ≡ Blocks) e
-block_told place ms e at_is lacks =
+block_reported place ms e at_is lacks =
     member_of_view Blocks place ms None ms M.Block e at_is lacks (none_read ms) (0, omega arith, refl) tt refl
 
 -- the last member that is read before the description
@@ -128,13 +128,13 @@ offset_read form block m0 m1 m2 m3 m4 k l n o e1 e2 e3 e4 order =
     one_read (with_block form block m0) (Some (codes "name")) m3 (codes "offset") o m4 e4
     (name_read form block m0 m1 m2 m3 k l n e1 e2 e3 order)
 
-pub kind_told : (form : Form) (block : ℕ) (place : Location) (m0 : Members) (e : Located) → e.at ≡ place
+pub kind_reported : (form : Form) (block : ℕ) (place : Location) (m0 : Members) (e : Located) → e.at ≡ place
     → (AreInOrder m0 → LackMember M.Kind m0 e.why)
     → IsTrueOfView place (with_block form block m0) (λ root. form_of root ≡ form) e
-kind_told Bytes block place m0 e at_is lacks =
+kind_reported Bytes block place m0 e at_is lacks =
     member_of_view Bytes place m0 None m0 M.Kind e at_is lacks (description_unread Bytes block m0)
     (0, omega arith, refl) tt refl
-kind_told Blocks block place m0 e at_is lacks =
+kind_reported Blocks block place m0 e at_is lacks =
     member_of_view Blocks place (with_block Blocks block m0) (Some (codes "block")) m0 M.Kind e at_is lacks
     (description_unread Blocks block m0) (1, omega arith, refl) refl refl
 
@@ -157,41 +157,41 @@ all_called : (form : Form) → none_behind (codes "offset") (view_members form) 
 all_called Bytes = refl
 all_called Blocks = refl
 
-pub length_told : (form : Form) (block : ℕ) (place : Location) (m0 m1 : Members) (k : Data) (e : Located)
+pub length_reported : (form : Form) (block : ℕ) (place : Location) (m0 m1 : Members) (k : Data) (e : Located)
     → m0 ≡ member (codes "kind") k m1 → e.at ≡ place → (AreInOrder m1 → LackMember M.Length m1 e.why)
     → IsTrueOfView place (with_block form block m0) (λ root. form_of root ≡ form) e
-length_told form block place m0 m1 k e e1 at_is lacks =
+length_reported form block place m0 m1 k e e1 at_is lacks =
     member_of_view form place (with_block form block m0) (Some (codes "kind")) m1 M.Length e at_is lacks
     (kind_read form block m0 m1 k e1) (length_called form).0 refl (length_called form).1
 
-pub name_told : (form : Form) (block : ℕ) (place : Location) (m0 m1 m2 : Members) (k l : Data) (e : Located)
+pub name_reported : (form : Form) (block : ℕ) (place : Location) (m0 m1 m2 : Members) (k l : Data) (e : Located)
     → m0 ≡ member (codes "kind") k m1 → m1 ≡ member (codes "length") l m2 → e.at ≡ place
     → (AreInOrder m2 → LackMember M.Name m2 e.why)
     → IsTrueOfView place (with_block form block m0) (λ root. form_of root ≡ form) e
-name_told form block place m0 m1 m2 k l e e1 e2 at_is lacks =
+name_reported form block place m0 m1 m2 k l e e1 e2 at_is lacks =
     member_of_view form place (with_block form block m0) (Some (codes "length")) m2 M.Name e at_is lacks
     (length_read form block m0 m1 m2 k l e1 e2) (name_called form).0 refl (name_called form).1
 
-pub offset_told : (form : Form) (block : ℕ) (place : Location) (m0 m1 m2 m3 : Members) (k l n : Data) (e : Located)
+pub offset_reported : (form : Form) (block : ℕ) (place : Location) (m0 m1 m2 m3 : Members) (k l n : Data) (e : Located)
     → m0 ≡ member (codes "kind") k m1 → m1 ≡ member (codes "length") l m2 → m2 ≡ member (codes "name") n m3
     → e.at ≡ place → (AreInOrder m3 → LackMember M.Offset m3 e.why)
     → IsTrueOfView place (with_block form block m0) (λ root. form_of root ≡ form) e
-offset_told form block place m0 m1 m2 m3 k l n e e1 e2 e3 at_is lacks =
+offset_reported form block place m0 m1 m2 m3 k l n e e1 e2 e3 at_is lacks =
     member_of_view form place (with_block form block m0) (Some (codes "name")) m3 M.Offset e at_is lacks
     (name_read form block m0 m1 m2 m3 k l n e1 e2 e3) (offset_called form).0 refl (offset_called form).1
 
-pub further_told : (form : Form) (block : ℕ) (place : Location) (m0 m1 m2 m3 m4 : Members) (k l n o : Data) (e : Located)
+pub further_reported : (form : Form) (block : ℕ) (place : Location) (m0 m1 m2 m3 m4 : Members) (k l n o : Data) (e : Located)
     → m0 ≡ member (codes "kind") k m1 → m1 ≡ member (codes "length") l m2 → m2 ≡ member (codes "name") n m3
     → m3 ≡ member (codes "offset") o m4 → e.at ≡ place → IsFirst m4 e.why
     → IsTrueOfView place (with_block form block m0) (λ root. form_of root ≡ form) e
-further_told form block place m0 m1 m2 m3 m4 k l n o e e1 e2 e3 e4 at_is first = λ order root stands known.
+further_reported form block place m0 m1 m2 m3 m4 k l n o e e1 e2 e3 e4 at_is first = λ order root stands known.
     let ms = with_block form block m0 in
     let unread = offset_read form block m0 m1 m2 m3 m4 k l n o e1 e2 e3 e4 order in
     let called : members_at (form_of root) place ≡ view_members form =
     ap (λ l. members_at (form_of root) l) known.0.1 ∙ ap view_members known.1 in
-    let told = end_told root place (view_members form) ms (codes "offset") m4 e.why stands called unread
+    let reported = end_reported root place (view_members form) ms (codes "offset") m4 e.why stands called unread
     (all_called form) first in
-    subst (λ l. IsTrueAt root l e.why) (sym at_is) told
+    subst (λ l. IsTrueAt root l e.why) (sym at_is) reported
 
 -- ---- the view and its block
 
@@ -226,21 +226,21 @@ has_view root form lens i block len rest name v h has g stands e =
           (len_there root form lens i block len rest h has g stands);
     }
 
--- what is told of a view that doesn't fit its block
-pub misfit_told : (place : Location) (form : Form) (lens : List ℕ) (block len : ℕ) (rest : Members) (name : List ℕ)
+-- what is reported about a view that doesn't fit its block
+pub misfit_reported : (place : Location) (form : Form) (lens : List ℕ) (block len : ℕ) (rest : Members) (name : List ℕ)
     (v : ViewSpec) (e : Located)
     → IsBlockIn form block → slice_get lens block ≡ Some len
     → rest ≡ description (string (kind_name v.kind)) (whole_or_null v.length) (string name) (whole v.offset)
     → ((root : Data) (i n : ℕ) → place ≡ at.Item M.Views i → slice_get lens block ≡ Some n → HasView root i n v
     → IsTrueOf root e)
     → IsTrueOfView place (with_block form block rest) (λ root. HasLens root form lens) e
-misfit_told place form lens block len rest name v e has g is told = λ order root stands known.
+misfit_reported place form lens block len rest name v e has g is reported = λ order root stands known.
     let here = subst (λ l. Stands root l (object (with_block form block rest))) known.0.1 stands in
-    told root known.0.0 len known.0.1 g (has_view root form lens known.0.0 block len rest name v known.1 has g here is)
+    reported root known.0.0 len known.0.1 g (has_view root form lens known.0.0 block len rest name v known.1 has g here is)
 
--- what a description tells, behind the block
-abbrev pub IsDescriptionTold : Location → List ℕ → ℕ → Members → Located → Type 0
-IsDescriptionTold place lens block rest e =
+-- what is reported about a description, behind the block
+abbrev pub IsDescriptionReported : Location → List ℕ → ℕ → Members → Located → Type 0
+IsDescriptionReported place lens block rest e =
     (form : Form) → IsBlockIn form block → IsTrueOfView place (with_block form block rest) (λ root. HasLens root form lens) e
 
 -- ---- the tree of a view
@@ -254,22 +254,22 @@ pub block_missing : (form : Form) (count : ℕ) (place : Location) (ms : Members
     → IsTrueOfView place ms (λ root. HasBlocks root form count) e
 block_missing Bytes count place ms e is at_is lacks = absurd cc
 block_missing Blocks count place ms e is at_is lacks = λ order root stands known.
-    block_told place ms e at_is lacks order root stands (known.0, known.1.0)
+    block_reported place ms e at_is lacks order root stands (known.0, known.1.0)
 
 -- a value of its type is called for where a part of a view stands
 pub part_calls : (root : Data) (part : Location) (i : ℕ) (m : Member) (w : Wanted) → part ≡ at.Part M.Views i m
     → view_part_type m ≡ Some w → CallsFor root part w
 part_calls root part i m w is e = subst (λ l. CallsFor root l w) (sym is) e
 
-abbrev pub IsViewTold : Location → Data → (Data → Type 0) → Located → Type 0
-IsViewTold place d Known e =
+abbrev pub IsViewReported : Location → Data → (Data → Type 0) → Located → Type 0
+IsViewReported place d Known e =
     IsTrueWhere place d (λ root. ((i : ℕ) × (place ≡ at.Item M.Views i)) × Known root) e
 
-pub told_of_view : (place : Location) (d : Data) (ms : Members) (e : Located) (Known Given : Data → Type 0)
+pub reported_of_view : (place : Location) (d : Data) (ms : Members) (e : Located) (Known Given : Data → Type 0)
     → d ≡ object ms → AreInOrder ms → ((root : Data) → Given root → Known root) → IsTrueOfView place ms Known e
-    → IsViewTold place d Given e
-told_of_view place d ms e Known Given is order known_from told = λ root stands given.
-    told order root (subst (λ x. Stands root place x) is stands) (given.0, known_from root given.1)
+    → IsViewReported place d Given e
+reported_of_view place d ms e Known Given is order known_from reported = λ root stands given.
+    reported order root (subst (λ x. Stands root place x) is stands) (given.0, known_from root given.1)
 
 pub if_err_more : {X : Type 0} (P Q : Located → Type 0) (r : Result X Located) → ((e : Located) → P e → Q e)
     → IfErr r P → IfErr r Q

@@ -21,12 +21,12 @@ abbrev pub lens_name : Form → List ℕ
 lens_name Bytes = codes "bytes"
 lens_name Blocks = codes "blocks"
 
--- the members of a view: its block comes first, or isn't told
+-- the members of a view: its block comes first, or isn't given
 abbrev pub with_block : Form → ℕ → Members → Members
 with_block Bytes block rest = rest
 with_block Blocks block rest = member (codes "block") (whole (pos block)) rest
 
--- the blocks that a view can be on: the first alone, where none is told
+-- the blocks that a view can be on: the first alone, if none is given
 abbrev pub IsBlockIn : Form → ℕ → Type 0
 IsBlockIn Bytes block = block ≡ 0
 IsBlockIn Blocks block = Unit {0}

@@ -35,17 +35,17 @@ abbrev pub AreInOrder : Members → Type 0
 AreInOrder no_members = Unit {0}
 AreInOrder (member k d ms) = FollowInOrder k ms
 
--- the first of these members has a name that is told
+-- the first of these members has a name that is reported
 abbrev pub IsFirst : Members → Reason → Type 0
-IsFirst ms (why.Surplus told) =
-    (name : List ℕ) × (d : Data) × (rest : Members) × (ms ≡ member name d rest) × IsStart told name
+IsFirst ms (why.Surplus reported) =
+    (name : List ℕ) × (d : Data) × (rest : Members) × (ms ≡ member name d rest) × IsStart reported name
 IsFirst ms reason = ⊥
 
--- these members have none of the name that is called for; or the first one's name is before that, and is told
+-- these members have none of the name that is called for; or the first one's name is before that, and is reported
 abbrev pub LackMember : Member → Members → Reason → Type 0
 LackMember m ms (why.Missing n) = (n ≡ m) × (get_member (member_name m) ms ≡ None)
-LackMember m ms (why.Surplus told) =
-    (name : List ℕ) × (d : Data) × (rest : Members) × (ms ≡ member name d rest) × IsStart told name
+LackMember m ms (why.Surplus reported) =
+    (name : List ℕ) × (d : Data) × (rest : Members) × (ms ≡ member name d rest) × IsStart reported name
     × IsBefore name (member_name m)
 LackMember m ms reason = ⊥
 

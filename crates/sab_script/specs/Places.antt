@@ -46,7 +46,7 @@ form_by (Some d) = Bytes
 abbrev pub form_of : Data → Form
 form_of root = form_by (get (codes "bytes") root)
 
--- the member that tells of the blocks
+-- the member about the blocks
 abbrev pub lens_member : Form → Member
 lens_member Bytes = M.Bytes
 lens_member Blocks = M.Blocks

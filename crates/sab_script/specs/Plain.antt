@@ -1,4 +1,4 @@
--- What the tokens of a text tell, where no tree is made of them.
+-- What the tokens of a text hold, if no tree is made of them.
 use Rattle.std.specs.Prelude.{◌≡◌, ◌≤◌, ◌⊎◌, ℕ, pos, List, [], ◌∷◌, map, Some, codes}
 use Rattle.json.specs.Token.{Token}
 use Rattle.json.specs.Json as text
@@ -15,18 +15,18 @@ use Rattle.sab_script.specs.Numbers.{whole, SpellsWhole, SpellsOptional}
 use Rattle.sab_script.specs.Views.{IsName}
 
 -- the value that the tokens begin with nests so deep at most, and reads as a tree of this kind
-abbrev pub Tells : ℕ → (Data → Type 0) → List Token → Type 0
-Tells deep Kind tokens =
+abbrev pub HoldsTree : ℕ → (Data → Type 0) → List Token → Type 0
+HoldsTree deep Kind tokens =
     (j : text.Json) → BeginsWith tokens j → (d : Data) × ((of_json j ≡ Some d) × (depth j ≤ deep)) × Kind d
 
 -- the items that they begin with do, and read as trees of this kind
-abbrev pub TellsItems : ℕ → (Items → Type 0) → List Token → Type 0
-TellsItems deep Kind tokens =
+abbrev pub HoldsItems : ℕ → (Items → Type 0) → List Token → Type 0
+HoldsItems deep Kind tokens =
     (js : text.Items) → InItems tokens js → (ds : Items) × ((of_items js ≡ Some ds) × (items_depth js ≤ deep)) × Kind ds
 
 -- the first of these items does, and `rest` begins with the others
-abbrev pub TellsNext : ℕ → (Data → Type 0) → List Token → List Token → Type 0
-TellsNext deep Kind tokens rest = (js : text.Items) → InItems tokens js → (j : text.Json) × (more : text.Items)
+abbrev pub HoldsNext : ℕ → (Data → Type 0) → List Token → List Token → Type 0
+HoldsNext deep Kind tokens rest = (js : text.Items) → InItems tokens js → (j : text.Json) × (more : text.Items)
     × (js ≡ text.item j more) × ((d : Data) × ((of_json j ≡ Some d) × (depth j ≤ deep)) × Kind d) × InItems rest more
 
 -- members of objects, in any order
@@ -81,19 +81,19 @@ HasScriptParts form tokens agents lens schedule views = (j : text.Json) → Begi
     × BeginsWith agents a × BeginsWith lens l × BeginsWith schedule s × BeginsWith views v
 
 -- the object that the tokens begin with has just one member of this name, which reads as a tree of this kind
-abbrev pub TellsMember : List ℕ → (Data → Type 0) → List Token → Type 0
-TellsMember name Kind tokens = (ms : text.Members) → BeginsWith tokens (text.object ms)
+abbrev pub HoldsMember : List ℕ → (Data → Type 0) → List Token → Type 0
+HoldsMember name Kind tokens = (ms : text.Members) → BeginsWith tokens (text.object ms)
     → (j : text.Json) × HasOnly name j ms × ((d : Data) × ((of_json j ≡ Some d) × (depth j ≤ 0)) × Kind d)
 
 -- its block is at this position: that of its member, if the form has one
-abbrev pub TellsBlock : Form → List Token → ℕ → Type 0
-TellsBlock Bytes tokens block = block ≡ 0
-TellsBlock Blocks tokens block = TellsMember (codes "block") (λ d. d ≡ whole (pos block)) tokens
+abbrev pub HoldsBlock : Form → List Token → ℕ → Type 0
+HoldsBlock Bytes tokens block = block ≡ 0
+HoldsBlock Blocks tokens block = HoldsMember (codes "block") (λ d. d ≡ whole (pos block)) tokens
 
 -- its other members are those of a view, by its name
-pub record TellsDescription (tokens : List Token) (v : List ℕ × ViewSpec) : Type 0 where
-  pub kind : TellsMember (codes "kind") (λ d. d ≡ string (kind_name v.1.kind)) tokens
-  pub length : TellsMember (codes "length") (λ d. SpellsOptional d v.1.length) tokens
-  pub name : TellsMember (codes "name") (λ d. d ≡ string v.0) tokens
+pub record HoldsDescription (tokens : List Token) (v : List ℕ × ViewSpec) : Type 0 where
+  pub kind : HoldsMember (codes "kind") (λ d. d ≡ string (kind_name v.1.kind)) tokens
+  pub length : HoldsMember (codes "length") (λ d. SpellsOptional d v.1.length) tokens
+  pub name : HoldsMember (codes "name") (λ d. d ≡ string v.0) tokens
   pub is_name : IsName v.0
-  pub offset : TellsMember (codes "offset") (λ d. SpellsWhole d v.1.offset) tokens
+  pub offset : HoldsMember (codes "offset") (λ d. SpellsWhole d v.1.offset) tokens

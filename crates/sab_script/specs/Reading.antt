@@ -1,4 +1,4 @@
--- What a reader of a part of a script answers.
+-- What a reader of a part of a script returns.
 use Rattle.std.specs.Prelude.{ℕ, ◌≤◌, List, [], ◌∷◌, length, Result, Ok, Err}
 use Rattle.serde_json.specs.Data.{Data, Items, no_items, item}
 use Rattle.sab_refusal.specs.declared.read_fault.ReadFault.{ReadFault}

@@ -41,14 +41,14 @@ use Rattle.sab_script.specs.Numbers.{whole, SpellsWhole, SpellsBig}
 use Rattle.sab_script.specs.Places.{Stands, CallsFor, members_at, form_of, IsNamed}
 use Rattle.sab_script.specs.Views.{IsName, IsLike}
 
--- the start of a text, as it is told
-pub record IsStart (told : Excerpt) (text : List ℕ) : Type 0 where
-  pub bytes : bytes_of told ≡ take ROOM text
-  pub cut : IsTrue (is_cut_of told) ↔ (ROOM < length text)
+-- the start of a text, as it is reported
+pub record IsStart (reported : Excerpt) (text : List ℕ) : Type 0 where
+  pub bytes : bytes_of reported ≡ take ROOM text
+  pub cut : IsTrue (is_cut_of reported) ↔ (ROOM < length text)
 
--- a string stands at a place, and its start is told
+-- a string stands at a place, and its start is reported
 abbrev pub HasText : Data → Location → Excerpt → List ℕ → Type 0
-HasText root place told text = Stands root place (string text) × IsStart told text
+HasText root place reported text = Stands root place (string text) × IsStart reported text
 
 -- a value is of a type
 abbrev pub IsOf : Wanted → Data → Type 0
@@ -72,11 +72,11 @@ Lacks root place m =
     × Contains (members_at (form_of root) place) m
 
 -- the object there has a member of a name, and none of this name is called for
-pub record HasSurplus (root : Data) (place : Location) (told : Excerpt) : Type 0 where
+pub record HasSurplus (root : Data) (place : Location) (reported : Excerpt) : Type 0 where
   pub members : Members
   pub stands : Stands root place (object members)
   pub name : List ℕ
-  pub told_name : IsStart told name
+  pub reported_name : IsStart reported name
   pub member : Data
   pub there : get_member name members ≡ Some member
   pub uncalled : (m : Member) → Contains (members_at (form_of root) place) m → name ≡ member_name m → ⊥
@@ -144,44 +144,44 @@ HasMore root place count most =
 
 -- a name that no view can have
 abbrev pub IsMisnamed : Data → Location → Excerpt → Type 0
-IsMisnamed root place told =
-    (i : ℕ) × (place ≡ at.Part M.Views i M.Name) × ((name : List ℕ) × HasText root place told name × (IsName name → ⊥))
+IsMisnamed root place reported =
+    (i : ℕ) × (place ≡ at.Part M.Views i M.Name) × ((name : List ℕ) × HasText root place reported name × (IsName name → ⊥))
 
 -- the name of a view before
 abbrev pub IsNameOf : Data → Location → Excerpt → ℕ → Type 0
-IsNameOf root place told v =
+IsNameOf root place reported v =
     (i : ℕ) × (place ≡ at.Part M.Views i M.Name) × (v < i)
-    × ((name : List ℕ) × HasText root place told name × Stands root (at.Part M.Views v M.Name) (string name))
+    × ((name : List ℕ) × HasText root place reported name × Stands root (at.Part M.Views v M.Name) (string name))
 
 -- the name of no view, where a call has that of its view
 abbrev pub NamesNoView : Data → Location → Excerpt → Type 0
-NamesNoView root place told =
+NamesNoView root place reported =
     (i : ℕ) × (j : ℕ) × (place ≡ at.Element M.Agents i M.Calls j 1)
-    × ((name : List ℕ) × HasText root place told name
+    × ((name : List ℕ) × HasText root place reported name
     × ((v : ℕ) → Stands root (at.Part M.Views v M.Name) (string name) → ⊥))
 
 -- the name of no call, where a call has its name
 abbrev pub NamesNoCall : Data → Location → Excerpt → Type 0
-NamesNoCall root place told =
+NamesNoCall root place reported =
     (i : ℕ) × (j : ℕ) × (place ≡ at.Element M.Agents i M.Calls j 0)
-    × ((name : List ℕ) × HasText root place told name × ((call : Call) → name ≡ (spelling_of call).name → ⊥))
+    × ((name : List ℕ) × HasText root place reported name × ((call : Call) → name ≡ (spelling_of call).name → ⊥))
 
 -- the name of no kind, where a view has that of its kind; and more is said of this name
 abbrev pub NamesNoKind : Data → Location → Excerpt → (List ℕ → Type 0) → Type 0
-NamesNoKind root place told More =
+NamesNoKind root place reported More =
     (i : ℕ) × (place ≡ at.Part M.Views i M.Kind)
-    × ((name : List ℕ) × HasText root place told name × ((kind : Kind) → name ≡ kind_name kind → ⊥) × More name)
+    × ((name : List ℕ) × HasText root place reported name × ((kind : Kind) → name ≡ kind_name kind → ⊥) × More name)
 
 -- a float without its fraction; from 2^63 and from -2^63 on, the nearest number of 64 bits
 abbrev pub whole_part : Float → ℤ
 whole_part x = float_to_signed w64 x
 
--- a float has a fraction, and lies within ±(2^53 - 1); a text that reads as this float is told
+-- a float has a fraction, and lies within ±(2^53 - 1); a text that reads as this float is reported
 abbrev pub IsFraction : Num → Excerpt → Type 0
-IsFraction (float x) told =
+IsFraction (float x) reported =
     IsSafeInteger (whole_part x) × (eq x (of_int binary64 (whole_part x)) ≡ false)
-    × ((text : List ℕ) × (number_of text ≡ Some (float x)) × IsStart told text)
-IsFraction n told = ⊥
+    × ((text : List ℕ) × (number_of text ≡ Some (float x)) × IsStart reported text)
+IsFraction n reported = ⊥
 
 -- a float equals a whole number within ±(2^53 - 1)
 pub record EqualsWhole (x : Float) (z : ℤ) : Type 0 where
@@ -206,7 +206,7 @@ IsTooFar n = (z : ℤ) → SpellsWhole (number n) z → ⊥
 
 -- why a number is no whole number of a script
 abbrev pub IsAmiss : Num → Reason → Type 0
-IsAmiss n (why.Fraction told) = IsFraction n told
+IsAmiss n (why.Fraction reported) = IsFraction n reported
 IsAmiss n why.MinusZero = IsMinusZero n
 IsAmiss n (why.PointOrExponent z) = IsMarked n z
 IsAmiss n why.TooFar = IsTooFar n
@@ -220,15 +220,15 @@ HasAmiss root place reason =
 
 -- a string that is no BigInt, where an operand is called for
 abbrev pub IsNoBigInt : Data → Location → Excerpt → Type 0
-IsNoBigInt root place told =
+IsNoBigInt root place reported =
     CallsFor root place wanted.Operand
-    × ((digits : List ℕ) × HasText root place told digits × ((z : ℤ) → SpellsBig digits z → ⊥))
+    × ((digits : List ℕ) × HasText root place reported digits × ((z : ℤ) → SpellsBig digits z → ⊥))
 
--- the kind that a view is told to have
+-- the kind that a view is reported to have
 abbrev pub HasKind : Data → ℕ → Kind → Type 0
 HasKind root i kind = Stands root (at.Part M.Views i M.Kind) (string (kind_name kind))
 
--- the length of the block that a view is told to be on
+-- the length of the block that a view is reported to be on
 abbrev pub HasBlockLen : Form → Data → ℕ → ℕ → Type 0
 HasBlockLen Bytes root i len = Stands root (at.Member M.Bytes) (whole (pos len))
 HasBlockLen Blocks root i len =
@@ -299,28 +299,28 @@ abbrev pub IsBeyond : Data → Location → Counted → ℤ → ℕ → Type 0
 IsBeyond root place of n count =
     Stands root place (whole n) × ((k : ℕ) → k < count → n ≡ pos k → ⊥) × IsCountedAt root place of count
 
--- what is told of the value at a place is true of the script; of memory nothing is told
+-- what is reported about the value at a place is true of the script; about memory nothing is reported
 abbrev pub IsTrueAt : Data → Location → Reason → Type 0
 IsTrueAt root place (why.Type w) = IsMistyped root place w
 IsTrueAt root place (why.Missing m) = Lacks root place m
-IsTrueAt root place (why.Surplus told) = HasSurplus root place told
+IsTrueAt root place (why.Surplus reported) = HasSurplus root place reported
 IsTrueAt root place why.EmptyCall =
     ((i : ℕ) × (j : ℕ) × (place ≡ at.Call M.Agents i M.Calls j)) × Stands root place (array no_items)
 IsTrueAt root place (why.TooMany of count most) = HasMany root place of count × (most ≡ limit_of of) × (most < count)
-IsTrueAt root place (why.NameForm told) = IsMisnamed root place told
-IsTrueAt root place (why.Twice told v) = IsNameOf root place told v
-IsTrueAt root place (why.NoView told) = NamesNoView root place told
-IsTrueAt root place (why.Fraction told) = HasAmiss root place (why.Fraction told)
+IsTrueAt root place (why.NameForm reported) = IsMisnamed root place reported
+IsTrueAt root place (why.Twice reported v) = IsNameOf root place reported v
+IsTrueAt root place (why.NoView reported) = NamesNoView root place reported
+IsTrueAt root place (why.Fraction reported) = HasAmiss root place (why.Fraction reported)
 IsTrueAt root place why.MinusZero = HasAmiss root place why.MinusZero
 IsTrueAt root place (why.PointOrExponent z) = HasAmiss root place (why.PointOrExponent z)
 IsTrueAt root place why.TooFar = HasAmiss root place why.TooFar
 IsTrueAt root place (why.BelowZero n) = IsLenPlace place × Stands root place (whole n) × (n <ℤ pos 0)
-IsTrueAt root place (why.NoBigInt told) = IsNoBigInt root place told
-IsTrueAt root place (why.NoCall told) = NamesNoCall root place told
+IsTrueAt root place (why.NoBigInt reported) = IsNoBigInt root place reported
+IsTrueAt root place (why.NoCall reported) = NamesNoCall root place reported
 IsTrueAt root place (why.FewElements count least most) = HasFew root place count least most
 IsTrueAt root place (why.ManyElements count most) = HasMore root place count most
-IsTrueAt root place (why.NoKind told) = NamesNoKind root place told (λ name. (kind : Kind) → IsLike name kind → ⊥)
-IsTrueAt root place (why.NearKind told kind) = NamesNoKind root place told (λ name. IsLike name kind)
+IsTrueAt root place (why.NoKind reported) = NamesNoKind root place reported (λ name. (kind : Kind) → IsLike name kind → ⊥)
+IsTrueAt root place (why.NearKind reported kind) = NamesNoKind root place reported (λ name. IsLike name kind)
 IsTrueAt root place (why.Misfit m) = IsMisfit root place m
 IsTrueAt root place (why.Beyond of n count) = IsBeyond root place of n count
 IsTrueAt root place why.NoBlocks = (place ≡ at.Member M.Blocks) × Stands root place (array no_items)

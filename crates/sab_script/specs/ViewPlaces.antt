@@ -13,12 +13,12 @@ use Rattle.sab_script.specs.Places.{Stands, form_of}
 use Rattle.sab_script.specs.Truth.{HasItems, HasKind, IsOnLen, IsTrueWhere}
 use Rattle.sab_script.specs.Known.{AreInOrder}
 
--- the script is of this form, and has so many blocks where each view tells its own
+-- the script is of this form, and has so many blocks if each view names its own
 abbrev pub HasBlocks : Data → Form → ℕ → Type 0
 HasBlocks root Bytes count = form_of root ≡ Bytes
 HasBlocks root Blocks count = (form_of root ≡ Blocks) × HasItems root (at.Member M.Blocks) count
 
--- view i is described so, and is told to be on a block of this length
+-- view i is described so, and is reported to be on a block of this length
 pub record HasView (root : Data) (i len : ℕ) (v : ViewSpec) : Type 0 where
   pub kind : HasKind root i v.kind
   pub length : Stands root (at.Part M.Views i M.Length) (whole_or_null v.length)

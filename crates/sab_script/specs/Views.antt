@@ -37,7 +37,7 @@ IsAlike a b = map to_ascii_lowercase a ≡ map to_ascii_lowercase b
 abbrev pub IsLike : List ℕ → Kind → Type 0
 IsLike name kind = IsAlike name (kind_name kind) ⊎ IsAlike name (kind_name kind ++ codes "Array")
 
--- the members of a view but for its block
+-- the members of a view except its block
 abbrev pub description : Data → Data → Data → Data → Members
 description kind length name offset =
     member (codes "kind") kind (member (codes "length") length
@@ -50,7 +50,7 @@ description_of name v = description (string (kind_name v.kind)) (whole_or_null v
 abbrev pub count_on : List ℕ → ViewSpec → Option ℕ
 count_on lens v = option_and_then (λ len. count v.kind len v.offset v.length) (slice_get lens v.block)
 
--- members spell a view, by its name, but for its block; and on its block it can be made
+-- members spell a view, by its name, except its block; and on its block it can be made
 pub record SpellsDescription (lens : List ℕ) (rest : Members) (v : List ℕ × ViewSpec) : Type 0 where
   pub members : rest ≡ description_of v.0 v.1
   pub name : IsName v.0
@@ -88,7 +88,7 @@ pub record SpellsName (names : List (List ℕ)) (d : Data) (v : ℕ) : Type 0 wh
   pub tree : d ≡ string text
   pub there : slice_get names v ≡ Some text
 
--- the view of a plan lies on the block that was told, and is the one that was described
+-- the view of a plan lies on the block that was given, and is the one that was described
 pub record IsDescribed (lens : List ℕ) (v : ViewSpec) (p : PlanView) : Type 0 where
   pub block : p.block ≡ v.block
   pub len : ℕ

@@ -27,7 +27,7 @@ fn agent_members(at: Location, tree: &Value) -> Result<(&Value, &Value), Located
     ensures err { OnErr result ((block calls : Data) → view tree.now ≡ agent_object block calls → ⊥) }
     ensures fault { IfErr result (λ e. fault_of e.why ≡ ReadFault.BadShape) }
     ensures place { IfErr result (λ e. e.at ≡ at) }
-    ensures told { IfErr result (IsTrueWhere at (view tree.now)
+    ensures reported { IfErr result (IsTrueWhere at (view tree.now)
         (λ root. (i : ℕ) × (at ≡ Location.Item Member.Agents i))) }
 {
     let mut rest = members(at, tree)?;
@@ -70,7 +70,7 @@ pub(crate) fn read_agents(
     trees: &[Value],
 ) -> Result<Vec<Script>, Located>
     ensures found { Finds (λ scripts. scripts.items) (SpellsScripts (view_names views.now) (items_view trees.now)) result }
-    ensures told { IfErr result (IsTrueWhere at (array (items_view trees.now))
+    ensures reported { IfErr result (IsTrueWhere at (array (items_view trees.now))
         (λ root. (at ≡ Location.Member Member.Agents) × HasNames root (view_names views.now))) }
 {
     let reader = AgentReader { alloc, views };

@@ -18,7 +18,7 @@ use std::alloc::Global;
 /// The length of a block.
 fn read_len(at: Location, tree: &Value) -> Result<u32, Located>
     ensures found { Finds (λ len. len) (SpellsLen (view tree.now)) result }
-    ensures told { IfErr result (IsTrueWhere at (view tree.now) (λ root. IsLenPlace at)) }
+    ensures reported { IfErr result (IsTrueWhere at (view tree.now) (λ root. IsLenPlace at)) }
 {
     let len = whole(at, Wanted::Whole, tree)?;
     if len < 0 {
@@ -56,7 +56,7 @@ pub(crate) fn read_lens(
     tree: &Value,
 ) -> Result<Vec<u32>, Located>
     ensures found { Finds (λ lens. lens.items) (SpellsLens form (view tree.now)) result }
-    ensures told { IfErr result (IsTrueWhere at (view tree.now) (λ root. at ≡ Location.Member (lens_member form))) }
+    ensures reported { IfErr result (IsTrueWhere at (view tree.now) (λ root. at ≡ Location.Member (lens_member form))) }
 {
     match form {
         Form::Bytes => {

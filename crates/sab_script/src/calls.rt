@@ -30,7 +30,7 @@ use std::alloc::Global;
 /// The read-modify-write operation of a call's name.
 pub(crate) fn rmw_op(at: Location, name: &str) -> Result<RmwOp, Located>
     ensures found { Finds (λ op. op) (λ op. name.now ≡ function_of_op op) result }
-    ensures told { IfErr result (λ e. (root : Data) (i j : ℕ) → at ≡ Location.Call M.Agents i M.Calls j
+    ensures reported { IfErr result (λ e. (root : Data) (i j : ℕ) → at ≡ Location.Call M.Agents i M.Calls j
         → IsNamed root i j name.now → IsNameOfRmw name.now → IsTrueOf root e) }
 {
     match name {
@@ -58,7 +58,7 @@ fn rmw_of(
 ) -> Result<Call, Located>
     ensures found { Finds (λ c. c)
         (λ c. SpellsParts (function_of_op op) view index (items_view operands.now) (spelling_of c)) result }
-    ensures told { IfErr result (λ e. (root : Data) → HasArguments root at (function_of_op op) (items_view operands.now)
+    ensures reported { IfErr result (λ e. (root : Data) → HasArguments root at (function_of_op op) (items_view operands.now)
         → IsTrueOf root e) }
 {
     let value = one_operand(at, operands)?;
@@ -76,7 +76,7 @@ fn call_of(
 ) -> Result<Call, Located>
     ensures found { Finds (λ c. c)
         (λ c. SpellsParts name.now view index (items_view operands.now) (spelling_of c)) result }
-    ensures told { IfErr result (λ e. (root : Data) → HasArguments root at name.now (items_view operands.now)
+    ensures reported { IfErr result (λ e. (root : Data) → HasArguments root at name.now (items_view operands.now)
         → IsTrueOf root e) }
 {
     match name {
@@ -141,7 +141,7 @@ fn elements_of(name: &str) -> Option<(usize, usize)>
 fn short_call(at: Location, count: usize, name: &str) -> Located
     requires { count < 3 }
     ensures fault { fault_of result.why ≡ ReadFault.BadCall }
-    ensures told { (root : Data) (i j : ℕ) → at ≡ Location.Call M.Agents i M.Calls j → IsNamed root i j name.now
+    ensures reported { (root : Data) (i j : ℕ) → at ≡ Location.Call M.Agents i M.Calls j → IsNamed root i j name.now
         → HasItems root at count → IsTrueOf root result }
 {
     match elements_of(name) {
@@ -163,7 +163,7 @@ fn short_call(at: Location, count: usize, name: &str) -> Located
 fn cut_short(at: Location, count: usize, name_tree: &Value) -> Located
     requires { count < 3 }
     ensures fault { (fault_of result.why ≡ ReadFault.BadShape) ⊎ (fault_of result.why ≡ ReadFault.BadCall) }
-    ensures told { (root : Data) (i j : ℕ) → at ≡ Location.Call M.Agents i M.Calls j
+    ensures reported { (root : Data) (i j : ℕ) → at ≡ Location.Call M.Agents i M.Calls j
         → Stands root (item_at at 0) (view name_tree.now) → HasItems root at count → IsTrueOf root result }
 {
     match text(at.item(0), name_tree) {
@@ -175,7 +175,7 @@ fn cut_short(at: Location, count: usize, name_tree: &Value) -> Located
 /// A call.
 fn read_call(at: Location, views: &Views, tree: &Value) -> Result<Call, Located>
     ensures found { Finds (λ c. c) (SpellsCall (view_names views.now) (view tree.now)) result }
-    ensures told { IfErr result (IsTrueWhere at (view tree.now)
+    ensures reported { IfErr result (IsTrueWhere at (view tree.now)
         (λ root. ((i : ℕ) × (j : ℕ) × (at ≡ Location.Call M.Agents i M.Calls j))
         × HasNames root (view_names views.now))) }
 {
@@ -220,7 +220,7 @@ pub(crate) fn read_calls(
     trees: &[Value],
 ) -> Result<Vec<Call>, Located>
     ensures found { Finds (λ calls. calls.items) (SpellsCalls (view_names views.now) (items_view trees.now)) result }
-    ensures told { IfErr result (IsTrueWhere at (array (items_view trees.now))
+    ensures reported { IfErr result (IsTrueWhere at (array (items_view trees.now))
         (λ root. ((i : ℕ) × (at ≡ Location.Part M.Agents i M.Calls))
         × HasNames root (view_names views.now))) }
 {

@@ -26,7 +26,7 @@ pub(crate) trait Reader {
     /// The element that a value there spells.
     fn read(&self, at: Location, tree: &Value) -> Result<Self::Element, Located>
         ensures found { Finds (λ x. x) (Spells self.now (view tree.now)) result }
-        ensures told { IfErr result (IsTrueWhere at (view tree.now) (λ root. Knows self.now root at)) };
+        ensures reported { IfErr result (IsTrueWhere at (view tree.now) (λ root. Knows self.now root at)) };
 }
 
 /// The elements that the items of an array spell, in order, of which there may be `most`.
@@ -40,7 +40,7 @@ pub(crate) fn read_each<R: Reader>(
     trees: &[Value],
 ) -> Result<Vec<R::Element>, Located>
     ensures found { Finds (λ elements. elements.items) (SpellsUpTo most (R.Spells reader.now) (items_view trees.now)) result }
-    ensures told { IfErr result (IsTrueWhere at (array (items_view trees.now))
+    ensures reported { IfErr result (IsTrueWhere at (array (items_view trees.now))
         (λ root. IsListOf unit at × (most ≡ limit_of unit) × ((i : ℕ) → R.Knows reader.now root (item_at at i)))) }
 {
     if trees.len() > most {

@@ -13,7 +13,7 @@ use sab_refusal::{Located, Location, Member, Misfit, ReadFault, Reason};
 /// The refusal of a view there that can't be made on its block of so many bytes: of its offset or of its length.
 pub(crate) fn misfit(at: Location, block_len: u32, spec: ViewSpec) -> Located
     ensures fault { fault_of result.why ≡ ReadFault.BadView }
-    ensures told { count spec.kind block_len spec.offset spec.length ≡ None → (root : Data) (i : ℕ)
+    ensures reported { count spec.kind block_len spec.offset spec.length ≡ None → (root : Data) (i : ℕ)
         → at ≡ Location.Item Member.Views i → HasView root i block_len spec → IsTrueOf root result }
 {
     let (member, misfit) = part_amiss(block_len, spec);

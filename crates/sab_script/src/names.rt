@@ -19,13 +19,13 @@ fn no_kind(at: Location, name: &str) -> Located
     requires { (k : Kinds) → name.now ≡ kind_name k → ⊥ }
     ensures fault { fault_of result.why ≡ ReadFault.BadView }
     ensures place { result.at ≡ at }
-    ensures told { IsTrueWhere at (string name.now)
+    ensures reported { IsTrueWhere at (string name.now)
         (λ root. (i : ℕ) × (at ≡ Location.Part M.Views i M.Kind)) result }
 {
-    let told = Excerpt::of(name);
+    let reported = Excerpt::of(name);
     let why = match near_kind(name) {
-        Some(kind) => Reason::NearKind(told, kind),
-        None => Reason::NoKind(told),
+        Some(kind) => Reason::NearKind(reported, kind),
+        None => Reason::NoKind(reported),
     };
     Located { at, why }
 }
@@ -35,7 +35,7 @@ pub(crate) fn kind(at: Location, name: &str) -> Result<Kind, Located>
     ensures reads { Finds (λ k. k) (λ k. name.now ≡ kind_name k) result }
     ensures fault { IfErr result (λ e. fault_of e.why ≡ ReadFault.BadView) }
     ensures place { IfErr result (λ e. e.at ≡ at) }
-    ensures told { IfErr result (IsTrueWhere at (string name.now)
+    ensures reported { IfErr result (IsTrueWhere at (string name.now)
         (λ root. (i : ℕ) × (at ≡ Location.Part M.Views i M.Kind))) }
 {
     match name {

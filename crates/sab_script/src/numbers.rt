@@ -57,12 +57,12 @@ fn number_amiss(number: &Number) -> Reason
 }
 
 /// A refusal of a number that isn't a whole number of a script, where `wanted` is called for.
-#[tactic(auto, using(crate::proofs::Amiss::amiss_told))]
+#[tactic(auto, using(crate::proofs::Amiss::amiss_reported))]
 pub(crate) fn no_whole(at: Location, wanted: Wanted, number: &Number) -> Located
     requires { (z : ℤ) → SpellsWhole (number_data (number_view number.now)) z → ⊥ }
     ensures fault { fault_of result.why ≡ ReadFault.BadNumber }
     ensures place { result.at ≡ at }
-    ensures told { IsTrueWhere at (number_data (number_view number.now))
+    ensures reported { IsTrueWhere at (number_data (number_view number.now))
         (λ root. CallsFor root at wanted × IsNumberAs wanted (number_data (number_view number.now))) result }
 {
     let why = number_amiss(number);

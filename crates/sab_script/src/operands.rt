@@ -27,7 +27,7 @@ const FIRST: usize = 3;
 fn no_big(at: Location, digits: &str) -> Located
     ensures fault { fault_of result.why ≡ ReadFault.BadNumber }
     ensures place { result.at ≡ at }
-    ensures told { IsTrueWhere at (string digits.now)
+    ensures reported { IsTrueWhere at (string digits.now)
         (λ root. CallsFor root at Wanted.Operand × ((z : ℤ) → SpellsBig digits.now z → ⊥)) result }
 {
     let why = Reason::NoBigInt(Excerpt::of(digits));
@@ -38,7 +38,7 @@ fn no_big(at: Location, digits: &str) -> Located
 fn wrong_count(at: Location, count: usize, least: usize, most: usize) -> Located
     ensures fault { fault_of result.why ≡ ReadFault.BadCall }
     ensures place { result.at ≡ at }
-    ensures told { (root : Data) (name : List ℕ) (ds : Items) (types : List Wanted) → HasArguments root at name ds
+    ensures reported { (root : Data) (name : List ℕ) (ds : Items) (types : List Wanted) → HasArguments root at name ds
         → TakesFrom name least types → items_len ds ≡ count → length types ≡ most → (least ≤ count → most < count)
         → count + 3 < 2 ^ 64 → IsTrueOf root result }
 {
@@ -57,7 +57,7 @@ fn wrong_count(at: Location, count: usize, least: usize, most: usize) -> Located
 /// A BigInt of 128 bits, by its one spelling.
 pub(crate) fn big(at: Location, digits: &str) -> Result<i128, Located>
     ensures found { Finds (λ z. z) (SpellsBig digits.now) result }
-    ensures told { IfErr result (IsTrueWhere at (string digits.now) (λ root. CallsFor root at Wanted.Operand)) }
+    ensures reported { IfErr result (IsTrueWhere at (string digits.now) (λ root. CallsFor root at Wanted.Operand)) }
 {
     match digits.parse::<i128>() {
         Ok(n) => if itoa::Buffer::new().format(n) == digits {
@@ -72,7 +72,7 @@ pub(crate) fn big(at: Location, digits: &str) -> Result<i128, Located>
 /// An operand: a whole number is a Number, and a string is a BigInt.
 pub(crate) fn operand(at: Location, tree: &Value) -> Result<Operand, Located>
     ensures found { Finds (λ x. x) (SpellsOperand (view tree.now)) result }
-    ensures told { IfErr result (IsTrueWhere at (view tree.now) (λ root. CallsFor root at Wanted.Operand)) }
+    ensures reported { IfErr result (IsTrueWhere at (view tree.now) (λ root. CallsFor root at Wanted.Operand)) }
 {
     if let Value::String(digits) = tree {
         return Ok(Operand::big(big(at, digits.as_str())?));
@@ -86,7 +86,7 @@ pub(crate) fn operand(at: Location, tree: &Value) -> Result<Operand, Located>
 #[tactic(auto, using(crate::proofs::Lengths::as_many))]
 pub(crate) fn no_operand(at: Location, trees: &[Value]) -> Result<(), Located>
     ensures found { Finds (λ u. u) (λ _. SpellsArguments (items_view trees.now) []) result }
-    ensures told { IfErr result (λ e. (root : Data) (name : List ℕ) → HasArguments root at name (items_view trees.now)
+    ensures reported { IfErr result (λ e. (root : Data) (name : List ℕ) → HasArguments root at name (items_view trees.now)
         → TakesJust name [] → IsTrueOf root e) }
 {
     let [] = trees else {
@@ -99,7 +99,7 @@ pub(crate) fn no_operand(at: Location, trees: &[Value]) -> Result<(), Located>
 #[tactic(auto, using(crate::proofs::Lengths::as_many))]
 pub(crate) fn one_operand(at: Location, trees: &[Value]) -> Result<Operand, Located>
     ensures found { Finds (λ x. x) (λ x. SpellsArguments (items_view trees.now) (A.Value x ∷ [])) result }
-    ensures told { IfErr result (λ e. (root : Data) (name : List ℕ) → HasArguments root at name (items_view trees.now)
+    ensures reported { IfErr result (λ e. (root : Data) (name : List ℕ) → HasArguments root at name (items_view trees.now)
         → TakesJust name (Wanted.Operand ∷ []) → IsTrueOf root e) }
 {
     let [value] = trees else {
@@ -112,7 +112,7 @@ pub(crate) fn one_operand(at: Location, trees: &[Value]) -> Result<Operand, Loca
 #[tactic(auto, using(crate::proofs::Lengths::as_many))]
 pub(crate) fn two_operands(at: Location, trees: &[Value]) -> Result<(Operand, Operand), Located>
     ensures found { Finds (λ p. p) (λ p. SpellsArguments (items_view trees.now) (A.Value p.0 ∷ A.Value p.1 ∷ [])) result }
-    ensures told { IfErr result (λ e. (root : Data) (name : List ℕ) → HasArguments root at name (items_view trees.now)
+    ensures reported { IfErr result (λ e. (root : Data) (name : List ℕ) → HasArguments root at name (items_view trees.now)
         → TakesJust name (Wanted.Operand ∷ Wanted.Operand ∷ []) → IsTrueOf root e) }
 {
     let [expected, replacement] = trees else {
@@ -131,7 +131,7 @@ pub(crate) fn optional_limit(
     trees: &[Value],
 ) -> Result<Option<i64>, Located>
     ensures found { Finds (λ o. o) (λ o. SpellsArguments (items_view trees.now) (optional o)) result }
-    ensures told { IfErr result (λ e. (root : Data) (name : List ℕ) (ds : Items) → HasArguments root at name ds
+    ensures reported { IfErr result (λ e. (root : Data) (name : List ℕ) (ds : Items) → HasArguments root at name ds
         → StandBehind operands ds (items_view trees.now) → TakesTimed name operands → IsTrueOf root e) }
 {
     match trees {
@@ -154,7 +154,7 @@ pub(crate) fn timed_operand(
     trees: &[Value],
 ) -> Result<(Operand, Option<i64>), Located>
     ensures found { Finds (λ p. p) (λ p. SpellsArguments (items_view trees.now) (A.Value p.0 ∷ optional p.1)) result }
-    ensures told { IfErr result (λ e. (root : Data) (name : List ℕ) → HasArguments root at name (items_view trees.now)
+    ensures reported { IfErr result (λ e. (root : Data) (name : List ℕ) → HasArguments root at name (items_view trees.now)
         → TakesTimed name 1 → IsTrueOf root e) }
 {
     let [value, rest @ ..] = trees else {

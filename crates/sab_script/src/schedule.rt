@@ -25,7 +25,7 @@ const _: () = prove!(MAX_MOVES == 100_000);
 /// A move of an agent, of which there are so many.
 fn read_move(at: Location, agents: u32, tree: &Value) -> Result<Move, Located>
     ensures found { Finds (λ m. m) (SpellsMove agents (view tree.now)) result }
-    ensures told { IfErr result (IsTrueWhere at (view tree.now)
+    ensures reported { IfErr result (IsTrueWhere at (view tree.now)
         (λ root. ((k : ℕ) × (at ≡ Location.Item Member.Schedule k)) × HasItems root (Location.Member Member.Agents) agents)) }
 {
     if let Value::Object(_) = tree {
@@ -67,7 +67,7 @@ pub(crate) fn read_schedule(
     trees: &[Value],
 ) -> Result<Vec<Move>, Located>
     ensures found { Finds (λ moves. moves.items) (SpellsSchedule agents (items_view trees.now)) result }
-    ensures told { IfErr result (IsTrueWhere at (array (items_view trees.now))
+    ensures reported { IfErr result (IsTrueWhere at (array (items_view trees.now))
         (λ root. (at ≡ Location.Member Member.Schedule) × HasItems root (Location.Member Member.Agents) agents)) }
 {
     let reader = MoveReader { agents };

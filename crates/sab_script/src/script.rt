@@ -20,7 +20,7 @@ use std::alloc::{AllocError, Global};
 pub fn read_script(alloc: Global, script: &[u8]) -> Result<Setup, Refusal>
     ensures ok { IfOk result (IsScriptOf script.now) }
     ensures err { IfErr result (IsRefusedBy script.now) }
-    ensures told { IfErr result (IsTrueRefusal script.now) }
+    ensures reported { IfErr result (IsTrueRefusal script.now) }
 {
     match plain_setup(alloc, script) {
         Ok(setup) => Ok(setup),
@@ -34,7 +34,7 @@ pub fn read_script(alloc: Global, script: &[u8]) -> Result<Setup, Refusal>
 fn tree_setup(alloc: Global, script: &[u8]) -> Result<Setup, Refusal>
     ensures ok { IfOk result (IsScriptOf script.now) }
     ensures err { IfErr result (IsRefusedBy script.now) }
-    ensures told { IfErr result (IsTrueRefusal script.now) }
+    ensures reported { IfErr result (IsTrueRefusal script.now) }
 {
     let tree = read_tree(alloc, script)?;
     match locate_setup(alloc, &tree) {

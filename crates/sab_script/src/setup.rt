@@ -86,7 +86,7 @@ fn script_members(tree: &Value) -> Result<(Form, (&Value, &Value, &Value, &Value
         ≡ script_object p.0 (view p.1.0.now) (view p.1.1.now) (view p.1.2.now) (view p.1.3.now)) }
     ensures err { OnErr result ((form : Form) (a l s v : Data) → view tree.now ≡ script_object form a l s v → ⊥) }
     ensures form { IfOk result (λ p. form_of (view tree.now) ≡ p.0) }
-    ensures told { IfErr result (IsTrueOf (view tree.now)) }
+    ensures reported { IfErr result (IsTrueOf (view tree.now)) }
 {
     match members_in(tree, Form::Blocks) {
         Ok(found) => Ok((Form::Blocks, found)),
@@ -107,7 +107,7 @@ fn members_in(tree: &Value, form: Form) -> Result<(&Value, &Value, &Value, &Valu
     ensures ok { IfOk result (λ p. view tree.now
         ≡ script_object form (view p.0.now) (view p.1.now) (view p.2.now) (view p.3.now)) }
     ensures err { OnErr result ((a l s v : Data) → view tree.now ≡ script_object form a l s v → ⊥) }
-    ensures told { IfErr result (λ e. form_of (view tree.now) ≡ form → IsTrueOf (view tree.now) e) }
+    ensures reported { IfErr result (λ e. form_of (view tree.now) ≡ form → IsTrueOf (view tree.now) e) }
 {
     let at = Location::Script;
     let mut rest = members(at, tree)?;
@@ -125,7 +125,7 @@ fn script_parts(tree: &Value) -> Result<(Form, (&[Value], &Value, &[Value], &[Va
         (array (items_view p.1.2.now)) (array (items_view p.1.3.now))) }
     ensures err { IfErr result (λ e. Refuses (Spells (view tree.now)) (fault_of e.why)) }
     ensures form { IfOk result (λ p. form_of (view tree.now) ≡ p.0) }
-    ensures told { IfErr result (IsTrueOf (view tree.now)) }
+    ensures reported { IfErr result (IsTrueOf (view tree.now)) }
 {
     let (form, (agents, lens, schedule, views)) = script_members(tree)?;
     let agents = items(Location::Member(Member::Agents), agents)?;
@@ -175,7 +175,7 @@ pub(crate) fn setup_by_parts(
 pub fn locate_setup(alloc: Global, tree: &Value) -> Result<Setup, Located>
     ensures spelled { Finds (λ setup. setup) (Spells (view tree.now)) result }
     ensures only { IfOk result (IsOnlySetup (view tree.now)) }
-    ensures told { IfErr result (IsTrueOf (view tree.now)) }
+    ensures reported { IfErr result (IsTrueOf (view tree.now)) }
 {
     let (form, (agent_trees, lens_tree, move_trees, view_trees)) = script_parts(tree)?;
     let at_agents = Location::Member(Member::Agents);
@@ -194,7 +194,7 @@ pub fn locate_setup(alloc: Global, tree: &Value) -> Result<Setup, Located>
 pub fn read_setup(alloc: Global, tree: &Value) -> Result<Setup, ReadFault>
     ensures spelled { Reads (λ setup. setup) (Spells (view tree.now)) result }
     ensures only { IfOk result (IsOnlySetup (view tree.now)) }
-    ensures told { IfErr result (IsTrueFault (view tree.now)) }
+    ensures reported { IfErr result (IsTrueFault (view tree.now)) }
 {
     match locate_setup(alloc, tree) {
         Ok(setup) => Ok(setup),

@@ -25,7 +25,7 @@ pub(crate) fn whole(at: Location, wanted: Wanted, tree: &Value) -> Result<i64, L
     ensures reads { Finds (λ z. z) (SpellsWhole (view tree.now)) result }
     ensures fault { IfErr result (λ e. (fault_of e.why ≡ ReadFault.BadShape) ⊎ (fault_of e.why ≡ ReadFault.BadNumber)) }
     ensures place { IfErr result (λ e. e.at ≡ at) }
-    ensures told { IfErr result (IsTrueWhere at (view tree.now)
+    ensures reported { IfErr result (IsTrueWhere at (view tree.now)
         (λ root. CallsFor root at wanted × IsNumberAs wanted (view tree.now))) }
 {
     let Value::Number(number) = tree else {
@@ -50,7 +50,7 @@ pub(crate) fn position(
     ensures fault { IfErr result (λ e. (fault_of e.why ≡ fault_beyond counted)
         ⊎ ((fault_of e.why ≡ ReadFault.BadShape) ⊎ (fault_of e.why ≡ ReadFault.BadNumber))) }
     ensures place { IfErr result (λ e. e.at ≡ at) }
-    ensures told { IfErr result (IsTrueWhere at (view tree.now)
+    ensures reported { IfErr result (IsTrueWhere at (view tree.now)
         (λ root. CallsFor root at wanted × IsNumberAs wanted (view tree.now) × IsCountedAt root at counted count)) }
 {
     let n = whole(at, wanted, tree)?;
@@ -66,7 +66,7 @@ pub(crate) fn whole_or_null(at: Location, tree: &Value) -> Result<Option<i64>, L
     ensures reads { Finds (λ z. z) (SpellsOptional (view tree.now)) result }
     ensures fault { IfErr result (λ e. (fault_of e.why ≡ ReadFault.BadShape) ⊎ (fault_of e.why ≡ ReadFault.BadNumber)) }
     ensures place { IfErr result (λ e. e.at ≡ at) }
-    ensures told { IfErr result (IsTrueWhere at (view tree.now) (λ root. CallsFor root at Wanted.WholeOrNull)) }
+    ensures reported { IfErr result (IsTrueWhere at (view tree.now) (λ root. CallsFor root at Wanted.WholeOrNull)) }
 {
     if let Value::Null = tree {
         return Ok(None);
@@ -79,7 +79,7 @@ pub(crate) fn text(at: Location, tree: &Value) -> Result<&str, Located>
     ensures reads { Finds (λ s. s.now) (λ s. view tree.now ≡ string s) result }
     ensures fault { IfErr result (λ e. fault_of e.why ≡ ReadFault.BadShape) }
     ensures place { IfErr result (λ e. e.at ≡ at) }
-    ensures told { IfErr result (IsTrueWhere at (view tree.now) (λ root. CallsFor root at Wanted.Text)) }
+    ensures reported { IfErr result (IsTrueWhere at (view tree.now) (λ root. CallsFor root at Wanted.Text)) }
 {
     let why = Reason::Type(Wanted::Text);
     tree.as_str().ok_or(Located { at, why })
@@ -90,7 +90,7 @@ pub(crate) fn flag(at: Location, tree: &Value) -> Result<bool, Located>
     ensures reads { Finds (λ b. b) (λ b. view tree.now ≡ boolean b) result }
     ensures fault { IfErr result (λ e. fault_of e.why ≡ ReadFault.BadShape) }
     ensures place { IfErr result (λ e. e.at ≡ at) }
-    ensures told { IfErr result (IsTrueWhere at (view tree.now) (λ root. CallsFor root at Wanted.Flag)) }
+    ensures reported { IfErr result (IsTrueWhere at (view tree.now) (λ root. CallsFor root at Wanted.Flag)) }
 {
     let why = Reason::Type(Wanted::Flag);
     tree.as_bool().ok_or(Located { at, why })
@@ -101,7 +101,7 @@ pub(crate) fn items(at: Location, tree: &Value) -> Result<&[Value], Located>
     ensures reads { Finds (λ trees. items_view trees.now) (λ trees. view tree.now ≡ array trees) result }
     ensures fault { IfErr result (λ e. fault_of e.why ≡ ReadFault.BadShape) }
     ensures place { IfErr result (λ e. e.at ≡ at) }
-    ensures told { IfErr result (IsTrueWhere at (view tree.now) (λ root. CallsFor root at Wanted.Array)) }
+    ensures reported { IfErr result (IsTrueWhere at (view tree.now) (λ root. CallsFor root at Wanted.Array)) }
 {
     match tree.as_array() {
         Some(items) => Ok(items.as_slice()),
@@ -118,7 +118,7 @@ pub(crate) fn members(at: Location, tree: &Value) -> Result<Members<'_>, Located
     ensures err { OnErr result ((rest : MemberList) → view tree.now ≡ object rest → ⊥) }
     ensures fault { IfErr result (λ e. fault_of e.why ≡ ReadFault.BadShape) }
     ensures place { IfErr result (λ e. e.at ≡ at) }
-    ensures told { IfErr result (IsTrueWhere at (view tree.now) (λ root. CallsFor root at Wanted.Object)) }
+    ensures reported { IfErr result (IsTrueWhere at (view tree.now) (λ root. CallsFor root at Wanted.Object)) }
     ensures order { IfOk result (λ rest. AreInOrder (members_view rest)) }
 {
     match tree.as_object() {

@@ -32,7 +32,7 @@ fn read_block(at: Location, form: Form, blocks: u32, rest: &mut Members<'_>) -> 
     ensures there { IfOk result (λ block. block < blocks) }
     ensures err { IfErr result (λ e. Refuses
         (λ (p : ℕ × MemberList). (members_view rest.old ≡ with_block form p.0 p.1) × (p.0 < blocks)) (fault_of e.why)) }
-    ensures told { IfErr result (IsTrueOfView at (members_view rest.old) (λ root. HasBlocks root form blocks)) }
+    ensures reported { IfErr result (IsTrueOfView at (members_view rest.old) (λ root. HasBlocks root form blocks)) }
 {
     match form {
         Form::Bytes => Ok(0),
@@ -52,7 +52,7 @@ fn description_members<'a>(
     ensures ok { IfOk result (λ p. members_view rest.entry
         ≡ description (view p.0.now) (view p.1.now) (view p.2.now) (view p.3.now)) }
     ensures err { OnErr result ((k l n o : Data) → members_view rest.entry ≡ description k l n o → ⊥) }
-    ensures told { IfErr result (λ e. (form : Form) (block : ℕ) → IsTrueOfView at
+    ensures reported { IfErr result (λ e. (form : Form) (block : ℕ) → IsTrueOfView at
         (with_block form block (members_view rest.entry)) (λ root. form_of root ≡ form) e) }
 {
     let kind = member(at, &mut rest, Member::Kind)?;
@@ -68,7 +68,7 @@ pub(crate) fn plan_view(at: Location, lens: &[u32], spec: ViewSpec) -> Result<Pl
     requires { spec.block < length lens.now }
     ensures made { IfOk result (IsDescribed lens.now spec) }
     ensures err { OnErr result (count_on lens.now spec ≡ None) }
-    ensures told { IfErr result (λ e. (root : Data) (i len : ℕ) → at ≡ Location.Item Member.Views i
+    ensures reported { IfErr result (λ e. (root : Data) (i len : ℕ) → at ≡ Location.Item Member.Views i
         → slice_get lens.now spec.block ≡ Some len → HasView root i len spec → IsTrueOf root e) }
 {
     let block = spec.block;
@@ -90,7 +90,7 @@ fn read_description<'a>(
     ensures read { Finds (λ p. (p.0.now, p.1))
         (λ v. SpellsDescription lens.now (members_view rest.entry) v × (v.1.block ≡ block)) result }
     ensures made { IfOk result (λ p. IsDescribed lens.now p.1 p.2) }
-    ensures told { IfErr result (λ e. (form : Form) → IsBlockIn form block → IsTrueOfView at
+    ensures reported { IfErr result (λ e. (form : Form) → IsBlockIn form block → IsTrueOfView at
         (with_block form block (members_view rest.entry)) (λ root. HasLens root form lens.now) e) }
 {
     let (kind_tree, length_tree, name_tree, offset_tree) = description_members(at, rest)?;
@@ -126,7 +126,7 @@ fn read_view<'a>(
     requires few { length lens.now ≤ Plan.MAX_BLOCKS }
     ensures read { Finds (λ p. (p.0.now, p.1)) (SpellsView form lens.now (view tree.now)) result }
     ensures made { IfOk result (λ p. IsDescribed lens.now p.1 p.2) }
-    ensures told { IfErr result (IsTrueWhere at (view tree.now)
+    ensures reported { IfErr result (IsTrueWhere at (view tree.now)
         (λ root. ((i : ℕ) × (at ≡ Location.Item Member.Views i)) × HasLens root form lens.now)) }
 {
     let mut rest = members(at, tree)?;
@@ -147,7 +147,7 @@ pub(crate) fn read_views(
     requires few { length lens.now ≤ Plan.MAX_BLOCKS }
     ensures read { Finds (λ p. p.0) (SpellsViews form lens.now (items_view trees.now)) result }
     ensures made { IfOk result (λ p. AreDescribed lens.now p.0 p.1.items) }
-    ensures told { IfErr result (IsTrueWhere at (array (items_view trees.now))
+    ensures reported { IfErr result (IsTrueWhere at (array (items_view trees.now))
         (λ root. (at ≡ Location.Member Member.Views) × HasLens root form lens.now)) }
 {
     if trees.len() > Plan::MAX_VIEWS {

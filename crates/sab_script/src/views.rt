@@ -84,7 +84,7 @@ impl Views {
 pub(crate) fn view_of(at: Location, views: &Views, tree: &Value) -> Result<u32, Located>
     ensures read { Finds (λ v. v) (SpellsName (view_names views.now) (view tree.now)) result }
     ensures views { IfOk result (λ _. AreViews views.now) }
-    ensures told { IfErr result (IsTrueWhere at (view tree.now)
+    ensures reported { IfErr result (IsTrueWhere at (view tree.now)
         (λ root. ((i : ℕ) × (j : ℕ) × (at ≡ Location.Element M.Agents i M.Calls j 1))
         × HasNames root (view_names views.now))) }
 {

@@ -57,7 +57,7 @@ its_act : {plan : PlanParts} {m : MachineParts} {a : ℕ} {call : Call} {v : Pla
 its_act {plan} {m} {a} {call} {v} acting what S T does =
     does_call acting.turn call v what S T acting.call_is acting.view_is does
 
--- a call answers, and the object stays
+-- a call returns, and the object stays
 answered_turn : {plan : PlanParts} {m : MachineParts} {a : ℕ} {call : Call} {v : PlanView}
     (acting : IsActing plan m a call v) (x : Answer)
     → ((S : State) → S.mem ≡ m.blocks → DoesCall acting.turn.script.can_block a v call S (Acted x) S)
@@ -69,7 +69,7 @@ answered_turn {plan} {m} {a} {call} {v} acting x does =
 
 -- ---- accesses
 
--- what an access answers is what its act does
+-- what an access returns is what its act does
 access_does : (can_block : Bool) (a : ℕ) (v : PlanView) (n : ℕ) (access : Access) (x : Answer)
     (mem mem' : List (List ℕ)) (S : State) → S.mem ≡ mem → AnswersAccess v access mem x mem'
     → DoesCall can_block a v (C.Access n access) S (Acted x) (record S { mem = mem' })

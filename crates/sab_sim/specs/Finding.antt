@@ -1,4 +1,4 @@
--- What an act finds and answers.
+-- What an act finds and returns.
 use Rattle.std.specs.Prelude.{◌≡◌, ◌≢◌, ℕ, Bool, List, slice_set, Option, Some, None, ℤ, Result, Ok, Err}
 use Rattle.sab_block.specs.declared.thrown.Thrown.{Thrown}
 use Rattle.sab_block.specs.declared.access.Access.{Access}

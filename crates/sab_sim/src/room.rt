@@ -21,7 +21,7 @@ pub fn hand_over(room: &mut Vec<Vec<u8>>, blocks: Vec<Block>)
 }
 
 /// Reports how many of its calls each agent returned from, and how many it has.
-pub fn tell_progress(room: &mut Vec<Progress>, scripts: &[Script], agents: &[Agent])
+pub fn report_progress(room: &mut Vec<Progress>, scripts: &[Script], agents: &[Agent])
     requires empty { room.old.items ≡ [] }
     requires size { length agents.now ≡ length scripts.now }
     requires capacity { length scripts.now ≤ vec_capacity room.old }

@@ -16,7 +16,7 @@ use crate::agent::find_agent;
 use crate::line::line_at;
 use crate::lookup::call_at;
 use crate::machine::Machine;
-use crate::room::{hand_over, tell_progress};
+use crate::room::{hand_over, report_progress};
 use crate::sim_fault::SimFault;
 use sab_block::Block;
 use sab_plan::{Call, Entry, Move, Place, Plan, Progress, Report, Waiters};
@@ -224,7 +224,7 @@ impl Sim {
             mut block_room,
             mut agent_room,
         } = self;
-        tell_progress(&mut agent_room, plan.scripts(), machine.agents());
+        report_progress(&mut agent_room, plan.scripts(), machine.agents());
         hand_over(&mut block_room, machine.into_blocks());
         Report {
             schedule: moves,

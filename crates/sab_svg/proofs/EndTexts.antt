@@ -23,12 +23,12 @@ pub standing_text : (names : List (List ℕ)) (shape : Shape) (a : ℕ) (s : Sta
     ++ (node_text (label (end_class s.at) (label_x shape a) (row_text shape.rows) (end_text s.at)) ++ codes "</g>\n"))
 standing_text names shape a s =
     let bar = open_bar shape a s.since s.at in
-    let told = label (end_class s.at) (label_x shape a) (row_text shape.rows) (end_text s.at) in
+    let end_label = label (end_class s.at) (label_x shape a) (row_text shape.rows) (end_text s.at) in
     let words = agent_words a (standing_words names s) in
-    group_line_text words (bar ++ told ∷ [])
+    group_line_text words (bar ++ end_label ∷ [])
     ∙ ap (λ (t : List ℕ). group_start words ++ t)
-    (ap (λ (t : List ℕ). t ++ codes "</g>\n") (nodes_text_both bar (told ∷ []))
-    ∙ last_apart (nodes_text (nodes bar)) (node_text told) (codes "</g>\n"))
+    (ap (λ (t : List ℕ). t ++ codes "</g>\n") (nodes_text_both bar (end_label ∷ []))
+    ∙ last_apart (nodes_text (nodes bar)) (node_text end_label) (codes "</g>\n"))
 
 -- ---- blocks
 

@@ -7,4 +7,4 @@ pub mod Writing
 pub mod Greatest
 pub mod Room
 pub mod Named
-pub mod Telling
+pub mod DrawnPicture

@@ -5,8 +5,8 @@ use Rattle.std.proofs.lemmas.List.{drop_more}
 use Rattle.std.specs.Io.KnownBytes.{Appends, Keeps, append_known}
 use Rattle.sab_plan.specs.Report.{items_of_each}
 use Rattle.sab_plan.specs.declared.standing.Standing.{Standing}
-use Rattle.sab_text.proofs.Appending.{left_told, appends_last}
-use Rattle.sab_words.proofs.Telling.{room_then}
+use Rattle.sab_text.proofs.Appending.{left_written, appends_last}
+use Rattle.sab_words.proofs.ChunkTexts.{room_then}
 use Rattle.sab_xml.specs.Xml.{nodes, nodes_text}
 use Rattle.sab_xml.proofs.Texts.{nodes_text_both}
 use Rattle.sab_svg.specs.declared.shape.Shape.{Shape}
@@ -18,16 +18,16 @@ use Rattle.sab_svg.proofs.Behind.{behind}
 pub three_then : {T E : Type 0} (r : Result T E) (x b y : Option (List ℕ)) (kept one two p q more : List ℕ)
     → Keeps x (append_known b kept) → one ≡ kept ++ p → two ≡ one ++ q → OnOk r (Appends (append_known b two) y more)
     → OnOk r (Appends x y (p ++ q ++ more))
-three_then r x b y kept one two p q more k e f told =
+three_then r x b y kept one two p q more k e f appended =
     appends_last r x (append_known b two) y (p ++ q) more
-    (room_then x b kept two (p ++ q) k (behind kept one two p q e f)) told
+    (room_then x b kept two (p ++ q) k (behind kept one two p q e f)) appended
 
 -- a piece goes into it, and more is left
 pub left_then : (a x b : Option (List ℕ)) (kept chunk piece rest all : List ℕ)
     → Appends a (append_known x (piece ++ rest)) all → Keeps x (append_known b kept) → chunk ≡ kept ++ piece
     → Appends a (append_known (append_known b chunk) rest) all
 left_then a x b kept chunk piece rest all p q r =
-    left_told a x (append_known b chunk) piece rest all p (room_then x b kept chunk piece q r)
+    left_written a x (append_known b chunk) piece rest all p (room_then x b kept chunk piece q r)
 
 -- ---- agents that aren't done
 

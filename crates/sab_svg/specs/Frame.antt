@@ -16,7 +16,7 @@ root_attributes shape =
 unfoldable pub root_start : Shape → List ℕ
 root_start shape = codes "<svg" ++ attributes_text (root_attributes shape) ++ codes ">"
 
--- the colours, on a light and on a dark background: orange, sky blue and bluish green are told apart by all eyes; those
+-- the colours, on a light and on a dark background: all eyes distinguish orange, sky blue and bluish green; those
 -- for a dark one stand last, and a program that doesn't know how to ask for one leaves them out
 unfoldable pub style_text : List ℕ
 style_text =

@@ -42,19 +42,34 @@ pub(crate) fn push_entry(
     shape: Shape,
     sinces: &[Option<u32>],
     k: u32,
-    told: &Explained,
+    explained: &Explained,
     scratch: &mut Chunk,
     chunk: &mut Chunk,
 )
     requires { length chunk.old + ENTRY_ROOM ≤ Chunk.ROOM }
     ensures { chunk.new ≡ chunk.old ++ nodes_text (nodes
-        (drawn_entry names.now plan.now shape sinces.now k told.now.entry told.now.fact ∷ newline ∷ [])) }
+        (drawn_entry names.now plan.now shape sinces.now k explained.now.entry explained.now.fact ∷ newline ∷ [])) }
 {
     scratch.clear();
-    push_agent(told.entry.agent, scratch);
-    push_words(names, plan, sinces, &told.entry, &told.fact, scratch);
+    push_agent(explained.entry.agent, scratch);
+    push_words(
+        names,
+        plan,
+        sinces,
+        &explained.entry,
+        &explained.fact,
+        scratch,
+    );
     open_group(scratch.bytes(), chunk);
-    push_pieces(names, shape, k, &told.entry, &told.fact, scratch, chunk);
+    push_pieces(
+        names,
+        shape,
+        k,
+        &explained.entry,
+        &explained.fact,
+        scratch,
+        chunk,
+    );
     chunk.push(b"</g>\n");
 }
 

@@ -18,7 +18,7 @@ use sab_xml::push_escaped;
 /// What a pointer shows over the whole picture.
 const TITLE: &[u8; 47] = b"The calls of agents, from top to bottom in time";
 
-/// The colours, on a light and on a dark background: orange, sky blue and bluish green are told apart by all eyes.
+/// The colours, on a light and on a dark background: all eyes distinguish orange, sky blue and bluish green.
 ///
 /// No colour is a variable, since few programs but browsers know variables. Those for a dark background stand last, and
 /// a program that doesn't know how to ask for one leaves them out.

@@ -47,20 +47,20 @@ impl FactFormat for Picture<'_> {
         write_start(self.shape, &mut self.scratch, chunk, w)
     }
 
-    #[tactic(auto, using(sab_words::proofs::Telling::room_then))]
+    #[tactic(auto, using(sab_words::proofs::ChunkTexts::room_then))]
     fn write_entry<W: Write>(
         &mut self,
         plan: &Plan,
         sinces: &[Option<u32>],
         k: u32,
-        told: &Explained,
+        explained: &Explained,
         chunk: &mut Chunk,
         w: &mut W,
     ) -> io::Result<()> {
         chunk.make_room_for(ENTRY_ROOM, w)?;
         let scratch = &mut self.scratch;
         push_entry(
-            self.names, plan, self.shape, sinces, k, told, scratch, chunk,
+            self.names, plan, self.shape, sinces, k, explained, scratch, chunk,
         );
         Ok(())
     }

@@ -21,7 +21,7 @@ pub appends_last : {T E : Type 0} (r : Result T E) (a b c : Option (List ℕ)) (
     → OnOk r (Appends b c ys) → OnOk r (Appends a c (xs ++ ys))
 appends_last r a b c xs ys p q = on_ok_weaker r (appends_both a b c xs ys p) q
 
--- a chunk that is written keeps what was to be told
+-- a chunk that is written keeps what was to be written
 pub kept_out : (b c : Option (List ℕ)) (chunk : List ℕ) → Appends b c chunk
     → Keeps (append_known b chunk) (append_known c [])
 kept_out None c chunk p = tt
@@ -66,19 +66,19 @@ none_left (Some x) None all p = p
 none_left (Some x) (Some y) all p = rw (← append-nil y) p
 
 -- a piece is written, and the rest is left
-pub left_told : (a b y : Option (List ℕ)) (piece rest all : List ℕ) → Appends a (append_known b (piece ++ rest)) all
+pub left_written : (a b y : Option (List ℕ)) (piece rest all : List ℕ) → Appends a (append_known b (piece ++ rest)) all
     → Appends b y piece → Appends a (append_known y rest) all
-left_told None b y piece rest all p q = tt
-left_told (Some x) None y piece rest all p q = absurd p
-left_told (Some x) (Some z) None piece rest all p q = absurd q
-left_told (Some x) (Some z) (Some y) piece rest all p q = rw (q, append_assoc) p
+left_written None b y piece rest all p q = tt
+left_written (Some x) None y piece rest all p q = absurd p
+left_written (Some x) (Some z) None piece rest all p q = absurd q
+left_written (Some x) (Some z) (Some y) piece rest all p q = rw (q, append_assoc) p
 
 -- a piece goes into the chunk, and then bytes of the chunk may go out
 pub left_after : (a b y : Option (List ℕ)) (chunk piece rest all : List ℕ)
     → Appends a (append_known (append_known b chunk) (piece ++ rest)) all → Keeps (append_known b (chunk ++ piece)) y
     → Appends a (append_known y rest) all
 left_after a b y chunk piece rest all p q =
-    left_told a (append_known b chunk) y piece rest all p (kept_appended b y chunk piece q)
+    left_written a (append_known b chunk) y piece rest all p (kept_appended b y chunk piece q)
 
 -- the line of entry k, if it has one
 abbrev line_at : Lines → ℕ → Entry → List ℕ
@@ -108,7 +108,7 @@ pub blocks_after : (a b y : Option (List ℕ)) (bs : List (Vec ℕ Global)) (k :
     → Appends b y (block_line k (get_or bs k d).items)
     → Appends a (append_known y (block_lines (k + 1) (items_of_each (drop (k + 1) bs)))) all
 blocks_after a b y bs k d all h p q =
-    left_told a b y (block_line k (get_or bs k d).items) (block_lines (k + 1) (items_of_each (drop (k + 1) bs))) all
+    left_written a b y (block_line k (get_or bs k d).items) (block_lines (k + 1) (items_of_each (drop (k + 1) bs))) all
     (rw (blocks_left bs k d h) at p) q
 
 agents_left : (ps : List Progress) (k : ℕ) (d : Progress) → k < length ps

@@ -1,4 +1,4 @@
--- Choices of lines, formats and ways to tell a report that the derived `==` finds equal are the same.
+-- Choices of lines, formats and forms of a report that the derived `==` finds equal are the same.
 use Rattle.std.proofs.Common.{◌≡◌, true, rules}
 use denote.Enum.Bare.{same_true}
 use Rattle.std.proofs.lemmas.Bool.{and_parts}
@@ -11,8 +11,8 @@ use Rattle.sab_text.specs.contracts.format.FormatPartialEq.TheImpl as format
 use Rattle.sab_text.specs.declared.format.VerdictFormat.{VerdictFormat}
 use Rattle.sab_text.specs.contracts.format.VerdictFormat.{the_type as verdict_format_type}
 use Rattle.sab_text.specs.contracts.format.VerdictFormatPartialEq.TheImpl as verdict_format
-use Rattle.sab_text.specs.declared.format.Telling.{Telling}
-use Rattle.sab_text.specs.contracts.format.TellingPartialEq.TheImpl as telling
+use Rattle.sab_text.specs.declared.format.ReportForm.{ReportForm}
+use Rattle.sab_text.specs.contracts.format.ReportFormPartialEq.TheImpl as report_form
 
 pub same_lines : (x y : Lines) → (lines.ghosts).eq x y ≡ true → x ≡ y
 same_lines = same_true lines_type (search rules)
@@ -23,8 +23,8 @@ same_format = same_true format_type (search rules)
 pub same_verdict_format : (x y : VerdictFormat) → (verdict_format.ghosts).eq x y ≡ true → x ≡ y
 same_verdict_format = same_true verdict_format_type (search rules)
 
-pub same_telling : (x y : Telling) → (telling.ghosts).eq x y ≡ true → x ≡ y
-same_telling x y e =
+pub same_report_form : (x y : ReportForm) → (report_form.ghosts).eq x y ≡ true → x ≡ y
+same_report_form x y e =
     let parts = and_parts _ _ e in
     let format = same_format x.format y.format parts.0 in
     let lines = same_lines x.lines y.lines parts.1 in

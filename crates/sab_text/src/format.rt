@@ -26,7 +26,7 @@ pub enum VerdictFormat {
 
 /// How a report is written.
 #[derive(Clone, Copy, Debug, PartialEq, Eq)]
-pub struct Telling {
+pub struct ReportForm {
     /// Its format.
     pub format: Format,
     /// Which entries have a line.

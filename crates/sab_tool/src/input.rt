@@ -16,8 +16,8 @@ const _: () = prove!(MAX_INPUT == 1_048_576);
 
 /// Reads to the end.
 ///
-/// TooLong once more than 1,048,576 bytes came, ReadFailed at the first read that answers a fault, and OutOfMemory
-/// where there is no memory for what came. Each read but the last gives a byte at least, so that the reads are
+/// TooLong once more than 1,048,576 bytes came, ReadFailed at the first read that returns a fault, and OutOfMemory
+/// if there is no memory for what came. Each read except the last gives a byte at least, so that the reads are
 /// 1,048,577 at most.
 #[tactic(auto, using(crate::proofs::Consuming::consumes_both, crate::proofs::Consuming::consumed_all, crate::proofs::Consuming::consumed_long, crate::proofs::Consuming::consumes_none))]
 pub fn read_input<R: Read>(alloc: Global, r: &mut R) -> Result<Vec<u8>, ToolFault>

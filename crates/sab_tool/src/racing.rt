@@ -69,7 +69,7 @@ pub fn race_mixed<R: Threads + Wait + Sync, W: Write>(
     write_report(&report, w)
 }
 
-/// Runs the agents of a plan in threads, mixed by a seed, and answers the report of what happened.
+/// Runs the agents of a plan in threads, mixed by a seed, and returns the report of what happened.
 pub fn race_plan<R: Threads + Wait + Sync>(
     rt: &R,
     alloc: Global,

@@ -27,7 +27,7 @@ pub fn replay_bytes<W: Write>(alloc: Global, script: &[u8], w: &mut W) -> Result
     write_report(&report, w)
 }
 
-/// Makes the moves of a schedule, at most 2^20 and each of an agent of the plan, and answers their report.
+/// Makes the moves of a schedule, at most 2^20 and each of an agent of the plan, and returns their report.
 pub fn replay_moves(alloc: Global, plan: Plan, schedule: &[Move]) -> Result<Report, AllocError>
     requires few { length schedule.now ≤ MAX_ENTRIES }
     requires named { All (λ m. agent_of m < length plan.scripts) schedule.now }

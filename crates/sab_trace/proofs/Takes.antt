@@ -95,7 +95,7 @@ takes_size name token old slot named f =
     (λ source. ap (λ o. Some (codes "size", option_map whole o)) f.2) (λ source. refl))
 
 pub takes_source : (name : List ℕ) (token : Token) (old : Found) → name ≡ codes "source" → old.has_source ≡ false
-    → (told : Option (List ℕ)) × ReadsTo token (source_data told)
+    → (source_found : Option (List ℕ)) × ReadsTo token (source_data source_found)
     → Takes name token old (record old { has_source = true })
 takes_source name token old named empty t =
     rw named (

@@ -5,7 +5,7 @@ use Rattle.sab_trace.specs.declared.deed.Deed.{Deed}
 use Rattle.sab_trace.specs.declared.flags.Flags.{Flags}
 use Rattle.sab_trace.specs.Deeds.{word_of, CanHave}
 
--- a place in the code, if one is told
+-- a place in the code, if one is given
 abbrev pub source_data : Option (List ℕ) → Data
 source_data None = null
 source_data (Some text) = string text

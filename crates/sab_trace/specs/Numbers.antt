@@ -29,7 +29,7 @@ pub record AreNumbers (values : Values) (numbers : Numbers) : Type 0 where
   pub event : IsWhole values.event numbers.event
   pub size : IsWhole values.size numbers.size
 
--- they tell this position, a call, and if the event acts, a size that goes with what it does
+-- they give this position, a call, and if the event acts, a size that goes with what it does
 pub record Fit (position : ℕ) (does : Deed) (flags : Flags) (numbers : Numbers) : Type 0 where
   pub at_position : numbers.event ≡ pos position
   pub from_zero : pos 0 ≤ℤ numbers.call
@@ -45,7 +45,7 @@ pub record IsAgent (numbers : Numbers) (agent : ℕ) : Type 0 where
   pub is : numbers.agent ≡ pos agent
   pub below : agent < 16
 
--- they tell so many bytes from the place on, one at least, which are there
+-- they give so many bytes from the place on, one at least, which are there
 pub record AreBytes (numbers : Numbers) (place : Place) (len : ℕ) : Type 0 where
   pub block : numbers.block ≡ pos place.block
   pub byte : numbers.byte ≡ pos place.byte

@@ -26,7 +26,7 @@ IsFaultAt position line OutOfMemory = ⊤
 IsFaultAt position line ReadFailed = ⊤
 IsFaultAt position line fault = IsSomeAnd line (λ bytes. IsLineFault position bytes fault)
 
--- the lines before the one that is told spell events, and that one has the fault
+-- the lines before the one that is reported spell events, and that one has the fault
 pub record IsRefusedBy (bytes : List ℕ) (refusal : Refusal) : Type 0 where
   pub events : List Event
   pub number : refusal.line ≡ length events + 1

@@ -49,7 +49,7 @@ members_of (slot ∷ slots) = with_tree slot.0 slot.1 (members_of slots)
 -- one more member was read
 abbrev pub Takes : List ℕ → Token → Found → Found → Type 0
 Takes name token old new = (tree : Data) × ReadsTo token tree × ((source : Option (List ℕ))
-    → (told : Option (List ℕ)) × (put name tree (members_of (slots_of old source)) ≡ members_of (slots_of new told)))
+    → (source_found : Option (List ℕ)) × (put name tree (members_of (slots_of old source)) ≡ members_of (slots_of new source_found)))
 
 -- the numbers that were read
 pub record HasNumbersOf (found : Found) (numbers : Numbers) : Type 0 where

@@ -1,4 +1,4 @@
-//! Reads traces of the recorder: from lines of JSON, each of which tells an event, to the events that a judge takes.
+//! Reads traces of the recorder: from lines of JSON, each of which reports an event, to the events that a judge takes.
 #![tactic(auto)]
 
 mod deed;

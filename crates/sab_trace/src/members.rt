@@ -106,7 +106,7 @@ fn deed(rest: &mut Rest<'_>) -> Option<Deed>
     }
 }
 
-/// Passes the next member, if it tells a source, or that none is known.
+/// Passes the next member, if it names a source, or that none is known.
 fn source(rest: &mut Rest<'_>) -> Option<()>
     ensures some { IfSome result (λ _. (source : Option (List ℕ))
         × (members_view rest.old ≡ member_then (codes "source") (source_data source) (members_view rest.new))) }

@@ -16,7 +16,7 @@ impl Said {
     ghost use Rattle.std.specs.Prelude.{◌↔◌, IsTrue};
     ghost use Rattle.sab_trace.specs.Numbers.{Fit};
 
-    /// Whether the numbers are right for an event at a position: they tell the position, a call, and a size that goes
+    /// Whether the numbers are right for an event at a position: they give the position, a call, and a size that goes
     /// with what the event does.
     pub(crate) fn fits(&self, position: u32) -> bool
         ensures { IsTrue result ↔ Fit position self.now.does self.now.flags self.now.numbers }

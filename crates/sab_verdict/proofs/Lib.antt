@@ -1,6 +1,6 @@
 pub mod Racing
 pub mod Counting
 pub mod Texts
-pub mod Telling
+pub mod RaceLines
 pub mod TreesRead
 pub mod LinesRead

@@ -16,7 +16,7 @@ use Rattle.sab_judge.specs.declared.event.Event.{Event}
 use Rattle.sab_judge.specs.declared.race.Race.{Race}
 use Rattle.sab_judge.specs.Event.{idle_event, event_at, agent_at}
 use Rattle.sab_judge.specs.Trace.{HasBytes, IsWithinLimits, IsTrace}
-use Rattle.sab_judge.specs.Verdict.{IsLastSeen, IsTold}
+use Rattle.sab_judge.specs.Verdict.{IsLastSeen, IsReported}
 use Rattle.sab_judge.proofs.LastSteps.{before_earlier}
 use Rattle.sab_json.specs.CallData.{natural, call_data}
 use Rattle.sab_json.specs.SafeNumbers.{HasSafeNumbers}
@@ -55,7 +55,7 @@ event_short trace k is = elim (cases_lt k (length trace)) [
 position_short : (trace : List Event) (k : ℕ) → IsTrace trace → k < length trace → k < 2 ^ 64
 position_short trace k is within = omega (arith, is.short)
 
--- ---- the two ways of telling an event
+-- ---- the two ways to report an event
 
 does_short_at : (names : List (List ℕ)) (plan : PlanParts) (o : Option Entry) → HasSafeNumbers plan
     → IfSome (option_map (call_data names) (call_in plan o)) HasShortNumbers
@@ -64,11 +64,11 @@ does_short_at names plan (Some e) safe =
     does_short names plan e.agent e.call (call_of plan e.agent e.call) safe refl
 
 -- each event of a trace is written with short numbers
-abbrev TellsShort : (Side → Data) → List Event → Type 0
-TellsShort tell trace = (k : ℕ) → k < length trace → HasShortNumbers (tell (side_at trace k))
+abbrev HaveShortSides : (Side → Data) → List Event → Type 0
+HaveShortSides side_data trace = (k : ℕ) → k < length trace → HasShortNumbers (side_data (side_at trace k))
 
 call_side_short : (names : List (List ℕ)) (plan : PlanParts) (journal : List Entry) (trace : List Event)
-    → HasSafeNumbers plan → IsTrace trace → TellsShort (call_side names plan journal) trace
+    → HasSafeNumbers plan → IsTrace trace → HaveShortSides (call_side names plan journal) trace
 unfolding call_side
 call_side_short names plan journal trace safe is k within =
     let e = event_short trace k is in
@@ -78,7 +78,7 @@ call_side_short names plan journal trace safe is k within =
           (does_short_at names plan (slice_get journal k) safe) (position_short trace k is within, tt),
     )
 
-access_side_short : (trace : List Event) → IsTrace trace → TellsShort access_side trace
+access_side_short : (trace : List Event) → IsTrace trace → HaveShortSides access_side trace
 unfolding access_side
 access_side_short trace is k within =
     let e = event_short trace k is in
@@ -97,10 +97,10 @@ seen_short trace agent j (Some m) is within seen =
     let earlier = before_earlier seen.1 in
     omega (arith, earlier, is.short)
 
-race_short : (tell : Side → Data) (trace : List Event) (race : Race) → IsTrace trace → TellsShort tell trace
-    → IsTold trace race → HasShortNumbers (race_data tell race (side_at trace race.first) (side_at trace race.second))
+race_short : (side_data : Side → Data) (trace : List Event) (race : Race) → IsTrace trace → HaveShortSides side_data trace
+    → IsReported trace race → HasShortNumbers (race_data side_data race (side_at trace race.first) (side_at trace race.second))
 unfolding race_data
-race_short tell trace race is tells told =
+race_short side_data trace race is short_sides reported =
     let a = access_in (event_at trace race.first).access in
     let b = access_in (event_at trace race.second).access in
     let first = event_short trace race.first is in
@@ -109,17 +109,17 @@ race_short tell trace race is tells told =
     let block : a.place.block < 2 ^ 64 = omega (arith, first.bytes.0) in
     let byte : shared.start < 2 ^ 64 = omega (arith, first.bytes.1, second.bytes.1) in
     let size : shared.end - shared.start < 2 ^ 64 = omega (arith, first.bytes.1) in
-    let seen = seen_short trace (agent_at trace race.first) race.second race.seen is (second_within trace race told)
-    told.seen in (
+    let seen = seen_short trace (agent_at trace race.first) race.second race.seen is (second_within trace race reported)
+    reported.seen in (
       block,
       (
         byte,
         (
           tt,
           (
-            tells race.first (first_within trace race told),
+            short_sides race.first (first_within trace race reported),
             (
-              tells race.second (second_within trace race told),
+              short_sides race.second (second_within trace race reported),
               short_if (codes "seen") (option_map natural race.seen) _ seen (size, tt),
             ),
           ),
@@ -127,43 +127,43 @@ race_short tell trace race is tells told =
       ),
     )
 
-count_short : (judged : List ℕ) (trace : List Event) (told rest data_races : ℕ) → IsTrace trace → told < 2 ^ 64 → rest < 2 ^ 64
-    → data_races < 2 ^ 64 → HasShortNumbers (count_data judged trace told rest data_races)
+count_short : (judged : List ℕ) (trace : List Event) (reported rest data_races : ℕ) → IsTrace trace → reported < 2 ^ 64 → rest < 2 ^ 64
+    → data_races < 2 ^ 64 → HasShortNumbers (count_data judged trace reported rest data_races)
 unfolding count_data accesses_of agents_of
-count_short judged trace told rest data_races is few more some =
+count_short judged trace reported rest data_races is few more some =
     let accesses : accesses_of trace < 2 ^ 64 = omega (arith, count_by-le-length has_access trace, is.short) in
     let agents : agents_of trace < 2 ^ 64 =
     omega (arith, count_by-le-length (is_accessing trace) (range_with_len 0 16), length-range_with_len 0 16) in
     (accesses, (agents, (some, (tt, (more, (few, tt))))))
 
-lines_read_back : (tell : Side → Data) (judged : List ℕ) (trace : List Event) (told : List Race) (rest data_races : ℕ)
-    → ((side : Side) → IsInOrder 126 (tell side)) → TellsShort tell trace → IsTrace trace → All (IsTold trace) told
-    → length told < 2 ^ 64 → rest < 2 ^ 64 → data_races < 2 ^ 64 → LinesReadBack tell judged trace told rest data_races
-lines_read_back tell judged trace told rest data_races order short is all few more some = record {
+lines_read_back : (side_data : Side → Data) (judged : List ℕ) (trace : List Event) (reported : List Race) (rest data_races : ℕ)
+    → ((side : Side) → IsInOrder 126 (side_data side)) → HaveShortSides side_data trace → IsTrace trace → All (IsReported trace) reported
+    → length reported < 2 ^ 64 → rest < 2 ^ 64 → data_races < 2 ^ 64 → LinesReadBack side_data judged trace reported rest data_races
+lines_read_back side_data judged trace reported rest data_races order short is all few more some = record {
   races =
-      All-weaker (IsTold trace) (RaceReadsBack tell trace)
-      (λ race is_told. reads_back
-      (race_data tell race (side_at trace race.first) (side_at trace race.second))
-      (race_in_order 126 tell order race (side_at trace race.first) (side_at trace race.second))
-      (race_short tell trace race is short is_told))
-      told all;
+      All-weaker (IsReported trace) (RaceReadsBack side_data trace)
+      (λ race is_reported. reads_back
+      (race_data side_data race (side_at trace race.first) (side_at trace race.second))
+      (race_in_order 126 side_data order race (side_at trace race.first) (side_at trace race.second))
+      (race_short side_data trace race is short is_reported))
+      reported all;
   count =
-      reads_back (count_data judged trace (length told) rest data_races)
-      (count_in_order 126 judged trace (length told) rest data_races)
-      (count_short judged trace (length told) rest data_races is few more some);
+      reads_back (count_data judged trace (length reported) rest data_races)
+      (count_in_order 126 judged trace (length reported) rest data_races)
+      (count_short judged trace (length reported) rest data_races is few more some);
 }
 
 pub run_lines_read_back : (names : List (List ℕ)) (plan : PlanParts) (journal : List Entry) (trace : List Event)
-    (told : List Race) (rest data_races : ℕ) → IsTrace trace → All (IsTold trace) told → length told < 2 ^ 64
+    (reported : List Race) (rest data_races : ℕ) → IsTrace trace → All (IsReported trace) reported → length reported < 2 ^ 64
     → rest < 2 ^ 64 → data_races < 2 ^ 64 → HasSafeNumbers plan
-    → LinesReadBack (call_side names plan journal) judged_calls trace told rest data_races
-run_lines_read_back names plan journal trace told rest data_races is all few more some safe =
-    lines_read_back (call_side names plan journal) judged_calls trace told rest data_races
+    → LinesReadBack (call_side names plan journal) judged_calls trace reported rest data_races
+run_lines_read_back names plan journal trace reported rest data_races is all few more some safe =
+    lines_read_back (call_side names plan journal) judged_calls trace reported rest data_races
     (call_side_in_order 124 names plan journal) (call_side_short names plan journal trace safe is) is all few more some
 
-pub trace_lines_read_back : (trace : List Event) (told : List Race) (rest data_races : ℕ) → IsTrace trace
-    → All (IsTold trace) told → length told < 2 ^ 64 → rest < 2 ^ 64 → data_races < 2 ^ 64
-    → LinesReadBack access_side judged_trace trace told rest data_races
-trace_lines_read_back trace told rest data_races is all few more some =
-    lines_read_back access_side judged_trace trace told rest data_races (access_side_in_order 125)
+pub trace_lines_read_back : (trace : List Event) (reported : List Race) (rest data_races : ℕ) → IsTrace trace
+    → All (IsReported trace) reported → length reported < 2 ^ 64 → rest < 2 ^ 64 → data_races < 2 ^ 64
+    → LinesReadBack access_side judged_trace trace reported rest data_races
+trace_lines_read_back trace reported rest data_races is all few more some =
+    lines_read_back access_side judged_trace trace reported rest data_races (access_side_in_order 125)
     (access_side_short trace is) is all few more some

@@ -7,17 +7,17 @@ use Rattle.sab_judge.specs.declared.event.Event.{Event}
 use Rattle.sab_judge.specs.declared.race.Race.{Race}
 use Rattle.sab_judge.specs.Access.{overlap, conflict, are_atomic_alike}
 use Rattle.sab_judge.specs.Event.{event_at, both_are}
-use Rattle.sab_judge.specs.Verdict.{IsTold}
+use Rattle.sab_judge.specs.Verdict.{IsReported}
 use Rattle.sab_verdict.specs.declared.side.Side.{Side}
 use Rattle.sab_verdict.specs.Events.{has_access, access_in, side_at, range_of, overlap_of, Overlap}
 
-pub first_within : (trace : List Event) (race : Race) → IsTold trace race → race.first < length trace
+pub first_within : (trace : List Event) (race : Race) → IsReported trace race → race.first < length trace
 first_within trace race t =
     let early = t.is_race.earlier in
     let late = t.is_race.within in
     omega (arith, early, late)
 
-pub second_within : (trace : List Event) (race : Race) → IsTold trace race → race.second < length trace
+pub second_within : (trace : List Event) (race : Race) → IsReported trace race → race.second < length trace
 second_within trace race t = t.is_race.within
 
 -- ---- accesses
@@ -37,17 +37,17 @@ both_overlap None (Some b) e = absurd (false≢true e)
 both_overlap (Some a) (Some b) e =
     (and_parts (overlap a b) ((a.writes || b.writes) && not (are_atomic_alike a b)) e).0
 
-pub first_accesses : (trace : List Event) (race : Race) → IsTold trace race
+pub first_accesses : (trace : List Event) (race : Race) → IsReported trace race
     → IsTrue (has_access (event_at trace race.first))
 first_accesses trace race t =
     first_has (event_at trace race.first).access (event_at trace race.second).access t.is_race.conflict
 
-pub second_accesses : (trace : List Event) (race : Race) → IsTold trace race
+pub second_accesses : (trace : List Event) (race : Race) → IsReported trace race
     → IsTrue (has_access (event_at trace race.second))
 second_accesses trace race t =
     second_has (event_at trace race.first).access (event_at trace race.second).access t.is_race.conflict
 
-pub they_overlap : (trace : List Event) (race : Race) → IsTold trace race
+pub they_overlap : (trace : List Event) (race : Race) → IsReported trace race
     → Overlap (side_at trace race.first) (side_at trace race.second)
 they_overlap trace race t =
     both_overlap (event_at trace race.first).access (event_at trace race.second).access t.is_race.conflict

@@ -37,30 +37,30 @@ pub access_side_json : (side : Side)
 unfolding access_side escape_byte
 access_side_json side = refl
 
-pub race_json : (tell : Side → Data) (race : Race) (first second : Side)
-    → compact_text (race_data tell race first second) ≡ codes "{\"block\":" ++ (decimal first.access.place.block
+pub race_json : (side_data : Side → Data) (race : Race) (first second : Side)
+    → compact_text (race_data side_data race first second) ≡ codes "{\"block\":" ++ (decimal first.access.place.block
     ++ (codes ",\"byte\":" ++ (decimal (overlap_of first.access second.access).start
     ++ (codes ",\"data_race\":" ++ (compact_text (boolean race.is_data_race)
-    ++ (codes ",\"first\":" ++ (compact_text (tell first) ++ (codes ",\"second\":" ++ (compact_text (tell second)
+    ++ (codes ",\"first\":" ++ (compact_text (side_data first) ++ (codes ",\"second\":" ++ (compact_text (side_data second)
     ++ (member_text_if (codes "seen") (option_map natural race.seen)
     ++ (codes ",\"size\":" ++ (decimal
     ((overlap_of first.access second.access).end - (overlap_of first.access second.access).start)
     ++ codes "}"))))))))))))
 unfolding race_data escape_byte
-race_json tell race first second =
+race_json side_data race first second =
     let shared = overlap_of first.access second.access in
     ap (λ (s : List ℕ). codes "{\"block\":" ++ (decimal first.access.place.block
     ++ (codes ",\"byte\":" ++ (decimal shared.start
     ++ (codes ",\"data_race\":" ++ (compact_text (boolean race.is_data_race)
-    ++ (codes ",\"first\":" ++ (compact_text (tell first) ++ (codes ",\"second\":" ++ (compact_text (tell second)
+    ++ (codes ",\"first\":" ++ (compact_text (side_data first) ++ (codes ",\"second\":" ++ (compact_text (side_data second)
     ++ s))))))))))
     (member_before (codes "seen") (option_map natural race.seen)
     (member (codes "size") (natural (shared.end - shared.start)) no_members) refl)
 
-pub count_json : (judged : List ℕ) (trace : List Event) (told rest data_races : ℕ)
-    → compact_text (count_data judged trace told rest data_races) ≡ codes "{\"accesses\":" ++ (decimal (accesses_of trace)
+pub count_json : (judged : List ℕ) (trace : List Event) (reported rest data_races : ℕ)
+    → compact_text (count_data judged trace reported rest data_races) ≡ codes "{\"accesses\":" ++ (decimal (accesses_of trace)
     ++ (codes ",\"agents\":" ++ (decimal (agents_of trace) ++ (codes ",\"data_races\":" ++ (decimal data_races
     ++ (codes ",\"judged\":" ++ (compact_text (string judged)
-    ++ (codes ",\"more\":" ++ (decimal rest ++ (codes ",\"races\":" ++ (decimal told ++ codes "}")))))))))))
+    ++ (codes ",\"more\":" ++ (decimal rest ++ (codes ",\"races\":" ++ (decimal reported ++ codes "}")))))))))))
 unfolding count_data escape_byte
-count_json judged trace told rest data_races = refl
+count_json judged trace reported rest data_races = refl

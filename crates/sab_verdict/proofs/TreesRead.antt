@@ -31,16 +31,16 @@ unfolding access_side
 access_side_in_order n side =
     (tt, (refl, (tt, (refl, (tt, (refl, (tt, (refl, (tt, (refl, (tt, (refl, (tt, tt)))))))))))))
 
-pub race_in_order : (n : ℕ) (tell : Side → Data) → ((side : Side) → IsInOrder n (tell side)) → (race : Race)
-    (first second : Side) → IsInOrder (suc n) (race_data tell race first second)
+pub race_in_order : (n : ℕ) (side_data : Side → Data) → ((side : Side) → IsInOrder n (side_data side)) → (race : Race)
+    (first second : Side) → IsInOrder (suc n) (race_data side_data race first second)
 unfolding race_data
-race_in_order n tell each race first second =
+race_in_order n side_data each race first second =
     let seen = follow_if n (codes "second") (codes "seen") (option_map natural race.seen) _ refl
     (since_in_order n race.seen) (refl, (tt, tt)) in
     (tt, (refl, (tt, (refl, (tt, (refl, (each first, (refl, (each second, seen)))))))))
 
-pub count_in_order : (n : ℕ) (judged : List ℕ) (trace : List Event) (told rest data_races : ℕ)
-    → IsInOrder (suc n) (count_data judged trace told rest data_races)
+pub count_in_order : (n : ℕ) (judged : List ℕ) (trace : List Event) (reported rest data_races : ℕ)
+    → IsInOrder (suc n) (count_data judged trace reported rest data_races)
 unfolding count_data
-count_in_order n judged trace told rest data_races =
+count_in_order n judged trace reported rest data_races =
     (tt, (refl, (tt, (refl, (tt, (refl, (tt, (refl, (tt, (refl, (tt, tt)))))))))))

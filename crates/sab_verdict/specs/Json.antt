@@ -29,11 +29,11 @@ access_side side =
 
 -- a race of two events
 unfoldable pub race_data : (Side → Data) → Race → Side → Side → Data
-race_data tell race first second =
+race_data side_data race first second =
     let shared = overlap_of first.access second.access in
     object (member (codes "block") (natural first.access.place.block) (member (codes "byte") (natural shared.start)
-    (member (codes "data_race") (boolean race.is_data_race) (member (codes "first") (tell first)
-    (member (codes "second") (tell second) (member_if (codes "seen") (option_map natural race.seen)
+    (member (codes "data_race") (boolean race.is_data_race) (member (codes "first") (side_data first)
+    (member (codes "second") (side_data second) (member_if (codes "seen") (option_map natural race.seen)
     (member (codes "size") (natural (shared.end - shared.start)) no_members)))))))
 
 -- what is judged: a script's calls of Atomics, or a trace
@@ -46,7 +46,7 @@ judged_trace = codes "a trace"
 -- how many accesses and agents there are; how many of all races are data races; what is judged; how many races aren't
 -- listed, and how many are
 unfoldable pub count_data : List ℕ → List Event → ℕ → ℕ → ℕ → Data
-count_data judged trace told rest data_races =
+count_data judged trace reported rest data_races =
     object (member (codes "accesses") (natural (accesses_of trace)) (member (codes "agents") (natural (agents_of trace))
     (member (codes "data_races") (natural data_races) (member (codes "judged") (string judged)
-    (member (codes "more") (natural rest) (member (codes "races") (natural told) no_members))))))
+    (member (codes "more") (natural rest) (member (codes "races") (natural reported) no_members))))))

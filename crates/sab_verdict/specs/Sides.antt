@@ -1,4 +1,4 @@
--- What each way of telling a race's events stands for.
+-- What each way to report a race's events stands for.
 use Rattle.std.specs.Prelude.{ℕ, List, [], ⊤}
 use Rattle.serde_json.specs.Data.{Data}
 use Rattle.sab_json.specs.CallData.{AreNames}

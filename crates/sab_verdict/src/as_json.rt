@@ -150,14 +150,14 @@ fn push_seen(seen: Option<usize>, chunk: &mut Chunk)
 pub(crate) fn push_count(
     sides: &Sides,
     events: &[Event],
-    told: usize,
+    reported: usize,
     rest: u64,
     data_races: u64,
     chunk: &mut Chunk,
 )
     requires agents { All (λ (e : Event). e.agent < 16) events.now }
     requires room { length chunk.old + Chunk.LINE_ROOM ≤ Chunk.ROOM }
-    ensures { chunk.new ≡ chunk.old ++ line (count_data (judged_of sides.now) events.now told rest data_races) }
+    ensures { chunk.new ≡ chunk.old ++ line (count_data (judged_of sides.now) events.now reported rest data_races) }
 {
     chunk.push(b"{\"accesses\":");
     chunk.push_number(count_accesses(events) as u64);
@@ -170,7 +170,7 @@ pub(crate) fn push_count(
     chunk.push(b",\"more\":");
     chunk.push_number(rest);
     chunk.push(b",\"races\":");
-    chunk.push_number(told as u64);
+    chunk.push_number(reported as u64);
     chunk.push(b"}");
     chunk.push(b"\n");
 }

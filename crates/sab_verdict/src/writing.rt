@@ -4,7 +4,7 @@ ghost use Rattle.std.specs.Prelude.{◌≡◌, ◌+◌, ◌^◌, ◌<◌, ◌≤
 ghost use Rattle.std.specs.Io.KnownBytes.{Appends, append_known};
 ghost use Rattle.sab_judge.specs.declared.event.Event.{Event};
 ghost use Rattle.sab_judge.specs.Trace.{IsTrace};
-ghost use Rattle.sab_judge.specs.Verdict.{IsTold};
+ghost use Rattle.sab_judge.specs.Verdict.{IsReported};
 ghost use Rattle.sab_json.specs.CallData.{AreNames};
 ghost use Rattle.sab_json.specs.SafeNumbers.{HasSafeNumbers};
 ghost use Rattle.sab_verdict.specs.Json.{call_side, access_side, judged_calls, judged_trace};
@@ -39,7 +39,7 @@ pub fn write_run_verdict<W: Write>(
     w: &mut W,
 ) -> io::Result<()>
     requires names { AreNames names.now }
-    requires told { All (IsTold trace.now) verdict.now.races.items }
+    requires reported { All (IsReported trace.now) verdict.now.races.items }
     ensures written { OnOk result (Appends (W.contents w.old) (W.contents w.new) (run_verdict_text names.now plan.now
         journal.now trace.now format verdict.now.races.items verdict.now.rest verdict.now.data_races)) }
     ensures read_back { HasSafeNumbers plan.now → LinesReadBack (call_side names.now plan.now journal.now)
@@ -65,7 +65,7 @@ pub fn write_trace_verdict<W: Write>(
     format: VerdictFormat,
     w: &mut W,
 ) -> io::Result<()>
-    requires { All (IsTold trace.now) verdict.now.races.items }
+    requires { All (IsReported trace.now) verdict.now.races.items }
     ensures written { OnOk result (Appends (W.contents w.old) (W.contents w.new)
         (trace_verdict_text trace.now format verdict.now.races.items verdict.now.rest verdict.now.data_races)) }
     ensures read_back { LinesReadBack access_side judged_trace trace.now verdict.now.races.items verdict.now.rest
@@ -84,7 +84,7 @@ fn write_verdict<W: Write>(
     w: &mut W,
 ) -> io::Result<()>
     requires names { HaveNames sides.now }
-    requires told { All (IsTold trace.now) verdict.now.races.items }
+    requires reported { All (IsReported trace.now) verdict.now.races.items }
     ensures written { OnOk result (Appends (W.contents w.old) (W.contents w.new) (verdict_text format
         (words_of sides.now) (data_of sides.now) (whose_of sides.now) (judged_of sides.now) trace.now
         verdict.now.races.items verdict.now.rest verdict.now.data_races)) }
@@ -110,7 +110,7 @@ fn write_verdict<W: Write>(
 }
 
 /// Writes a line for each race; the last lines may stay in the chunk.
-#[tactic(auto, using(sab_text::proofs::Appending::all_left, sab_text::proofs::Appending::none_left, crate::proofs::Telling::races_after))]
+#[tactic(auto, using(sab_text::proofs::Appending::all_left, sab_text::proofs::Appending::none_left, crate::proofs::RaceLines::races_after))]
 fn write_races<W: Write>(
     sides: &Sides,
     events: &[Event],
@@ -120,7 +120,7 @@ fn write_races<W: Write>(
     w: &mut W,
 ) -> io::Result<()>
     requires names { HaveNames sides.now }
-    requires told { All (IsTold events.now) races.now }
+    requires reported { All (IsReported events.now) races.now }
     requires room { length chunk.old + Chunk.LINE_ROOM ≤ Chunk.ROOM }
     ensures appended { OnOk result (Appends (append_known (W.contents w.old) chunk.old)
         (append_known (W.contents w.new) chunk.new)
@@ -138,7 +138,7 @@ fn write_races<W: Write>(
 #[tactic(auto, using(crate::proofs::Racing::first_within, crate::proofs::Racing::second_within, crate::proofs::Racing::first_accesses, crate::proofs::Racing::second_accesses, crate::proofs::Racing::they_overlap))]
 fn push_race(sides: &Sides, events: &[Event], race: Race, format: VerdictFormat, chunk: &mut Chunk)
     requires names { HaveNames sides.now }
-    requires told { IsTold events.now race }
+    requires reported { IsReported events.now race }
     requires room { length chunk.old + Chunk.LINE_ROOM ≤ Chunk.ROOM }
     ensures { chunk.new ≡ chunk.old ++ line_of format (words_of sides.now) (data_of sides.now) events.now race }
 {

@@ -1,4 +1,4 @@
 pub mod Measuring
 pub mod Pieces
 pub mod Stuck
-pub mod Telling
+pub mod ChunkTexts

@@ -1,4 +1,4 @@
--- Formats that tell the facts of a run.
+-- Formats that report the facts of a run.
 use Rattle.std.specs.Prelude.{ℕ, ◌+◌, if◌then◌else◌, List, [], ◌∷◌, ◌++◌, replicate, Option, Some, None, slice_set}
 use Rattle.sab_plan.specs.declared.entry.Entry.{Entry}
 use Rattle.sab_plan.specs.Entry.{is_stuck}

@@ -36,15 +36,15 @@ pub fn push_explained(
     layout: Layout,
     sinces: &[Option<u32>],
     k: usize,
-    told: &Explained,
+    explained: &Explained,
     chunk: &mut Chunk,
 )
     requires { length chunk.old + Chunk.LINE_ROOM ≤ Chunk.ROOM }
-    ensures { chunk.new ≡ chunk.old ++ line_if layout.lines told.now.entry.what
-        (explained_line layout.column.at names.now plan.now sinces.now k told.now.entry told.now.fact) }
+    ensures { chunk.new ≡ chunk.old ++ line_if layout.lines explained.now.entry.what
+        (explained_line layout.column.at names.now plan.now sinces.now k explained.now.entry explained.now.fact) }
 {
-    if layout.lines.has(told.entry.what) {
-        push_line(names, plan, layout.column, sinces, k, told, chunk);
+    if layout.lines.has(explained.entry.what) {
+        push_line(names, plan, layout.column, sinces, k, explained, chunk);
     }
 }
 
@@ -55,17 +55,24 @@ fn push_line(
     column: Column,
     sinces: &[Option<u32>],
     k: usize,
-    told: &Explained,
+    explained: &Explained,
     chunk: &mut Chunk,
 )
     requires { length chunk.old + Chunk.LINE_ROOM ≤ Chunk.ROOM }
     ensures { chunk.new
-        ≡ chunk.old ++ explained_line column.at names.now plan.now sinces.now k told.now.entry told.now.fact }
+        ≡ chunk.old ++ explained_line column.at names.now plan.now sinces.now k explained.now.entry explained.now.fact }
 {
     let mut line = Line::new();
-    prepend_entry(k, &told.entry, &mut line);
+    prepend_entry(k, &explained.entry, &mut line);
     push_spaced(line.bytes(), column, chunk);
-    push_words(names, plan, sinces, &told.entry, &told.fact, chunk);
+    push_words(
+        names,
+        plan,
+        sinces,
+        &explained.entry,
+        &explained.fact,
+        chunk,
+    );
     chunk.push(b"\n");
 }
 

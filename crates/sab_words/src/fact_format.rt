@@ -1,4 +1,4 @@
-//! Formats of reports that tell facts.
+//! Formats of reports that report facts.
 
 ghost use Rattle.std.specs.Prelude.{◌≡◌, ◌<◌, ◌^◌, length, OnOk};
 ghost use Rattle.std.specs.Io.KnownBytes.{Appends, append_known};
@@ -8,7 +8,7 @@ use sab_text::Chunk;
 use std::io;
 use std::io::Write;
 
-/// A format of reports that tell facts: what stands first, a text for each entry, and what stands last.
+/// A format of reports that report facts: what stands first, a text for each entry, and what stands last.
 ///
 /// A text goes behind what the chunk holds, which is written where it has too little room. No method takes memory or
 /// flushes. Where a write failed nothing is said of how much was written.
@@ -32,14 +32,14 @@ pub trait FactFormat {
         plan: &Plan,
         sinces: &[Option<u32>],
         k: u32,
-        told: &Explained,
+        explained: &Explained,
         chunk: &mut Chunk,
         w: &mut W,
     ) -> io::Result<()>
         ensures same { texts self.new ≡ texts self.old }
         ensures written { OnOk result (Appends (append_known (W.contents w.old) chunk.old)
             (append_known (W.contents w.new) chunk.new)
-            ((texts self.old).entry plan.now sinces.now k told.now.entry told.now.fact)) };
+            ((texts self.old).entry plan.now sinces.now k explained.now.entry explained.now.fact)) };
 
     /// Writes what stands behind the entries of a report, and what the chunk holds.
     fn write_end<W: Write>(

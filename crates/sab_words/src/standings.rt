@@ -14,7 +14,7 @@ use std::io::Write;
 
 /// Writes a line for each agent, with words behind it where some of its calls haven't returned; the last lines may stay
 /// in the chunk.
-#[tactic(auto, using(sab_text::proofs::Appending::all_left, sab_text::proofs::Appending::none_left, crate::proofs::Telling::standings_after))]
+#[tactic(auto, using(sab_text::proofs::Appending::all_left, sab_text::proofs::Appending::none_left, crate::proofs::ChunkTexts::standings_after))]
 pub(crate) fn write_standings<W: Write>(
     names: &[Name],
     standings: &[Option<Standing>],

@@ -26,28 +26,28 @@ impl FactFormat for Words<'_> {
 
     ghost texts = { λ f. words_texts f.layout.column.at f.names.now f.layout.lines };
 
-    #[tactic(auto, using(crate::proofs::Telling::appends_none))]
+    #[tactic(auto, using(crate::proofs::ChunkTexts::appends_none))]
     fn write_start<W: Write>(&mut self, _chunk: &mut Chunk, _w: &mut W) -> io::Result<()> {
         Ok(())
     }
 
-    #[tactic(auto, using(crate::proofs::Telling::room_then))]
+    #[tactic(auto, using(crate::proofs::ChunkTexts::room_then))]
     fn write_entry<W: Write>(
         &mut self,
         plan: &Plan,
         sinces: &[Option<u32>],
         k: u32,
-        told: &Explained,
+        explained: &Explained,
         chunk: &mut Chunk,
         w: &mut W,
     ) -> io::Result<()> {
         chunk.make_room(w)?;
         let k = k as usize;
-        push_explained(self.names, plan, self.layout, sinces, k, told, chunk);
+        push_explained(self.names, plan, self.layout, sinces, k, explained, chunk);
         Ok(())
     }
 
-    #[tactic(auto, using(sab_text::proofs::Appending::appends_both, crate::proofs::Telling::kept_then, crate::proofs::Telling::told_out))]
+    #[tactic(auto, using(sab_text::proofs::Appending::appends_both, crate::proofs::ChunkTexts::kept_then, crate::proofs::ChunkTexts::chunk_written_out))]
     fn write_end<W: Write>(
         &mut self,
         report: &Report,

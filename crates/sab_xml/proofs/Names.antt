@@ -14,10 +14,10 @@ both false b h = grind arith
 
 all_tested : {X : Type 0} (p : X → Bool) (P : X → Type 0) → ((x : X) → p x ≡ true → P x) → (xs : List X)
     → list_all p xs ≡ true → All P xs
-all_tested p P tells [] h = All-nil P
-all_tested p P tells (x ∷ xs) h =
+all_tested p P implied [] h = All-nil P
+all_tested p P implied (x ∷ xs) h =
     let t = both (p x) (list_all p xs) h in
-    All-cons P x xs (tells x t.0) (all_tested p P tells xs t.1)
+    All-cons P x xs (implied x t.0) (all_tested p P implied xs t.1)
 
 -- ---- one name
 

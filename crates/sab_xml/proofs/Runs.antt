@@ -22,9 +22,9 @@ module _ (text : List ℕ) (start i : ℕ) (behind : start ≤ i) (within : i < 
   pub run_longer : (chunk all : List ℕ) → is_plain (get_or text i 0) ≡ true
       → chunk ++ take (i - start) (drop start text) ++ text_of (drop i text) ≡ all
       → chunk ++ take (i + 1 - start) (drop start text) ++ text_of (drop (i + 1) text) ≡ all
-  run_longer chunk all plain told =
+  run_longer chunk all plain whole =
       let left = rw (plain_char (get_or text i 0) plain) at left_more in
-      rw run_more (simp append_assoc (simp append_assoc at (rw left at told)))
+      rw run_more (simp append_assoc (simp append_assoc at (rw left at whole)))
 
   -- behind a reference the next run begins
   pub run_ended : (chunk behind_run next all : List ℕ)
@@ -32,9 +32,9 @@ module _ (text : List ℕ) (start i : ℕ) (behind : start ≤ i) (within : i < 
       → next ≡ behind_run ++ char_text (get_or text i 0)
       → chunk ++ take (i - start) (drop start text) ++ text_of (drop i text) ≡ all
       → next ++ take (i + 1 - (i + 1)) (drop (i + 1) text) ++ text_of (drop (i + 1) text) ≡ all
-  run_ended chunk behind_run next all run pushed told =
+  run_ended chunk behind_run next all run pushed whole =
       let none : i + 1 - (i + 1) ≡ 0 = omega arith in
-      rw (none, append-nil, pushed, run) (simp append_assoc (simp append_assoc at (rw left_more at told)))
+      rw (none, append-nil, pushed, run) (simp append_assoc (simp append_assoc at (rw left_more at whole)))
 
   pub run_room : (chunk behind_run : List ℕ) → behind_run ≡ chunk ++ take (i - start) (drop start text)
       → length behind_run ≤ length chunk + (i - start)

@@ -39,12 +39,12 @@ text_is_text (c ∷ s) = char_before c (text_of s) (text_is_text s)
 
 -- ---- elements
 
-pub attributes_told : (a : Attributes) → AreAttributeNames (attribute_names a)
+pub attributes_written : (a : Attributes) → AreAttributeNames (attribute_names a)
     → AreAttributes (attribute_names a) (attributes_text a)
-attributes_told no_attributes h = none
-attributes_told (attribute name value rest) h =
+attributes_written no_attributes h = none
+attributes_written (attribute name value rest) h =
     one name (text_of value) (attributes_text rest) (attribute_names rest) h.0 h.1 (text_is_text value)
-    (attributes_told rest h.2)
+    (attributes_written rest h.2)
 
 -- what stands behind the attributes, put behind them one by one
 one_by_one : (before close first others slash name end : List ℕ)
@@ -53,38 +53,38 @@ one_by_one : (before close first others slash name end : List ℕ)
 one_by_one before close first others slash name end = simp append_assoc refl
 
 -- an element whose parts are known
-element_told : (name : List ℕ) (a : Attributes) (content : Nodes) → IsName name → AreAttributeNames (attribute_names a)
+element_written : (name : List ℕ) (a : Attributes) (content : Nodes) → IsName name → AreAttributeNames (attribute_names a)
     → IsContent (nodes_text content) → IsElement (node_text (element name a content))
-element_told name a no_nodes h g p = empty_tag name (attributes_text a) (attribute_names a) h (attributes_told a g)
-element_told name a (node n ns) h g p =
+element_written name a no_nodes h g p = empty_tag name (attributes_text a) (attribute_names a) h (attributes_written a g)
+element_written name a (node n ns) h g p =
     rw (one_by_one (codes "<" ++ name ++ attributes_text a) (codes ">") (node_text n) (nodes_text ns) (codes "</") name
     (codes ">")) at
-    (tags name (attributes_text a) (node_text n ++ nodes_text ns) (attribute_names a) h (attributes_told a g) p)
+    (tags name (attributes_text a) (node_text n ++ nodes_text ns) (attribute_names a) h (attributes_written a g) p)
 
 -- an element's text is an element, and a text's a text
-abbrev pub IsToldNode : Node → Type 0
-IsToldNode (element name a content) = IsElement (node_text (element name a content))
-IsToldNode (text s) = IsText (text_of s)
+abbrev pub IsWrittenNode : Node → Type 0
+IsWrittenNode (element name a content) = IsElement (node_text (element name a content))
+IsWrittenNode (text s) = IsText (text_of s)
 
-node_before : (n : Node) (rest : List ℕ) → IsToldNode n → IsContent rest → IsContent (node_text n ++ rest)
+node_before : (n : Node) (rest : List ℕ) → IsWrittenNode n → IsContent rest → IsContent (node_text n ++ rest)
 node_before (element name a content) rest p q = child (node_text (element name a content)) rest p q
 node_before (text s) rest p q = some_text (text_of s) rest p q
 
 mutual
-  pub node_told : (n : Node) → IsNamed n → IsToldNode n
-  node_told (element name a content) h = element_told name a content h.0 h.1 (nodes_told content h.2)
-  node_told (text s) h = text_is_text s
+  pub node_written : (n : Node) → IsNamed n → IsWrittenNode n
+  node_written (element name a content) h = element_written name a content h.0 h.1 (nodes_written content h.2)
+  node_written (text s) h = text_is_text s
 
-  pub nodes_told : (ns : Nodes) → AreNamed ns → IsContent (nodes_text ns)
-  nodes_told no_nodes h = nothing
-  nodes_told (node n ns) h = node_before n (nodes_text ns) (node_told n h.0) (nodes_told ns h.1)
+  pub nodes_written : (ns : Nodes) → AreNamed ns → IsContent (nodes_text ns)
+  nodes_written no_nodes h = nothing
+  nodes_written (node n ns) h = node_before n (nodes_text ns) (node_written n h.0) (nodes_written ns h.1)
 
 -- ---- documents
 
 pub document : (name : List ℕ) (attributes : Attributes) (content : Nodes) → IsNamed (element name attributes content)
     → IsDocument (node_text (element name attributes content) ++ codes "\n")
 document name attributes content h =
-    (node_text (element name attributes content), node_told (element name attributes content) h, refl)
+    (node_text (element name attributes content), node_written (element name attributes content) h, refl)
 
 pub named_both : (a b : List Node) → AreNamed (nodes a) → AreNamed (nodes b) → AreNamed (nodes (a ++ b))
 named_both [] b p q = q

@@ -67,8 +67,8 @@ fn perform<R: Print + Eprint + Input + Files + AllocGlobal + Threads + Wait + Sy
     }
 }
 
-/// Says on standard error of a fault that came before any job, and answers how the program ends.
-fn told(rt: &impl Eprint, ending: Ending) -> Ending {
+/// Says on standard error of a fault that came before any job, and returns how the program ends.
+fn reported(rt: &impl Eprint, ending: Ending) -> Ending {
     if let Ending::Failed(fault) = ending {
         let line = FaultLine(fault);
         let _ = eprintln!(rt; "{line}");
@@ -84,7 +84,7 @@ fn obey(
 ) -> Ending {
     match request_of(rt.alloc(), words) {
         Ok(request) => perform(rt, request, is_terminal),
-        Err(error) => told(rt, without_job(rt, &error)),
+        Err(error) => reported(rt, without_job(rt, &error)),
     }
 }
 
@@ -92,7 +92,7 @@ fn main(rt: HostRuntime) -> ExitCode {
     let is_terminal = rt.stderr().is_terminal();
     let ending = match words(&rt) {
         Ok(words) => obey(&rt, words.as_slice(), is_terminal),
-        Err(error) => told(&rt, without_words(&rt, &error)),
+        Err(error) => reported(&rt, without_words(&rt, &error)),
     };
     ExitCode::from(ending.status())
 }

@@ -12,7 +12,7 @@ use Rattle.sab_ending.specs.Status.{status_after}
 use Rattle.sab_ending.specs.FaultLine.{text_of}
 use Rattle.sab_ending.specs.Complaint.{advice_text, complaint_text, file_text, line_text}
 use Rattle.sab_run.specs.declared.failure.Failure.{Failure}
-use Rattle.sab_run.specs.Failure.{TellsFile, explanation_text, line_of}
+use Rattle.sab_run.specs.Failure.{NamesFile, explanation_text, line_of}
 use Rattle.sab_run.specs.Explaining.{IsExplanation}
 use Rattle.sab_run.specs.Running.{RunsGiven, IsRunFault, IsUnwritten}
 use Rattle.sab_run.specs.Tracing.{JudgesTrace, IsTraceFailure}
@@ -97,17 +97,17 @@ trace_refused format source trace failure old new (Ok it) refused empty fails ot
 
 -- a failure's complaint is its text
 pub fails_by : (failure : Failure) (source : Source) (c : Complaint) (written : WrittenParts)
-    → c.fault ≡ failure.fault → TellsFile source failure.fault c.file → c.line ≡ line_of failure.explanation
+    → c.fault ≡ failure.fault → NamesFile source failure.fault c.file → c.line ≡ line_of failure.explanation
     → c.why.now ≡ explanation_text failure.explanation
     → written ≡ written_of (status_after failure.fault) [] (complaint_text c) → Fails failure source written
-fails_by failure source c written fault tells line why is =
+fails_by failure source c written fault named line why is =
     let status = status_after failure.fault in
     let of_fault = subst (λ (it : ToolFault). written ≡ written_of status [] (text_of it ++ (file_text c.file
     ++ (line_text c.line ++ (codes "\n" ++ (advice_text it ++ c.why.now)))))) fault is in
     let of_line = subst (λ (it : Option ℕ). written ≡ written_of status [] (text_of failure.fault ++ (file_text c.file
     ++ (line_text it ++ (codes "\n" ++ (advice_text failure.fault ++ c.why.now)))))) line of_fault in (
       c.file,
-      tells,
+      named,
       subst (λ (it : List ℕ). written ≡ written_of status [] (text_of failure.fault
           ++ (file_text c.file ++ (line_text (line_of failure.explanation) ++ (codes "\n"
           ++ (advice_text failure.fault ++ it)))))) why of_line,

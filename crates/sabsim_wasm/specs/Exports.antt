@@ -11,7 +11,7 @@ use Rattle.sab_command.specs.declared.request.Source.TheVariants.{Standard}
 use Rattle.sab_command.specs.declared.request.Task.{Task}
 use Rattle.sab_command.specs.Asked.{IsAsked, IsRefused}
 use Rattle.sab_command.specs.Job.{IsTaskWithinLimits}
-use Rattle.sab_run.specs.Failure.{untold}
+use Rattle.sab_run.specs.Failure.{unexplained}
 use Rattle.sabsim_wasm.specs.declared.reply.Reply.{Reply}
 use Rattle.sabsim_wasm.specs.Asked.{task_at}
 use Rattle.sabsim_wasm.specs.Program.{WrittenParts, written_of, no_memory, no_text, parsed, Ends, Fails}
@@ -37,7 +37,7 @@ abbrev pub RepliesToInput : ℕ → Task → Source → Bool → List ℕ → Li
 RepliesToInput given task source explain input old new reply =
     ((given ≡ 0) × AsksFor source old new reply)
     ⊎ (((given ≡ 1) × PutsSuch (Ends task source explain input) old new reply)
-    ⊎ ((given ≢ 0) × (given ≢ 1) × PutsSuch (Fails (untold ReadFailed) source) old new reply))
+    ⊎ ((given ≢ 0) × (given ≢ 1) × PutsSuch (Fails (unexplained ReadFailed) source) old new reply))
 
 -- the parser's text is for standard error, except help and the version
 abbrev pub IsForErrors : ErrorKind → Bool → Type 0

@@ -14,7 +14,7 @@ use Rattle.sab_ending.specs.Ending.{status_at, after_job}
 use Rattle.sab_ending.specs.FaultLine.{text_of}
 use Rattle.sab_ending.specs.Complaint.{advice_text, file_text, line_text}
 use Rattle.sab_run.specs.declared.failure.Failure.{Failure}
-use Rattle.sab_run.specs.Failure.{TellsFile, explanation_text, line_of}
+use Rattle.sab_run.specs.Failure.{NamesFile, explanation_text, line_of}
 use Rattle.sab_run.specs.Explaining.{IsExplanation}
 use Rattle.sab_run.specs.Running.{RunsGiven, IsRunFault}
 use Rattle.sab_run.specs.Tracing.{JudgesTrace, IsTraceFailure}
@@ -48,7 +48,7 @@ no_text = written_of 2 [] (codes "sabsim: the command line is no text\n")
 -- line of a trace, then what can be done instead, then what a check says
 abbrev pub Fails : Failure → Source → WrittenParts → Type 0
 Fails failure source written =
-    (file : Option (Bor (List ℕ))) × TellsFile source failure.fault file
+    (file : Option (Bor (List ℕ))) × NamesFile source failure.fault file
     × (written ≡ written_of (status_after failure.fault) [] (text_of failure.fault ++ (file_text file
     ++ (line_text (line_of failure.explanation) ++ (codes "\n" ++ (advice_text failure.fault
     ++ explanation_text failure.explanation))))))

@@ -4,7 +4,7 @@ ghost use Rattle.std.specs.Prelude.{◌≡◌};
 ghost use Rattle.sabsim_wasm.specs.Asked.{form_at, format_at, task_at, verdict_format_at};
 
 use sab_command::{Job, RunForm, Task};
-use sab_text::{Format, Lines, Telling, VerdictFormat};
+use sab_text::{Format, Lines, ReportForm, VerdictFormat};
 
 /// What is to be done with the input; none if a number has no meaning.
 pub(crate) fn task_of(job: u32, format: u32, acts: bool, finish: bool) -> Option<Task>
@@ -34,7 +34,7 @@ fn form_of(format: u32, acts: bool) -> Option<RunForm>
     }
     let format = format_of(format)?;
     let lines = if acts { Lines::Acts } else { Lines::All };
-    Some(RunForm::Report(Telling { format, lines }))
+    Some(RunForm::Report(ReportForm { format, lines }))
 }
 
 /// The format of a report.

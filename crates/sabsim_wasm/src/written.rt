@@ -2,7 +2,7 @@
 
 ghost use Rattle.std.specs.Prelude.{◌≡◌, ◌≢◌, IfOk, OnOk};
 ghost use Rattle.sab_tool.specs.declared.tool_fault.ToolFault.TheVariants.{ReadFailed, WriteFailed};
-ghost use Rattle.sab_run.specs.Failure.{untold};
+ghost use Rattle.sab_run.specs.Failure.{unexplained};
 ghost use Rattle.sabsim_wasm.specs.Exports.{PutsSuch, RepliesToTask};
 ghost use Rattle.sabsim_wasm.specs.Program.{Ends, EndsOfRace, EndsOfScript, EndsOfTrace, Fails, done, written_by};
 ghost use Rattle.sabsim_wasm.specs.Room.{Puts};
@@ -66,11 +66,11 @@ pub(crate) fn put_task(
 
 /// Says that the source can't be read.
 pub(crate) fn put_unreadable(alloc: Global, source: Source<'_>, room: &mut [u8]) -> Reply
-    ensures { PutsSuch (Fails (untold ReadFailed) source.entry) room.old room.new result }
+    ensures { PutsSuch (Fails (unexplained ReadFailed) source.entry) room.old room.new result }
 {
     let failure = Failure {
         fault: ToolFault::ReadFailed,
-        explanation: Explanation::Untold,
+        explanation: Explanation::Absent,
     };
     match failed(alloc, &failure, source) {
         Ok(written) => put_written(&written, room),

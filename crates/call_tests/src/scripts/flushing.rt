@@ -6,7 +6,7 @@ use crate::expecting::expect;
 use crate::scripts::{STORE_AND_LOAD, STORED_AND_LOADED};
 use sab_command::{Job, RaceJob, RunForm};
 use sab_ending::Outcome;
-use sab_report::{Format, Lines, Telling, VerdictFormat};
+use sab_report::{Format, Lines, ReportForm, VerdictFormat};
 use sab_run::{Failure, judge_trace, run, run_race};
 use sab_tool::{Share, ToolFault};
 use std::alloc::Global;
@@ -63,7 +63,7 @@ impl Basin {
 }
 
 /// A whole plain report.
-const PLAIN: RunForm = RunForm::Report(Telling {
+const PLAIN: RunForm = RunForm::Report(ReportForm {
     format: Format::Plain,
     lines: Lines::All,
 });

@@ -1,7 +1,7 @@
 //! Races that are kept as scripts.
 
 use crate::expecting::expect;
-use sab_kept::{keep_race, move_told_by};
+use sab_kept::{keep_race, recorded_move};
 use sab_sim::Report;
 use sab_tool::{Share, ToolFault, replay_bytes, write_report};
 use std::alloc::Global;
@@ -22,7 +22,7 @@ const TWO_AGENTS: &str = r#"{"blocks":[4,8],
 /// Whether a report's journal has its moves.
 fn has_moves(report: &Report) -> bool {
     for (entry, m) in report.journal.iter().zip(&report.schedule) {
-        if move_told_by(*entry) != *m {
+        if recorded_move(*entry) != *m {
             return false;
         }
     }

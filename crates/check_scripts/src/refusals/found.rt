@@ -56,7 +56,7 @@ impl Found {
         }
     }
 
-    /// Of a fault: OutOfMemory or NoThread, told by its number, with nothing written.
+    /// Of a fault: OutOfMemory or NoThread, reported by its number, with nothing written.
     pub fn fault(fault: ToolFault, is_unwritten: bool) -> Found {
         match fault.number() {
             5 => Found::refused(Refusal::OutOfMemory, is_unwritten),

@@ -52,7 +52,7 @@ const MOVES: [Move; 10] = [
     Step(0),
 ];
 
-/// The agent, the call and what the entry of each move has to tell.
+/// The agent, the call and what the entry of each move has to report.
 const JOURNAL: [(u32, u32, What); 10] = [
     (0, 0, Began),
     (0, 0, Enlisted),

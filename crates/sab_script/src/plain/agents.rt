@@ -5,7 +5,7 @@ ghost use Rattle.json.specs.Json.{Json};
 ghost use Rattle.json.specs.Find.{BeginsWith};
 ghost use Rattle.serde_json.specs.Data.{Items as Trees, boolean, array};
 ghost use Rattle.sab_script.specs.Agents.{SpellsScript, SpellsScripts};
-ghost use Rattle.sab_script.specs.Plain.{Tells, IsObjectOf, agent_members};
+ghost use Rattle.sab_script.specs.Plain.{HoldsTree, IsObjectOf, agent_members};
 ghost use Rattle.sab_script.specs.Views.{view_names};
 
 use crate::plain::calls::scan_calls;
@@ -30,7 +30,7 @@ fn agent_values<'t, 'a>(element: &Element<'t, 'a>) -> Option<(Element<'t, 'a>, E
 
 /// `true` or `false`; `None` where the value is neither.
 fn scan_flag(element: &Element<'_, '_>) -> Option<bool>
-    ensures { IfSome result (λ b. Tells 0 (λ d. d ≡ boolean b) element.now) }
+    ensures { IfSome result (λ b. HoldsTree 0 (λ d. d ≡ boolean b) element.now) }
 {
     let flag = element.as_bool()?;
     Some(flag)
@@ -68,7 +68,7 @@ pub(crate) fn scan_agents(
     views: &Views,
     element: &Element<'_, '_>,
 ) -> Result<Vec<Script>, Miss>
-    ensures { IfOk result (λ scripts. Tells 4 (λ d. (ds : Trees) × (d ≡ array ds)
+    ensures { IfOk result (λ scripts. HoldsTree 4 (λ d. (ds : Trees) × (d ≡ array ds)
         × SpellsScripts (view_names views.now) ds scripts.items) element.now) }
 {
     let scanner = AgentScanner { alloc, views };

@@ -2,7 +2,7 @@
 
 ghost use Rattle.std.specs.Prelude.{IfOk};
 ghost use Rattle.sab_script.specs.Blocks.{SpellsLen, SpellsLens};
-ghost use Rattle.sab_script.specs.Plain.{Tells};
+ghost use Rattle.sab_script.specs.Plain.{HoldsTree};
 
 use crate::form::Form;
 use crate::plain::lists::{Miss, Scanner, scan_items};
@@ -13,7 +13,7 @@ use std::alloc::Global;
 
 /// The length of a block.
 fn scan_len(element: &Element<'_, '_>) -> Result<u32, Miss>
-    ensures { IfOk result (λ len. Tells 0 (λ d. SpellsLen d len) element.now) }
+    ensures { IfOk result (λ len. HoldsTree 0 (λ d. SpellsLen d len) element.now) }
 {
     match scan_position(Plan::MAX_BLOCK_LEN + 1, element) {
         Some(len) => Ok(len),
@@ -43,7 +43,7 @@ pub(crate) fn scan_lens(
     form: Form,
     element: &Element<'_, '_>,
 ) -> Result<Vec<u32>, Miss>
-    ensures { IfOk result (λ lens. Tells 1 (λ d. SpellsLens form d lens.items) element.now) }
+    ensures { IfOk result (λ lens. HoldsTree 1 (λ d. SpellsLens form d lens.items) element.now) }
 {
     match form {
         Form::Bytes => {

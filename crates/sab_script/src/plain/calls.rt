@@ -4,7 +4,7 @@ ghost use Rattle.std.specs.Prelude.{◌≡◌, IfOk, IfSome, codes};
 ghost use Rattle.serde_json.specs.Data.{Items as Trees, array};
 ghost use Rattle.sab_block.specs.RmwOp.{function_of_op};
 ghost use Rattle.sab_script.specs.Calls.{spelling_of, SpellsParts, SpellsCall, SpellsCalls};
-ghost use Rattle.sab_script.specs.Plain.{Tells, TellsItems};
+ghost use Rattle.sab_script.specs.Plain.{HoldsTree, HoldsItems};
 ghost use Rattle.sab_script.specs.Views.{view_names};
 
 use crate::calls::rmw_op;
@@ -29,7 +29,7 @@ fn op_of(name: &str) -> Option<RmwOp>
 /// A read-modify-write call, by its operation and its parts.
 fn rmw_call(op: RmwOp, view: u32, index: i64, rest: &mut Items<'_, '_>) -> Option<Call>
     ensures { IfSome result
-        (λ c. TellsItems 0 (λ ds. SpellsParts (function_of_op op) view index ds (spelling_of c)) rest.old) }
+        (λ c. HoldsItems 0 (λ ds. SpellsParts (function_of_op op) view index ds (spelling_of c)) rest.old) }
 {
     let value = last_operand(rest)?;
     let access = Access::Rmw { op, index, value };
@@ -39,7 +39,7 @@ fn rmw_call(op: RmwOp, view: u32, index: i64, rest: &mut Items<'_, '_>) -> Optio
 /// A wait, by its parts.
 fn wait_call(view: u32, index: i64, rest: &mut Items<'_, '_>) -> Option<Call>
     ensures { IfSome result
-        (λ c. TellsItems 0 (λ ds. SpellsParts (codes "wait") view index ds (spelling_of c)) rest.old) }
+        (λ c. HoldsItems 0 (λ ds. SpellsParts (codes "wait") view index ds (spelling_of c)) rest.old) }
 {
     let value = next_operand(rest)?;
     let timeout = last_limit(rest)?;
@@ -54,7 +54,7 @@ fn wait_call(view: u32, index: i64, rest: &mut Items<'_, '_>) -> Option<Call>
 /// A compare-exchange, by its parts.
 fn compare_exchange_call(view: u32, index: i64, rest: &mut Items<'_, '_>) -> Option<Call>
     ensures { IfSome result
-        (λ c. TellsItems 0 (λ ds. SpellsParts (codes "compareExchange") view index ds (spelling_of c)) rest.old) }
+        (λ c. HoldsItems 0 (λ ds. SpellsParts (codes "compareExchange") view index ds (spelling_of c)) rest.old) }
 {
     let expected = next_operand(rest)?;
     let replacement = last_operand(rest)?;
@@ -69,7 +69,7 @@ fn compare_exchange_call(view: u32, index: i64, rest: &mut Items<'_, '_>) -> Opt
 /// A call, by its parts.
 fn named_call(name: &str, view: u32, index: i64, rest: &mut Items<'_, '_>) -> Option<Call>
     ensures { IfSome result
-        (λ c. TellsItems 0 (λ ds. SpellsParts name.now view index ds (spelling_of c)) rest.old) }
+        (λ c. HoldsItems 0 (λ ds. SpellsParts name.now view index ds (spelling_of c)) rest.old) }
 {
     match name {
         "load" => {
@@ -94,7 +94,7 @@ fn named_call(name: &str, view: u32, index: i64, rest: &mut Items<'_, '_>) -> Op
 
 /// A call on one of the views; `None` where it is none.
 fn scan_call(views: &Views, element: &Element<'_, '_>) -> Option<Call>
-    ensures { IfSome result (λ c. Tells 1 (λ d. SpellsCall (view_names views.now) d c) element.now) }
+    ensures { IfSome result (λ c. HoldsTree 1 (λ d. SpellsCall (view_names views.now) d c) element.now) }
 {
     let mut rest = element.items()?;
     let name = next_text(&mut rest)?;
@@ -127,7 +127,7 @@ pub(crate) fn scan_calls(
     views: &Views,
     element: &Element<'_, '_>,
 ) -> Result<Vec<Call>, Miss>
-    ensures { IfOk result (λ calls. Tells 2 (λ d. (ds : Trees) × (d ≡ array ds)
+    ensures { IfOk result (λ calls. HoldsTree 2 (λ d. (ds : Trees) × (d ≡ array ds)
         × SpellsCalls (view_names views.now) ds calls.items) element.now) }
 {
     let scanner = CallScanner { views };

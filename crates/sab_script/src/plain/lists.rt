@@ -2,7 +2,7 @@
 
 ghost use Rattle.std.specs.Prelude.{◌≡◌, ℕ, suc, IfOk};
 ghost use Rattle.serde_json.specs.Data.{Data, Items as Trees, array};
-ghost use Rattle.sab_script.specs.Plain.{Tells};
+ghost use Rattle.sab_script.specs.Plain.{HoldsTree};
 ghost use Rattle.sab_script.specs.Reading.{SpellsUpTo};
 
 use json::Element;
@@ -36,7 +36,7 @@ pub(crate) trait Scanner {
 
     /// The item that a value spells.
     fn scan(&self, element: &Element<'_, '_>) -> Result<Self::Item, Miss>
-        ensures { IfOk result (λ x. Tells (nests self.now) (λ d. Spells self.now d x) element.now) };
+        ensures { IfOk result (λ x. HoldsTree (nests self.now) (λ d. Spells self.now d x) element.now) };
 }
 
 /// What the items of an array spell, in order, of which there may be `most`.
@@ -46,7 +46,7 @@ pub(crate) fn scan_items<R: Scanner>(
     most: usize,
     element: &Element<'_, '_>,
 ) -> Result<Vec<R::Item>, Miss>
-    ensures { IfOk result (λ found. Tells (suc (R.nests scanner.now)) (λ d. (ds : Trees) × (d ≡ array ds)
+    ensures { IfOk result (λ found. HoldsTree (suc (R.nests scanner.now)) (λ d. (ds : Trees) × (d ≡ array ds)
         × SpellsUpTo most (R.Spells scanner.now) ds found.items) element.now) }
 {
     let Some(mut items) = element.items() else {

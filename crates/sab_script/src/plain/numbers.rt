@@ -5,7 +5,7 @@ ghost use Rattle.serde_json.specs.Find.{of_integer};
 ghost use Rattle.serde_json.specs.Read.{number_of, number_from};
 ghost use Rattle.sab_block.specs.Operand.{IsSafeInteger};
 ghost use Rattle.sab_script.specs.Numbers.{SpellsWhole, SpellsPosition};
-ghost use Rattle.sab_script.specs.Plain.{Tells};
+ghost use Rattle.sab_script.specs.Plain.{HoldsTree};
 
 use fast_float::Numeral;
 use json::Element;
@@ -57,14 +57,14 @@ fn has_minus(text: &[u8]) -> bool
 
 /// A whole number; `None` where it is none.
 pub(crate) fn scan_whole(element: &Element<'_, '_>) -> Option<i64>
-    ensures { IfSome result (λ z. Tells 0 (λ d. SpellsWhole d z) element.now) }
+    ensures { IfSome result (λ z. HoldsTree 0 (λ d. SpellsWhole d z) element.now) }
 {
     safe_integer(element.as_number()?)
 }
 
 /// The position of one of so many; `None` where it is none.
 pub(crate) fn scan_position(count: u32, element: &Element<'_, '_>) -> Option<u32>
-    ensures told { IfSome result (λ n. Tells 0 (λ d. SpellsPosition count d n) element.now) }
+    ensures reported { IfSome result (λ n. HoldsTree 0 (λ d. SpellsPosition count d n) element.now) }
     ensures there { IfSome result (λ n. n < count) }
 {
     let n = scan_whole(element)?;

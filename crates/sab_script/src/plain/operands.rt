@@ -6,7 +6,7 @@ ghost use Rattle.sab_plan.specs.declared.argument.Argument.TheVariants as A;
 ghost use Rattle.sab_plan.specs.Call.{optional};
 ghost use Rattle.sab_script.specs.Calls.{SpellsArguments};
 ghost use Rattle.sab_script.specs.Numbers.{SpellsOperand, SpellsWhole, whole as whole_tree};
-ghost use Rattle.sab_script.specs.Plain.{Tells, TellsItems, TellsNext};
+ghost use Rattle.sab_script.specs.Plain.{HoldsTree, HoldsItems, HoldsNext};
 
 use crate::operands::big;
 use crate::plain::numbers::scan_whole;
@@ -30,7 +30,7 @@ fn number_operand(number: i64) -> Option<Operand>
 
 /// An operand: a whole number is a Number, and a string is a BigInt; `None` where it is neither.
 fn scan_operand(element: &Element<'_, '_>) -> Option<Operand>
-    ensures { IfSome result (λ x. Tells 0 (λ d. SpellsOperand d x) element.now) }
+    ensures { IfSome result (λ x. HoldsTree 0 (λ d. SpellsOperand d x) element.now) }
 {
     match element.as_str() {
         Some(digits) => big_operand(digits),
@@ -40,28 +40,28 @@ fn scan_operand(element: &Element<'_, '_>) -> Option<Operand>
 
 /// The next item, a string; `None` where it is none.
 pub(crate) fn next_text<'a>(rest: &mut Items<'_, 'a>) -> Option<&'a str>
-    ensures { IfSome result (λ s. TellsNext 0 (λ d. d ≡ string s.now) rest.old rest.new) }
+    ensures { IfSome result (λ s. HoldsNext 0 (λ d. d ≡ string s.now) rest.old rest.new) }
 {
     rest.next()?.as_str()
 }
 
 /// The next item, a whole number; `None` where it is none.
 pub(crate) fn next_whole(rest: &mut Items<'_, '_>) -> Option<i64>
-    ensures { IfSome result (λ z. TellsNext 0 (λ d. SpellsWhole d z) rest.old rest.new) }
+    ensures { IfSome result (λ z. HoldsNext 0 (λ d. SpellsWhole d z) rest.old rest.new) }
 {
     scan_whole(&rest.next()?)
 }
 
 /// The next item, an operand; `None` where it is none.
 pub(crate) fn next_operand(rest: &mut Items<'_, '_>) -> Option<Operand>
-    ensures { IfSome result (λ x. TellsNext 0 (λ d. SpellsOperand d x) rest.old rest.new) }
+    ensures { IfSome result (λ x. HoldsNext 0 (λ d. SpellsOperand d x) rest.old rest.new) }
 {
     scan_operand(&rest.next()?)
 }
 
 /// That there is no further item; else `None`.
 pub(crate) fn no_more_items(rest: &mut Items<'_, '_>) -> Option<()>
-    ensures { OnSome result (TellsItems 0 (λ ds. ds ≡ no_items) rest.old) }
+    ensures { OnSome result (HoldsItems 0 (λ ds. ds ≡ no_items) rest.old) }
 {
     match rest.next() {
         None => Some(()),
@@ -71,7 +71,7 @@ pub(crate) fn no_more_items(rest: &mut Items<'_, '_>) -> Option<()>
 
 /// The last item, an operand; `None` where it is none, or others come.
 pub(crate) fn last_operand(rest: &mut Items<'_, '_>) -> Option<Operand>
-    ensures { IfSome result (λ x. TellsItems 0 (λ ds. SpellsArguments ds (A.Value x ∷ [])) rest.old) }
+    ensures { IfSome result (λ x. HoldsItems 0 (λ ds. SpellsArguments ds (A.Value x ∷ [])) rest.old) }
 {
     let value = next_operand(rest)?;
     no_more_items(rest)?;
@@ -80,7 +80,7 @@ pub(crate) fn last_operand(rest: &mut Items<'_, '_>) -> Option<Operand>
 
 /// The last item, a timeout or a count, which may be absent; `None` where it is none, or others come.
 pub(crate) fn last_limit(rest: &mut Items<'_, '_>) -> Option<Option<i64>>
-    ensures { IfSome result (λ o. TellsItems 0 (λ ds. SpellsArguments ds (optional o)) rest.old) }
+    ensures { IfSome result (λ o. HoldsItems 0 (λ ds. SpellsArguments ds (optional o)) rest.old) }
 {
     match rest.next() {
         None => Some(None),

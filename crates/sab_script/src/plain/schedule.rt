@@ -2,7 +2,7 @@
 
 ghost use Rattle.std.specs.Prelude.{◌≡◌, IfOk, IfSome};
 ghost use Rattle.serde_json.specs.Data.{Items as Trees, array};
-ghost use Rattle.sab_script.specs.Plain.{Tells};
+ghost use Rattle.sab_script.specs.Plain.{HoldsTree};
 ghost use Rattle.sab_script.specs.Schedule.{SpellsMove, SpellsSchedule};
 
 use crate::plain::lists::{Miss, Scanner, scan_items};
@@ -16,7 +16,7 @@ use std::alloc::Global;
 
 /// The end of the time of an agent, of which there are so many; `None` where the value spells none.
 fn scan_time_up(agents: u32, element: &Element<'_, '_>) -> Option<Move>
-    ensures { IfSome result (λ m. Tells 1 (λ d. SpellsMove agents d m) element.now) }
+    ensures { IfSome result (λ m. HoldsTree 1 (λ d. SpellsMove agents d m) element.now) }
 {
     are_named(element, &[Member::Timeout])?;
     let timeout = only_member(element, Member::Timeout)?;
@@ -25,7 +25,7 @@ fn scan_time_up(agents: u32, element: &Element<'_, '_>) -> Option<Move>
 
 /// A move of an agent, of which there are so many; `None` where the value spells none.
 fn scan_move(agents: u32, element: &Element<'_, '_>) -> Option<Move>
-    ensures { IfSome result (λ m. Tells 1 (λ d. SpellsMove agents d m) element.now) }
+    ensures { IfSome result (λ m. HoldsTree 1 (λ d. SpellsMove agents d m) element.now) }
 {
     match scan_position(agents, element) {
         Some(agent) => Some(Move::Step(agent)),
@@ -57,7 +57,7 @@ pub(crate) fn scan_schedule(
     agents: u32,
     element: &Element<'_, '_>,
 ) -> Result<Vec<Move>, Miss>
-    ensures { IfOk result (λ moves. Tells 2 (λ d. (ds : Trees) × (d ≡ array ds)
+    ensures { IfOk result (λ moves. HoldsTree 2 (λ d. (ds : Trees) × (d ≡ array ds)
         × SpellsSchedule agents ds moves.items) element.now) }
 {
     let scanner = MoveScanner { agents };

@@ -2,7 +2,7 @@
 
 ghost use Rattle.std.specs.Prelude.{IfOk, IfSome};
 ghost use Rattle.json.specs.Find.{HasValue};
-ghost use Rattle.sab_script.specs.Plain.{Tells, HasScriptParts};
+ghost use Rattle.sab_script.specs.Plain.{HoldsTree, HasScriptParts};
 ghost use Rattle.sab_script.specs.Script.{IsScriptOf};
 ghost use Rattle.sab_script.specs.Setup.{Spells};
 
@@ -63,7 +63,7 @@ fn script_values<'t, 'a>(element: &Element<'t, 'a>) -> Option<(Form, ScriptValue
 /// The setup that a value spells.
 fn scan_setup(alloc: Global, element: &Element<'_, '_>) -> Result<Setup, Miss>
     requires { HasValue element.now }
-    ensures { IfOk result (λ setup. Tells 5 (λ d. Spells d setup) element.now) }
+    ensures { IfOk result (λ setup. HoldsTree 5 (λ d. Spells d setup) element.now) }
 {
     let Some((form, parts)) = script_values(element) else {
         return Err(Miss::NotPlain);

@@ -4,7 +4,7 @@ ghost use Rattle.std.specs.Prelude.{◌≡◌, ◌<◌, ◌≤◌, IfOk, IfSome,
 ghost use Rattle.serde_json.specs.Data.{Items as Trees, array, string};
 ghost use Rattle.sab_block.specs.Kind.{kind_name};
 ghost use Rattle.sab_script.specs.Numbers.{SpellsOptional};
-ghost use Rattle.sab_script.specs.Plain.{Tells, TellsBlock, TellsDescription};
+ghost use Rattle.sab_script.specs.Plain.{HoldsTree, HoldsBlock, HoldsDescription};
 ghost use Rattle.sab_script.specs.Views.{IsName, SpellsView, SpellsViews, IsDescribed, AreDescribed};
 
 use crate::form::Form;
@@ -30,14 +30,14 @@ fn kind_named(name: &str) -> Option<Kind>
 
 /// The kind that a value names; `None` where it names none.
 fn scan_kind(element: &Element<'_, '_>) -> Option<Kind>
-    ensures { IfSome result (λ k. Tells 0 (λ d. d ≡ string (kind_name k)) element.now) }
+    ensures { IfSome result (λ k. HoldsTree 0 (λ d. d ≡ string (kind_name k)) element.now) }
 {
     kind_named(element.as_str()?)
 }
 
 /// The length of a view, or null for none; `None` where the value is neither.
 fn scan_length(element: &Element<'_, '_>) -> Option<Option<i64>>
-    ensures { IfSome result (λ o. Tells 0 (λ d. SpellsOptional d o) element.now) }
+    ensures { IfSome result (λ o. HoldsTree 0 (λ d. SpellsOptional d o) element.now) }
 {
     if element.is_null() {
         Some(None)
@@ -48,7 +48,7 @@ fn scan_length(element: &Element<'_, '_>) -> Option<Option<i64>>
 
 /// The name of a view; `None` where the value is none that a view can have.
 fn scan_name<'a>(element: &Element<'_, 'a>) -> Option<&'a str>
-    ensures { IfSome result (λ s. Tells 0 (λ d. d ≡ string s.now) element.now × IsName s.now) }
+    ensures { IfSome result (λ s. HoldsTree 0 (λ d. d ≡ string s.now) element.now × IsName s.now) }
 {
     let name = element.as_str()?;
     if is_name(name) { Some(name) } else { None }
@@ -66,7 +66,7 @@ fn view_on(lens: &[u32], spec: ViewSpec) -> Option<PlanView>
 /// value is no such position.
 fn scan_block(form: Form, blocks: u32, element: &Element<'_, '_>) -> Option<u32>
     requires { 0 < blocks }
-    ensures told { IfSome result (TellsBlock form element.now) }
+    ensures reported { IfSome result (HoldsBlock form element.now) }
     ensures there { IfSome result (λ block. block < blocks) }
 {
     match form {
@@ -77,7 +77,7 @@ fn scan_block(form: Form, blocks: u32, element: &Element<'_, '_>) -> Option<u32>
 
 /// A view's name, and what it is on a block, by the members of a value; `None` if they spell no view.
 fn scan_description<'a>(block: u32, element: &Element<'_, 'a>) -> Option<(&'a str, ViewSpec)>
-    ensures told { IfSome result (λ p. TellsDescription element.now (p.0.now, p.1)) }
+    ensures reported { IfSome result (λ p. HoldsDescription element.now (p.0.now, p.1)) }
     ensures block { IfSome result (λ p. p.1.block ≡ block) }
 {
     let kind = scan_kind(&only_member(element, Member::Kind)?)?;
@@ -101,7 +101,7 @@ fn scan_view<'a>(
 ) -> Option<(&'a str, ViewSpec, PlanView)>
     requires some { 0 < count lens.now }
     requires few { count lens.now ≤ Plan.MAX_BLOCKS }
-    ensures read { IfSome result (λ p. Tells 1 (λ d. SpellsView form lens.now d (p.0.now, p.1)) element.now) }
+    ensures read { IfSome result (λ p. HoldsTree 1 (λ d. SpellsView form lens.now d (p.0.now, p.1)) element.now) }
     ensures made { IfSome result (λ p. IsDescribed lens.now p.1 p.2) }
 {
     are_named(element, form.view_members())?;
@@ -120,7 +120,7 @@ pub(crate) fn scan_views(
 ) -> Result<(Views, Vec<PlanView>), Miss>
     requires some { 0 < count lens.now }
     requires few { count lens.now ≤ Plan.MAX_BLOCKS }
-    ensures read { IfOk result (λ p. Tells 2 (λ d. (ds : Trees) × (d ≡ array ds)
+    ensures read { IfOk result (λ p. HoldsTree 2 (λ d. (ds : Trees) × (d ≡ array ds)
         × SpellsViews form lens.now ds p.0) element.now) }
     ensures made { IfOk result (λ p. AreDescribed lens.now p.0 p.1.items) }
 {

@@ -5,7 +5,7 @@ use Rattle.sab_judge.specs.Race.{of_none, and_of}
 use Rattle.sab_judge.proofs.Counting.{few_below}
 use Rattle.sab_judge.proofs.DataRaces.{few_pairs}
 use Rattle.sab_judge.proofs.Racing.{any_race}
-use Rattle.sab_judge.proofs.Telling.{nothing_told, next_event, all_told}
+use Rattle.sab_judge.proofs.RacesSoFar.{nothing_reported, next_event, all_reported}
 use Rattle.sab_judge.proofs.judging.judge_events.Goals as goal
 
 pub loop-j-init : goal.loop-j-init
@@ -16,7 +16,7 @@ loop-j-init c = record {
   seen = c.in_ok-seen.ensures c.args.trace.now;
   readers = c.in_ok-readers.ensures;
   data_count = of_none;
-  told = nothing_told c.args.trace.now c.args.most c.new-3.result.items c.new-3.ensures.items;
+  reported = nothing_reported c.args.trace.now c.args.most c.new-3.result.items c.new-3.ensures.items;
 }
 
 pub loop-j-preserved : goal.loop-j-preserved
@@ -30,16 +30,16 @@ loop-j-preserved c =
       seen = c.in_ok-keep.ensures;
       readers = c.data_races_of-data_races.ensures.readers;
       data_count = and_of c.loop-j.invariant.data_count c.data_races_of-data_races.ensures.counted;
-      told = next_event few c.in_ok-tell_or_count.ensures;
+      reported = next_event few c.in_ok-report_or_count.ensures;
     }
 
 pub returns : goal.returns
 returns c =
     let end : c.loop-j.j ≡ length c.args.trace.now = omega (arith, c.loop-j-test.false, c.loop-j.auto.j-end) in
-    all_told (rw end at c.loop-j.invariant.told) (rw end at c.loop-j.invariant.data_count)
+    all_reported (rw end at c.loop-j.invariant.reported) (rw end at c.loop-j.invariant.data_count)
 
-pub tell_or_count-requires-clause-count : goal.tell_or_count-requires-clause-count
-tell_or_count-requires-clause-count c = any_race c.count_races-count.ensures
+pub report_or_count-requires-clause-count : goal.report_or_count-requires-clause-count
+report_or_count-requires-clause-count c = any_race c.count_races-count.ensures
 
 pub overflow_add-data_races : goal.overflow_add-data_races
 overflow_add-data_races c =

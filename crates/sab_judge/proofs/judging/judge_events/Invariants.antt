@@ -4,7 +4,7 @@ use Rattle.sab_judge.specs.Past.{IsPast}
 use Rattle.sab_judge.specs.Race.{CountsDataRaces}
 use Rattle.sab_judge.specs.Readers.{AreNoted}
 use Rattle.sab_judge.specs.Seen.{IsSeen}
-use Rattle.sab_judge.specs.Telling.{HasTold}
+use Rattle.sab_judge.specs.RacesSoFar.{HasReported}
 use Rattle.sab_judge.proofs.judging.judge_events.Given as goal
 
 -- the clocks so far, what is kept of events and of accesses, the data races and the races so far
@@ -16,5 +16,5 @@ invariant-loop-j l = record {
   seen : IsSeen l.trace l.j l.seen;
   readers : AreNoted (length l.trace) l.j l.readers;
   data_count : CountsDataRaces l.trace l.j l.data_races;
-  told : HasTold l.trace l.j 0 l.most l.verdict.races.items l.verdict.rest;
+  reported : HasReported l.trace l.j 0 l.most l.verdict.races.items l.verdict.rest;
 }

@@ -1,4 +1,4 @@
--- The events from the earliest on are as many as their ranks tell.
+-- The events from the earliest on are as many as their ranks say.
 use Rattle.std.proofs.Common.{arith}
 use Rattle.sab_judge.proofs.Linking.{counts_from, linked_at, rank_grows, rank_small}
 use Rattle.sab_judge.proofs.link.count_from.Goals as goal

@@ -1,7 +1,7 @@
 use Rattle.std.proofs.Common.{◌≡◌, ◌≤◌, ◌+◌, length, take}
 use Rattle.std.specs.Io.KnownBytes.{append_known}
 use Rattle.sab_words.specs.FactFormat.{no_sinces, sinces_after}
-use Rattle.sab_report.specs.Facts.{TellsEntries}
+use Rattle.sab_report.specs.Facts.{ReportsEntries}
 use Rattle.sab_report.proofs.driver.write_entries.Given as goal
 
 abbrev pub invariant-loop-k : goal.invariant-loop-k
@@ -12,6 +12,6 @@ invariant-loop-k g l = record {
   sinces : l.sinces ≡ sinces_after no_sinces 0 l.explainer.journal;
   reserved : length l.schedule ≤ l.explainer.reserved + l.k;
   same : g.F.FactFormat.texts l.format ≡ g.F.FactFormat.texts l.fn.format;
-  told : TellsEntries (g.F.FactFormat.texts l.fn.format) l.fn.explainer.plan l.explainer.journal
+  reported : ReportsEntries (g.F.FactFormat.texts l.fn.format) l.fn.explainer.plan l.explainer.journal
       (append_known (g.W.Write.contents l.fn.w) l.fn.chunk) (append_known (g.W.Write.contents l.w) l.chunk);
 }

@@ -1,10 +1,10 @@
--- The start, what was told of all entries, and the end.
+-- The start, what was reported about all entries, and the end.
 use Rattle.std.proofs.Common.{◌∙◌, subst, sym}
 use Rattle.std.specs.Io.KnownBytes.{Appends, append_known}
 use Rattle.sab_plan.specs.Plan.{IsPlan}
 use Rattle.sab_words.specs.FactFormat.{Texts}
-use Rattle.sab_report.specs.Facts.{TellsEntries}
-use Rattle.sab_report.proofs.Driving.{tells}
+use Rattle.sab_report.specs.Facts.{ReportsEntries}
+use Rattle.sab_report.proofs.Driving.{reports_facts}
 use Rattle.sab_report.proofs.Memory.{few_blocks}
 use Rattle.sab_report.proofs.driver.write_facts.Goals as goal
 
@@ -19,17 +19,17 @@ pub returns : goal.returns
 returns g c =
     let texts = g.F.FactFormat.texts in
     let started = append_known (g.W.Write.contents c.write_start.new.w) c.write_start.new.chunk in
-    let told = append_known (g.W.Write.contents c.write_entries.new.w) c.write_entries.new.chunk in
-    let entries : TellsEntries (texts c.args.format.now) c.args.explainer.plan c.write_entries.new.explainer.journal started told =
-    subst (λ (t : Texts). TellsEntries t c.args.explainer.plan c.write_entries.new.explainer.journal started told)
-    c.write_start.ensures.same c.in_ok-write_entries.ensures.told in
-    let last : Appends told (g.W.Write.contents c.write_end.new.w)
+    let reported = append_known (g.W.Write.contents c.write_entries.new.w) c.write_entries.new.chunk in
+    let entries : ReportsEntries (texts c.args.format.now) c.args.explainer.plan c.write_entries.new.explainer.journal started reported =
+    subst (λ (t : Texts). ReportsEntries t c.args.explainer.plan c.write_entries.new.explainer.journal started reported)
+    c.write_start.ensures.same c.in_ok-write_entries.ensures.reported in
+    let last : Appends reported (g.W.Write.contents c.write_end.new.w)
     ((texts c.args.format.now).finish c.finish-report.result c.standings_of-standings.result) =
-    subst (λ (t : Texts). Appends told (g.W.Write.contents c.write_end.new.w)
+    subst (λ (t : Texts). Appends reported (g.W.Write.contents c.write_end.new.w)
     (t.finish c.finish-report.result c.standings_of-standings.result))
     (c.in_ok-write_entries.ensures.same ∙ c.write_start.ensures.same) c.in_ok-write_end.ensures in
-    tells (texts c.args.format.now) c.args.explainer.plan c.args.schedule.now c.write_entries.new.explainer
-    c.finish-report.result c.standings_of-standings.result (g.W.Write.contents c.args.w.now) started told
+    reports_facts (texts c.args.format.now) c.args.explainer.plan c.args.schedule.now c.write_entries.new.explainer
+    c.finish-report.result c.standings_of-standings.result (g.W.Write.contents c.args.w.now) started reported
     (g.W.Write.contents c.write_end.new.w) c.new-chunk.result c.new-chunk.ensures
     c.in_ok-write_entries.ensures.plan c.in_ok-write_entries.ensures.moves c.in_ok-write_start.ensures.written entries
     c.standings_of-standings.ensures c.finish-report.ensures.fits c.finish-report.ensures.one

@@ -1,18 +1,18 @@
--- What was told is a picture.
+-- What was reported is a picture.
 use Rattle.std.proofs.Common.{subst, ap₂}
 use Rattle.std.proofs.lemmas.Result.{IfOk-weaker}
 use Rattle.sab_words.specs.FactFormat.{Texts}
-use Rattle.sab_report.specs.Facts.{TellsFacts}
+use Rattle.sab_report.specs.Facts.{ReportsFacts}
 use Rattle.sab_svg.specs.Picture.{svg_texts}
 use Rattle.sab_report.proofs.Pictures.{draws}
 use Rattle.sab_report.proofs.explaining.draw.Goals as goal
 
 pub returns-clause-ok : goal.returns-clause-ok
 returns-clause-ok g c =
-    IfOk-weaker c.tell_facts.result _ _
+    IfOk-weaker c.report_facts.result _ _
     (λ report h. draws c.args.names.now c.args.plan c.args.schedule.now
-    (g.W.Write.contents c.args.w.now) (g.W.Write.contents c.tell_facts.new.w) report
-    (subst (λ (t : Texts). TellsFacts t c.args.plan c.args.schedule.now (g.W.Write.contents c.args.w.now)
-    (g.W.Write.contents c.tell_facts.new.w) report)
+    (g.W.Write.contents c.args.w.now) (g.W.Write.contents c.report_facts.new.w) report
+    (subst (λ (t : Texts). ReportsFacts t c.args.plan c.args.schedule.now (g.W.Write.contents c.args.w.now)
+    (g.W.Write.contents c.report_facts.new.w) report)
     (ap₂ svg_texts c.new-picture.ensures.names c.new-picture.ensures.shape) h))
-    c.tell_facts.ensures.ok
+    c.report_facts.ensures.ok

@@ -1,11 +1,11 @@
--- What was told stands in its column.
+-- What was reported stands in its column.
 use Rattle.std.proofs.lemmas.Result.{IfOk-weaker}
 use Rattle.sab_report.proofs.Formats.{in_its_column}
 use Rattle.sab_report.proofs.explaining.explain.Goals as goal
 
 pub returns-clause-ok : goal.returns-clause-ok
 returns-clause-ok g c =
-    IfOk-weaker c.tell_facts.result _ _
+    IfOk-weaker c.report_facts.result _ _
     (λ report h. in_its_column _ c.args.names.now c.args.plan c.args.lines c.args.schedule.now
-    (g.W.Write.contents c.args.w.now) (g.W.Write.contents c.tell_facts.new.w) report c.in_ok-column.ensures h)
-    c.tell_facts.ensures.ok
+    (g.W.Write.contents c.args.w.now) (g.W.Write.contents c.report_facts.new.w) report c.in_ok-column.ensures h)
+    c.report_facts.ensures.ok

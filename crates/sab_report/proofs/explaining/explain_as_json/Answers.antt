@@ -1,11 +1,11 @@
--- What was told reads back.
+-- What was reported reads back.
 use Rattle.std.proofs.lemmas.Result.{IfOk-weaker}
 use Rattle.sab_report.proofs.LinesRead.{explains}
 use Rattle.sab_report.proofs.explaining.explain_as_json.Goals as goal
 
 pub returns-clause-ok : goal.returns-clause-ok
 returns-clause-ok g c =
-    IfOk-weaker c.tell_facts.result _ _
+    IfOk-weaker c.report_facts.result _ _
     (λ report h. explains c.args.names.now c.args.lines c.args.plan c.args.schedule.now
-    (g.W.Write.contents c.args.w.now) (g.W.Write.contents c.tell_facts.new.w) report h)
-    c.tell_facts.ensures.ok
+    (g.W.Write.contents c.args.w.now) (g.W.Write.contents c.report_facts.new.w) report h)
+    c.report_facts.ensures.ok

@@ -3,7 +3,7 @@ use Rattle.std.proofs.Common.{◌≡◌, ap, ◌∙◌, sym, subst, All, ◌<◌
 use Rattle.sab_plan.specs.declared.entry.Entry.{Entry}
 use Rattle.sab_plan.specs.Report.{ReportParts}
 use Rattle.sab_events.proofs.Fitting.{agents_in_report}
-use Rattle.sab_report.proofs.Verdicts.{verdict_told}
+use Rattle.sab_report.proofs.Verdicts.{verdict_reported}
 use Rattle.sab_report.proofs.judging.judge_report.Goals as goal
 
 pub trace_of-requires-clause-agents : goal.trace_of-requires-clause-agents
@@ -17,7 +17,7 @@ pub returns-in-Ok-clause-ok : goal.returns-in-Ok-clause-ok
 returns-in-Ok-clause-ok g c =
     let journal : c.as_slice-journal.result.now ≡ c.args.report.now.journal =
     c.as_slice-journal.ensures.value ∙ ap (λ (r : ReportParts). r.journal) c.report.view_is in
-    verdict_told c.args.format c.args.names.now c.args.plan.now c.args.report.now c.as_slice-journal.result.now
+    verdict_reported c.args.format c.args.names.now c.args.plan.now c.args.report.now c.as_slice-journal.result.now
     c.in_ok-trace.trace c.in_ok-verdict.verdict.races.items c.in_ok-verdict.verdict.rest
     c.in_ok-verdict.verdict.data_races c.has_no_race.result
     (g.W.Write.contents c.args.w.now) (g.W.Write.contents c.write_run_verdict.new.w)

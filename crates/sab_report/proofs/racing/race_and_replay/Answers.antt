@@ -3,8 +3,8 @@ use Rattle.std.proofs.Common.{◌≡◌, ◌∙◌, ap}
 use Rattle.sab_plan.specs.Report.{ReportParts}
 use Rattle.sab_report.proofs.racing.race_and_replay.Goals as goal
 
-pub tell_moves-requires-clause-moves : goal.tell_moves-requires-clause-moves
-tell_moves-requires-clause-moves g c =
+pub report_moves-requires-clause-moves : goal.report_moves-requires-clause-moves
+report_moves-requires-clause-moves g c =
     let made : c.as_slice.result.now ≡ c.in_ok-report.report.schedule =
     c.as_slice.ensures.value ∙ ap (λ (r : ReportParts). r.schedule) c.report.view_is in
     let moves = c.in_ok-report.ensures.race.race.fits.moves in

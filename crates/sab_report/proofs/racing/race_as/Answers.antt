@@ -6,14 +6,14 @@ use Rattle.sab_report.proofs.racing.race_as.Goals as goal
 pub names_of-requires : goal.names_of-requires
 names_of-requires g c = spelled_short _ _ c.in_ok-setup.ensures.ok.spelled
 
-pub tell_race-requires-clause-names : goal.tell_race-requires-clause-names
-tell_race-requires-clause-names g c = λ _ _.
+pub report_race-requires-clause-names : goal.report_race-requires-clause-names
+report_race-requires-clause-names g c = λ _ _.
     rw (c.deref.ensures.value, c.in_ok-names.ensures) (spelled_plain _ _ c.in_ok-setup.ensures.ok.spelled)
 
-pub tell_race-requires-clause-plan : goal.tell_race-requires-clause-plan
-tell_race-requires-clause-plan g c = λ _ _.
+pub report_race-requires-clause-plan : goal.report_race-requires-clause-plan
+report_race-requires-clause-plan g c = λ _ _.
     rw c.into_parts-plan.ensures.plan (spelled_plan _ _ c.in_ok-setup.ensures.ok.spelled)
 
-pub tell_race-requires-clause-numbers : goal.tell_race-requires-clause-numbers
-tell_race-requires-clause-numbers g c = λ _ _.
+pub report_race-requires-clause-numbers : goal.report_race-requires-clause-numbers
+report_race-requires-clause-numbers g c = λ _ _.
     rw c.into_parts-plan.ensures.plan (spelled_safe _ _ c.in_ok-setup.ensures.ok.spelled)

@@ -8,20 +8,20 @@ use Rattle.sab_report.proofs.replaying.replay_as.Goals as goal
 pub names_of-requires : goal.names_of-requires
 names_of-requires g c = spelled_short _ _ c.in_ok-setup.ensures.ok.spelled
 
-pub tell_moves-requires-clause-plan : goal.tell_moves-requires-clause-plan
-tell_moves-requires-clause-plan g c =
+pub report_moves-requires-clause-plan : goal.report_moves-requires-clause-plan
+report_moves-requires-clause-plan g c =
     rw c.into_parts-plan.ensures.plan (spelled_plan _ _ c.in_ok-setup.ensures.ok.spelled)
 
-pub tell_moves-requires-clause-numbers : goal.tell_moves-requires-clause-numbers
-tell_moves-requires-clause-numbers g c =
+pub report_moves-requires-clause-numbers : goal.report_moves-requires-clause-numbers
+report_moves-requires-clause-numbers g c =
     rw c.into_parts-plan.ensures.plan (spelled_safe _ _ c.in_ok-setup.ensures.ok.spelled)
 
-pub tell_moves-requires-clause-names : goal.tell_moves-requires-clause-names
-tell_moves-requires-clause-names g c =
+pub report_moves-requires-clause-names : goal.report_moves-requires-clause-names
+report_moves-requires-clause-names g c =
     rw (c.deref.ensures.value, c.in_ok-names.ensures) (spelled_plain _ _ c.in_ok-setup.ensures.ok.spelled)
 
-pub tell_moves-requires-clause-moves : goal.tell_moves-requires-clause-moves
-tell_moves-requires-clause-moves g c =
+pub report_moves-requires-clause-moves : goal.report_moves-requires-clause-moves
+report_moves-requires-clause-moves g c =
     let schedule = c.in_ok-setup.ensures.ok.spelled.schedule in
     let few : length c.in_ok-setup.setup.schedule ≤ 100000 = schedule.1 in
     rw (c.as_slice.ensures.value, c.into_parts-plan.ensures.schedule, c.into_parts-plan.ensures.plan)

@@ -12,8 +12,8 @@ use Rattle.sab_script.specs.Truth.{IsTrueWhere, IsListOf, limit_of}
 use Rattle.sab_script.specs.Views.{view_names}
 use Rattle.sab_script.proofs.agents.read_agents.Goals as goal
 
-pub returns-clause-told : goal.returns-clause-told
-returns-clause-told c =
+pub returns-clause-reported : goal.returns-clause-reported
+returns-clause-reported c =
     let place = c.args.at in
     let names = view_names c.args.views.now in
     let d = array (items_view c.args.trees.now) in
@@ -21,6 +21,6 @@ returns-clause-told c =
     (IsTrueWhere place d (λ root. IsListOf unit.Agents place × (MAX_AGENTS ≡ limit_of unit.Agents)
     × ((i : ℕ) → ((k : ℕ) × (item_at place i ≡ at.Item M.Agents k)) × HasNames root names)))
     (IsTrueWhere place d (λ root. (place ≡ at.Member M.Agents) × HasNames root names))
-    (λ e told root stands known. told root stands
+    (λ e reported root stands known. reported root stands
     (known.0, refl, λ i. ((i, ap (λ p. item_at p i) known.0), known.1)))
-    c.read_each.ensures.told
+    c.read_each.ensures.reported

@@ -18,16 +18,16 @@ returns-else-is_empty-clause-found c =
     c.in_ok-trees-in-Blocks.ensures.reads (at_least_one _ (sym c.is_empty.ensures ∙ c.if-is_empty.false))
     c.read_each.ensures.found
 
-pub returns-else-is_empty-clause-told : goal.returns-else-is_empty-clause-told
-returns-else-is_empty-clause-told c =
+pub returns-else-is_empty-clause-reported : goal.returns-else-is_empty-clause-reported
+returns-else-is_empty-clause-reported c =
     let place = c.args.at in
     let ds = items_view c.in_ok-trees-in-Blocks.trees.now in
     IfErr-weaker c.read_each.result
     (IsTrueWhere place (array ds) (λ root. IsListOf unit.Blocks place × (MAX_BLOCKS ≡ limit_of unit.Blocks)
     × ((i : ℕ) → IsLenPlace (item_at place i))))
     (IsTrueWhere place (view c.args.tree.now) (λ root. place ≡ at.Member (lens_member c.args.form)))
-    (λ e told root stands known.
+    (λ e reported root stands known.
     let list : place ≡ at.Member M.Blocks = rw c.in-Blocks.is at known in
-    told root (stands ∙ ap Some c.in_ok-trees-in-Blocks.ensures.reads)
+    reported root (stands ∙ ap Some c.in_ok-trees-in-Blocks.ensures.reads)
     (list, refl, λ i. inr (i, ap (λ p. item_at p i) list)))
-    c.read_each.ensures.told
+    c.read_each.ensures.reported

@@ -16,8 +16,8 @@ use Rattle.sab_script.proofs.CallParts.{named_call, op_named}
 use Rattle.sab_script.specs.Known.{HasArguments}
 use Rattle.sab_script.specs.Truth.{IsTrueOf}
 use Rattle.sab_script.proofs.Refusing.{exit_refuses}
-use Rattle.sab_script.proofs.Telling.{exit_told}
-use Rattle.sab_script.proofs.ToldCalls.{takes_load, takes_store, takes_compare_exchange, takes_wait, takes_notify}
+use Rattle.sab_script.proofs.Exits.{exit_reported}
+use Rattle.sab_script.proofs.CallReasons.{takes_load, takes_store, takes_compare_exchange, takes_wait, takes_notify}
 use Rattle.sab_script.proofs.calls.call_of.Goals as goal
 
 pub returns-in_err-no_operand-in-load-clause-found : goal.returns-in_err-no_operand-in-load-clause-found
@@ -118,53 +118,53 @@ returns-in_ok-count-in-notify-clause-found c =
     let index = sym (to_z-of_z w64 c.args.index c.ranges.index) in
     record { name = c.in-notify.is; view = refl; index = index; arguments = c.in_ok-count-in-notify.ensures.found }
 
--- what is told of a refusal where the name and the arguments of a call are known
-abbrev Told : Location → List ℕ → Items → Located → Type 0
-Told place name ds e = (root : Data) → HasArguments root place name ds → IsTrueOf root e
+-- what is reported about a refusal where the name and the arguments of a call are known
+abbrev Reported : Location → List ℕ → Items → Located → Type 0
+Reported place name ds e = (root : Data) → HasArguments root place name ds → IsTrueOf root e
 
-pub returns-in_err-no_operand-in-load-clause-told : goal.returns-in_err-no_operand-in-load-clause-told
-returns-in_err-no_operand-in-load-clause-told c =
+pub returns-in_err-no_operand-in-load-clause-reported : goal.returns-in_err-no_operand-in-load-clause-reported
+returns-in_err-no_operand-in-load-clause-reported c =
     let a = c.args in
-    exit_told (Told a.at a.name.now (items_view a.operands.now))
+    exit_reported (Reported a.at a.name.now (items_view a.operands.now))
     c.from_residual.result _ c.from_residual.ensures.1
-    (λ root h. c.in_err-no_operand-in-load.ensures.told root a.name.now h (rw c.in-load.is takes_load))
+    (λ root h. c.in_err-no_operand-in-load.ensures.reported root a.name.now h (rw c.in-load.is takes_load))
 
-pub returns-in_err-value-in-store-clause-told : goal.returns-in_err-value-in-store-clause-told
-returns-in_err-value-in-store-clause-told c =
+pub returns-in_err-value-in-store-clause-reported : goal.returns-in_err-value-in-store-clause-reported
+returns-in_err-value-in-store-clause-reported c =
     let a = c.args in
-    exit_told (Told a.at a.name.now (items_view a.operands.now))
+    exit_reported (Reported a.at a.name.now (items_view a.operands.now))
     c.from_residual-in_err-value-in-store.result _ c.from_residual-in_err-value-in-store.ensures.1
-    (λ root h. c.in_err-value-in-store.ensures.told root a.name.now h (rw c.in-store.is takes_store))
+    (λ root h. c.in_err-value-in-store.ensures.reported root a.name.now h (rw c.in-store.is takes_store))
 
-pub returns-in_err-expected-in-compareExchange-clause-told :
-    goal.returns-in_err-expected-in-compareExchange-clause-told
-returns-in_err-expected-in-compareExchange-clause-told c =
+pub returns-in_err-expected-in-compareExchange-clause-reported :
+    goal.returns-in_err-expected-in-compareExchange-clause-reported
+returns-in_err-expected-in-compareExchange-clause-reported c =
     let a = c.args in
-    exit_told (Told a.at a.name.now (items_view a.operands.now))
+    exit_reported (Reported a.at a.name.now (items_view a.operands.now))
     c.from_residual-in_err-expected-in-compareExchange.result _
     c.from_residual-in_err-expected-in-compareExchange.ensures.1
-    (λ root h. c.in_err-expected-in-compareExchange.ensures.told root a.name.now h
+    (λ root h. c.in_err-expected-in-compareExchange.ensures.reported root a.name.now h
     (rw c.in-compareExchange.is takes_compare_exchange))
 
-pub returns-in_err-value-in-wait-clause-told : goal.returns-in_err-value-in-wait-clause-told
-returns-in_err-value-in-wait-clause-told c =
+pub returns-in_err-value-in-wait-clause-reported : goal.returns-in_err-value-in-wait-clause-reported
+returns-in_err-value-in-wait-clause-reported c =
     let a = c.args in
-    exit_told (Told a.at a.name.now (items_view a.operands.now))
+    exit_reported (Reported a.at a.name.now (items_view a.operands.now))
     c.from_residual-in_err-value-in-wait.result _ c.from_residual-in_err-value-in-wait.ensures.1
-    (λ root h. c.in_err-value-in-wait.ensures.told root a.name.now h (rw c.in-wait.is takes_wait))
+    (λ root h. c.in_err-value-in-wait.ensures.reported root a.name.now h (rw c.in-wait.is takes_wait))
 
-pub returns-in_err-count-in-notify-clause-told : goal.returns-in_err-count-in-notify-clause-told
-returns-in_err-count-in-notify-clause-told c =
+pub returns-in_err-count-in-notify-clause-reported : goal.returns-in_err-count-in-notify-clause-reported
+returns-in_err-count-in-notify-clause-reported c =
     let a = c.args in
-    exit_told (Told a.at a.name.now (items_view a.operands.now))
+    exit_reported (Reported a.at a.name.now (items_view a.operands.now))
     c.from_residual-in_err-count-in-notify.result _ c.from_residual-in_err-count-in-notify.ensures.1
-    (λ root h. c.in_err-count-in-notify.ensures.told root a.name.now _ h refl (rw c.in-notify.is takes_notify))
+    (λ root h. c.in_err-count-in-notify.ensures.reported root a.name.now _ h refl (rw c.in-notify.is takes_notify))
 
-pub returns-in_err-rmw_op-in_default-clause-told : goal.returns-in_err-rmw_op-in_default-clause-told
-returns-in_err-rmw_op-in_default-clause-told c =
+pub returns-in_err-rmw_op-in_default-clause-reported : goal.returns-in_err-rmw_op-in_default-clause-reported
+returns-in_err-rmw_op-in_default-clause-reported c =
     let a = c.args in
     let other = c.in_default in
-    exit_told (Told a.at a.name.now (items_view a.operands.now))
+    exit_reported (Reported a.at a.name.now (items_view a.operands.now))
     c.from_residual-in_err-rmw_op-in_default.result _ c.from_residual-in_err-rmw_op-in_default.ensures.1
-    (λ root h. c.in_err-rmw_op-in_default.ensures.told root h.i h.j h.is_place h.named
+    (λ root h. c.in_err-rmw_op-in_default.ensures.reported root h.i h.j h.is_place h.named
     (op_named a.name.now other.not-load other.not-store other.not-compareExchange other.not-wait other.not-notify))

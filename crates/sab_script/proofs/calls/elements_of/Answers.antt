@@ -2,7 +2,7 @@ use Rattle.std.proofs.Common.{[], ◌∷◌, refl}
 use Rattle.sab_block.specs.declared.rmw_op.RmwOp.TheVariants.{Exchange, Add, Sub, And, Or, Xor}
 use Rattle.sab_refusal.specs.declared.reason.Wanted.TheVariants as wanted
 use Rattle.sab_script.proofs.CallParts.{no_name}
-use Rattle.sab_script.proofs.ToldCalls.{takes_load, takes_store, takes_rmw, takes_compare_exchange, takes_wait, takes_notify}
+use Rattle.sab_script.proofs.CallReasons.{takes_load, takes_store, takes_rmw, takes_compare_exchange, takes_wait, takes_notify}
 use Rattle.sab_script.proofs.calls.elements_of.Goals as goal
 
 pub returns-in-load : goal.returns-in-load

@@ -17,9 +17,9 @@ use Rattle.sab_script.specs.Known.{HasNames, HasArguments}
 use Rattle.sab_script.specs.Truth.{IsTrueOf, IsTrueWhere}
 use Rattle.sab_script.proofs.Lengths.{three_items, three_long, end_whole}
 use Rattle.sab_script.proofs.Refusing.{exit_refuses, refuses_all}
-use Rattle.sab_script.proofs.Telling.{exit_told}
-use Rattle.sab_script.proofs.ToldArguments.{err_told, item_read}
-use Rattle.sab_script.proofs.ToldCalls.{call_element, has_arguments}
+use Rattle.sab_script.proofs.Exits.{exit_reported}
+use Rattle.sab_script.proofs.ArgumentReasons.{err_reported, item_read}
+use Rattle.sab_script.proofs.CallReasons.{call_element, has_arguments}
 use Rattle.sab_script.proofs.WholeCall.{word_part, name_part, index_part, reads_call}
 use Rattle.sab_script.proofs.calls.read_call.Goals as goal
 
@@ -97,65 +97,65 @@ abbrev Knows : Location → List (List ℕ) → Data → Type 0
 Knows place names root =
     ((i : ℕ) × (j : ℕ) × (place ≡ at.Call M.Agents i M.Calls j)) × HasNames root names
 
-pub returns-in_default-clause-told : goal.returns-in_default-clause-told
-returns-in_default-clause-told c = λ root stands known.
+pub returns-in_default-clause-reported : goal.returns-in_default-clause-reported
+returns-in_default-clause-reported c = λ root stands known.
     let trees = c.in_ok-trees.trees.now in
     let here = stands ∙ ap (λ (x : Data). Some x) c.in_ok-trees.ensures.reads in
     let some : 0 < length trees = search rules in
     let there = item_read trees 0 c.index-trees-0.result some c.index-trees-0.is in
-    c.cut_short.ensures.told root known.0.0 known.0.1 known.0.2
+    c.cut_short.ensures.reported root known.0.0 known.0.1 known.0.2
     (call_element root c.args.at known.0.0 known.0.1 0 (items_view trees) _ known.0.2 here there)
     (items_view trees, here, items_len-items_view trees)
 
-pub returns-in_err-name-clause-told : goal.returns-in_err-name-clause-told
-returns-in_err-name-clause-told c =
+pub returns-in_err-name-clause-reported : goal.returns-in_err-name-clause-reported
+returns-in_err-name-clause-reported c =
     let a = c.args in
     let trees = c.in_ok-trees.trees.now in
-    exit_told (IsTrueWhere a.at (view a.tree.now) (Knows a.at (view_names a.views.now)))
+    exit_reported (IsTrueWhere a.at (view a.tree.now) (Knows a.at (view_names a.views.now)))
     c.from_residual-in_err-name.result _ c.from_residual-in_err-name.ensures.1 (λ root stands known.
     let here = stands ∙ ap (λ (x : Data). Some x) c.in_ok-trees.ensures.reads in
     let some = c.in-len3-up.len_at_least in
     let there = item_read trees 0 c.name_tree-item.result (omega (arith, some)) c.name_tree-item.is in
-    c.in_err-name.ensures.told root
+    c.in_err-name.ensures.reported root
     (rw c.item.ensures (call_element root a.at known.0.0 known.0.1 0 (items_view trees) _ known.0.2 here there))
     (rw (c.item.ensures, known.0.2) (refl, refl, refl)))
 
-pub returns-in_err-view-clause-told : goal.returns-in_err-view-clause-told
-returns-in_err-view-clause-told c =
+pub returns-in_err-view-clause-reported : goal.returns-in_err-view-clause-reported
+returns-in_err-view-clause-reported c =
     let a = c.args in
     let trees = c.in_ok-trees.trees.now in
-    exit_told (IsTrueWhere a.at (view a.tree.now) (Knows a.at (view_names a.views.now)))
+    exit_reported (IsTrueWhere a.at (view a.tree.now) (Knows a.at (view_names a.views.now)))
     c.from_residual-in_err-view.result _ c.from_residual-in_err-view.ensures.1 (λ root stands known.
     let here = stands ∙ ap (λ (x : Data). Some x) c.in_ok-trees.ensures.reads in
     let some = c.in-len3-up.len_at_least in
     let there = item_read trees 1 c.view_tree-item.result (omega (arith, some)) c.view_tree-item.is in
-    c.in_err-view.ensures.told root
+    c.in_err-view.ensures.reported root
     (rw c.item-2.ensures (call_element root a.at known.0.0 known.0.1 1 (items_view trees) _ known.0.2 here there))
     ((known.0.0, known.0.1, c.item-2.ensures ∙ ap (λ (p : Location). item_at p 1) known.0.2), known.1))
 
-pub returns-in_err-index-clause-told : goal.returns-in_err-index-clause-told
-returns-in_err-index-clause-told c =
+pub returns-in_err-index-clause-reported : goal.returns-in_err-index-clause-reported
+returns-in_err-index-clause-reported c =
     let a = c.args in
     let trees = c.in_ok-trees.trees.now in
-    exit_told (IsTrueWhere a.at (view a.tree.now) (Knows a.at (view_names a.views.now)))
+    exit_reported (IsTrueWhere a.at (view a.tree.now) (Knows a.at (view_names a.views.now)))
     c.from_residual-in_err-index.result _ c.from_residual-in_err-index.ensures.1 (λ root stands known.
     let here = stands ∙ ap (λ (x : Data). Some x) c.in_ok-trees.ensures.reads in
     let some = c.in-len3-up.len_at_least in
     let there = item_read trees 2 c.index_tree-item.result (omega (arith, some)) c.index_tree-item.is in
-    c.in_err-index.ensures.told root
+    c.in_err-index.ensures.reported root
     (rw c.item-3.ensures (call_element root a.at known.0.0 known.0.1 2 (items_view trees) _ known.0.2 here there))
     (rw (c.item-3.ensures, known.0.2) (refl, refl, refl), ((λ x. x), (λ x. x))))
 
-pub returns-clause-told : goal.returns-clause-told
-returns-clause-told c =
+pub returns-clause-reported : goal.returns-clause-reported
+returns-clause-reported c =
     let a = c.args in
     let trees = c.in_ok-trees.trees.now in
     let rest = items_view (drop 3 trees) in
     let tree = c.in_ok-trees.ensures.reads ∙ ap array (three_items trees c.name_tree-item.result
     c.view_tree-item.result c.index_tree-item.result c.in-len3-up.len_at_least c.name_tree-item.is
     c.view_tree-item.is c.index_tree-item.is) in
-    err_told (λ e. (root : Data) → HasArguments root a.at c.in_ok-name.name.now rest → IsTrueOf root e)
+    err_reported (λ e. (root : Data) → HasArguments root a.at c.in_ok-name.name.now rest → IsTrueOf root e)
     (IsTrueWhere a.at (view a.tree.now) (Knows a.at (view_names a.views.now))) c.call_of.result
-    (rw end_whole at c.call_of.ensures.told) (λ e told root stands known. told root
+    (rw end_whole at c.call_of.ensures.reported) (λ e reported root stands known. reported root
     (has_arguments root a.at known.0.0 known.0.1 c.in_ok-name.name.now _ _ _ rest known.0.2
     (stands ∙ ap (λ (x : Data). Some x) tree) c.in_ok-name.ensures.reads))

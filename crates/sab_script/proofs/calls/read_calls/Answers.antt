@@ -10,16 +10,16 @@ use Rattle.sab_refusal.specs.declared.reason.Unit.TheVariants as unit
 use Rattle.sab_script.specs.Known.{HasNames}
 use Rattle.sab_script.specs.Truth.{IsTrueWhere, IsListOf, limit_of}
 use Rattle.sab_script.specs.Views.{view_names}
-use Rattle.sab_script.proofs.ToldArguments.{err_told}
+use Rattle.sab_script.proofs.ArgumentReasons.{err_reported}
 use Rattle.sab_script.proofs.calls.read_calls.Goals as goal
 
-pub returns-clause-told : goal.returns-clause-told
-returns-clause-told c =
+pub returns-clause-reported : goal.returns-clause-reported
+returns-clause-reported c =
     let a = c.args in
     let d = array (items_view a.trees.now) in
     let names = view_names a.views.now in
-    err_told (IsTrueWhere a.at d (λ root. IsListOf unit.Calls a.at × (MAX_CALLS ≡ limit_of unit.Calls)
+    err_reported (IsTrueWhere a.at d (λ root. IsListOf unit.Calls a.at × (MAX_CALLS ≡ limit_of unit.Calls)
     × ((k : ℕ) → ((i : ℕ) × (j : ℕ) × (item_at a.at k ≡ at.Call M.Agents i M.Calls j)) × HasNames root names)))
     (IsTrueWhere a.at d (λ root. ((i : ℕ) × (a.at ≡ at.Part M.Agents i M.Calls)) × HasNames root names))
-    c.read_each.result c.read_each.ensures.told (λ e told root stands known. told root stands
+    c.read_each.result c.read_each.ensures.reported (λ e reported root stands known. reported root stands
     (known.0, refl, λ k. ((known.0.0, k, ap (λ (p : Location). item_at p k) known.0.1), known.1)))

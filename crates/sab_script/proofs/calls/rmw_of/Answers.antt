@@ -10,8 +10,8 @@ use Rattle.sab_script.specs.Known.{HasArguments}
 use Rattle.sab_script.specs.Truth.{IsTrueOf}
 use Rattle.sab_script.proofs.CallParts.{op_verb, named_call}
 use Rattle.sab_script.proofs.Refusing.{exit_refuses}
-use Rattle.sab_script.proofs.Telling.{exit_told}
-use Rattle.sab_script.proofs.ToldCalls.{takes_rmw}
+use Rattle.sab_script.proofs.Exits.{exit_reported}
+use Rattle.sab_script.proofs.CallReasons.{takes_rmw}
 use Rattle.sab_script.proofs.calls.rmw_of.Goals as goal
 
 pub returns-in_err-value-clause-found : goal.returns-in_err-value-clause-found
@@ -25,10 +25,10 @@ returns-in_err-value-clause-found c =
     let named = rw (op_verb a.op) at (named_call (function_of_op a.op) a.view a.index rest call h) in
     (named.0, named.1))
 
-pub returns-in_err-value-clause-told : goal.returns-in_err-value-clause-told
-returns-in_err-value-clause-told c =
+pub returns-in_err-value-clause-reported : goal.returns-in_err-value-clause-reported
+returns-in_err-value-clause-reported c =
     let a = c.args in
     let rest = items_view a.operands.now in
-    exit_told (λ e. (root : Data) → HasArguments root a.at (function_of_op a.op) rest → IsTrueOf root e)
+    exit_reported (λ e. (root : Data) → HasArguments root a.at (function_of_op a.op) rest → IsTrueOf root e)
     c.from_residual.result _ c.from_residual.ensures.1
-    (λ root h. c.in_err-value.ensures.told root (function_of_op a.op) h (takes_rmw a.op))
+    (λ root h. c.in_err-value.ensures.reported root (function_of_op a.op) h (takes_rmw a.op))

@@ -3,7 +3,7 @@ use Rattle.serde_json.specs.Data.{array}
 use Rattle.sab_refusal.specs.Location.{item_at}
 use Rattle.sab_script.specs.Truth.{IsTrueWhere, IsListOf, limit_of}
 use Rattle.sab_script.proofs.Standing.{has_many, item_of_list, item_seen}
-use Rattle.sab_script.proofs.Telling.{exit_told, exit_told_memory}
+use Rattle.sab_script.proofs.Exits.{exit_reported, exit_reported_memory}
 use Rattle.serde_json.specs.View.{view, items_view}
 use Rattle.sab_script.specs.Reading.{SpellsUpTo}
 use Rattle.sab_script.proofs.Each.{length-each, item_part, each_all}
@@ -37,30 +37,30 @@ returns-clause-found g c =
     c.loop-tree.invariant.read in
     (each, let count = length-each S c.args.trees.now c.loop-tree.elements.items each in omega arith)
 
-pub returns-then-trees-most-clause-told : goal.returns-then-trees-most-clause-told
-returns-then-trees-most-clause-told g c =
+pub returns-then-trees-most-clause-reported : goal.returns-then-trees-most-clause-reported
+returns-then-trees-most-clause-reported g c =
     λ root stands known. (
       has_many c.args.unit root c.args.at c.args.trees.now known.0 stands,
       known.1,
       c.if-trees-most.true,
     )
 
-pub returns-in_err-elements-clause-told : goal.returns-in_err-elements-clause-told
-returns-in_err-elements-clause-told g c =
-    exit_told_memory c.args.at (array (items_view c.args.trees.now)) _ c.from_residual.result c.from_residual.ensures.1
+pub returns-in_err-elements-clause-reported : goal.returns-in_err-elements-clause-reported
+returns-in_err-elements-clause-reported g c =
+    exit_reported_memory c.args.at (array (items_view c.args.trees.now)) _ c.from_residual.result c.from_residual.ensures.1
 
-pub returns-in_err-read-clause-told : goal.returns-in_err-read-clause-told
-returns-in_err-read-clause-told g c =
+pub returns-in_err-read-clause-reported : goal.returns-in_err-read-clause-reported
+returns-in_err-read-clause-reported g c =
     let place = c.args.at in
     let ts = c.args.trees.now in
     let i = c.loop-tree.tree-index in
     let t = c.tree-item.result in
     let there : c.item.result ≡ item_at place i = cc in
-    exit_told (IsTrueWhere place (array (items_view ts)) (λ root. IsListOf c.args.unit place
+    exit_reported (IsTrueWhere place (array (items_view ts)) (λ root. IsListOf c.args.unit place
     × (c.args.most ≡ limit_of c.args.unit)
     × ((n : ℕ) → g.R.Reader.Knows c.args.reader.now root (item_at place n))))
     c.from_residual-in_err-read.result c.in_err-read.field-0.0 c.from_residual-in_err-read.ensures.1
-    (λ root stands known. c.in_err-read.ensures.told root
+    (λ root stands known. c.in_err-read.ensures.reported root
     (rw there (item_of_list c.args.unit root place (items_view ts) i (view t) known.0 stands
     (item_seen ts i t c.loop-tree-test.true c.tree-item.is)))
     (rw there (known.2 i)))

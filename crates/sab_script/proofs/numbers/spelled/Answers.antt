@@ -4,8 +4,8 @@ use Rattle.sab_script.proofs.numbers.spelled.Goals as goal
 pub returns : goal.returns
 returns c =
     let text = c.format_finite_with_plus.result.now in
-    let told = c.format_finite_with_plus.ensures in (
+    let reported = c.format_finite_with_plus.ensures in (
       text,
-      number_of-plus _ _ text c.args.x told.layout told.parses c.requires,
+      number_of-plus _ _ text c.args.x reported.layout reported.parses c.requires,
       record { bytes = c.of.ensures.bytes; cut = c.of.ensures.cut },
     )

@@ -23,7 +23,7 @@ returns-else-eq c =
     let bad : false ≡ true = differs ∙ alike in cc in
     record {
       found = rw c.no_big.ensures.fault none;
-      told = λ root stands called. c.no_big.ensures.told root stands (called, none);
+      reported = λ root stands called. c.no_big.ensures.reported root stands (called, none);
     }
 
 pub returns-in-Err : goal.returns-in-Err
@@ -32,5 +32,5 @@ returns-in-Err c =
     let read = parse-big z c.args.digits.now c.parse.result h.1 h.0 c.parse.ensures.value.0 in cc in
     record {
       found = rw c.no_big-in-Err.ensures.fault none;
-      told = λ root stands called. c.no_big-in-Err.ensures.told root stands (called, none);
+      reported = λ root stands called. c.no_big-in-Err.ensures.reported root stands (called, none);
     }

@@ -7,24 +7,24 @@ use Rattle.sab_script.specs.Known.{HasArguments}
 use Rattle.sab_script.specs.Truth.{IsTrueOf, IsTrueWhere}
 use Rattle.sab_script.specs.Arguments.{TakesJust}
 use Rattle.serde_json.proofs.Views.{items_len-items_view}
-use Rattle.sab_script.proofs.ToldArguments.{err_told, item_read, argument_stands, argument_called}
+use Rattle.sab_script.proofs.ArgumentReasons.{err_reported, item_read, argument_stands, argument_called}
 use Rattle.sab_script.proofs.operands.one_operand.Goals as goal
 
-pub returns-in_default-clause-told : goal.returns-in_default-clause-told
-returns-in_default-clause-told c = λ root name h takes.
+pub returns-in_default-clause-reported : goal.returns-in_default-clause-reported
+returns-in_default-clause-reported c = λ root name h takes.
     let trees = c.args.trees.now in
     let types = wanted.Operand ∷ [] in
     let fits : length trees < 2 ^ 63 = search rules in
     let wrong : 1 ≤ length trees → 1 < length trees = search rules in
-    c.wrong_count.ensures.told root name _ types h takes (items_len-items_view trees) refl wrong (omega (arith, fits))
+    c.wrong_count.ensures.reported root name _ types h takes (items_len-items_view trees) refl wrong (omega (arith, fits))
 
-pub returns-clause-told : goal.returns-clause-told
-returns-clause-told c =
+pub returns-clause-reported : goal.returns-clause-reported
+returns-clause-reported c =
     let a = c.args in
     let types = wanted.Operand ∷ [] in
-    err_told (IsTrueWhere c.item.result (view c.value-item.result) (λ root. CallsFor root c.item.result wanted.Operand))
+    err_reported (IsTrueWhere c.item.result (view c.value-item.result) (λ root. CallsFor root c.item.result wanted.Operand))
     (λ e. (root : Data) (name : List ℕ) → HasArguments root a.at name (items_view a.trees.now) → TakesJust name types
-    → IsTrueOf root e) c.operand.result c.operand.ensures.told (λ e told root name h takes.
+    → IsTrueOf root e) c.operand.result c.operand.ensures.reported (λ e reported root name h takes.
     let there = item_read a.trees.now 0 c.value-item.result c.in-len1.len_at_least c.value-item.is in
-    told root (rw c.item.ensures (argument_stands root a.at name _ 0 _ h there))
+    reported root (rw c.item.ensures (argument_stands root a.at name _ 0 _ h there))
     (rw c.item.ensures (argument_called root a.at name _ types 0 wanted.Operand h takes.longest refl)))

@@ -5,22 +5,22 @@ use Rattle.serde_json.specs.View.{view}
 use Rattle.sab_refusal.specs.declared.reason.Wanted.TheVariants as wanted
 use Rattle.sab_script.specs.Places.{CallsFor}
 use Rattle.sab_script.specs.Truth.{IsTrueWhere}
-use Rattle.sab_script.proofs.Telling.{exit_told}
-use Rattle.sab_script.proofs.ToldArguments.{number_as_operand}
+use Rattle.sab_script.proofs.Exits.{exit_reported}
+use Rattle.sab_script.proofs.ArgumentReasons.{number_as_operand}
 use Rattle.sab_script.proofs.operands.operand.Goals as goal
 
-pub returns-in_err-big-clause-told : goal.returns-in_err-big-clause-told
-returns-in_err-big-clause-told c =
+pub returns-in_err-big-clause-reported : goal.returns-in_err-big-clause-reported
+returns-in_err-big-clause-reported c =
     let text : view c.args.tree.now ≡ string c.as_str.result.now =
     search (rules, the_lemmas) in
-    exit_told (IsTrueWhere c.args.at (view c.args.tree.now) (λ root. CallsFor root c.args.at wanted.Operand))
-    c.from_residual.result _ c.from_residual.ensures.1 (rw text c.in_err-big.ensures.told)
+    exit_reported (IsTrueWhere c.args.at (view c.args.tree.now) (λ root. CallsFor root c.args.at wanted.Operand))
+    c.from_residual.result _ c.from_residual.ensures.1 (rw text c.in_err-big.ensures.reported)
 
-pub returns-in_err-number-clause-told : goal.returns-in_err-number-clause-told
-returns-in_err-number-clause-told c =
+pub returns-in_err-number-clause-reported : goal.returns-in_err-number-clause-reported
+returns-in_err-number-clause-reported c =
     let d = view c.args.tree.now in
     let other : (s : List ℕ) → view c.args.tree.now ≡ string s → ⊥ = search (rules, the_lemmas) in
-    exit_told (IsTrueWhere c.args.at d (λ root. CallsFor root c.args.at wanted.Operand))
+    exit_reported (IsTrueWhere c.args.at d (λ root. CallsFor root c.args.at wanted.Operand))
     c.from_residual-in_err-number.result _ c.from_residual-in_err-number.ensures.1
-    (λ root stands called. c.in_err-number.ensures.told root stands
+    (λ root stands called. c.in_err-number.ensures.reported root stands
     (called, number_as_operand d other))

@@ -15,8 +15,8 @@ use Rattle.sab_script.specs.Known.{HasArguments}
 use Rattle.sab_script.specs.Truth.{IsTrueOf}
 use Rattle.sab_script.proofs.Lengths.{as_many, rest_whole, first_argument, argument_then}
 use Rattle.sab_script.proofs.Refusing.{exit_refuses}
-use Rattle.sab_script.proofs.Telling.{exit_told}
-use Rattle.sab_script.proofs.ToldArguments.{item_read, behind_first, argument_stands, argument_called}
+use Rattle.sab_script.proofs.Exits.{exit_reported}
+use Rattle.sab_script.proofs.ArgumentReasons.{item_read, behind_first, argument_stands, argument_called}
 use Rattle.sab_script.proofs.operands.timed_operand.Goals as goal
 
 pub returns-in_default-clause-found : goal.returns-in_default-clause-found
@@ -46,33 +46,33 @@ returns-clause-found c =
     argument_then c.args.trees.now c.value-item.result _ _ c.in-len1-up.len_at_least c.value-item.is
     c.in_ok-value.ensures.found (rw rest_whole at c.in_ok-timeout.ensures.found)
 
--- what is told of a refusal where the arguments of a call are known
-abbrev Told : Location → Items → Located → Type 0
-Told place ds e = (root : Data) (name : List ℕ) → HasArguments root place name ds → TakesTimed name 1 → IsTrueOf root e
+-- what is reported about a refusal where the arguments of a call are known
+abbrev Reported : Location → Items → Located → Type 0
+Reported place ds e = (root : Data) (name : List ℕ) → HasArguments root place name ds → TakesTimed name 1 → IsTrueOf root e
 
-pub returns-in_default-clause-told : goal.returns-in_default-clause-told
-returns-in_default-clause-told c = λ root name h takes.
+pub returns-in_default-clause-reported : goal.returns-in_default-clause-reported
+returns-in_default-clause-reported c = λ root name h takes.
     let trees = c.args.trees.now in
     let types = wanted.Operand ∷ wanted.Whole ∷ [] in
     let fits : length trees < 2 ^ 63 = search rules in
     let few = c.in_default.len_below in
-    c.wrong_count.ensures.told root name _ types h takes (items_len-items_view trees) refl
+    c.wrong_count.ensures.reported root name _ types h takes (items_len-items_view trees) refl
     (λ some. omega (arith, few, some)) (omega (arith, fits))
 
-pub returns-in_err-value-clause-told : goal.returns-in_err-value-clause-told
-returns-in_err-value-clause-told c =
+pub returns-in_err-value-clause-reported : goal.returns-in_err-value-clause-reported
+returns-in_err-value-clause-reported c =
     let a = c.args in
     let types = wanted.Operand ∷ wanted.Whole ∷ [] in
-    exit_told (Told a.at (items_view a.trees.now)) c.from_residual.result _ c.from_residual.ensures.1
+    exit_reported (Reported a.at (items_view a.trees.now)) c.from_residual.result _ c.from_residual.ensures.1
     (λ root name h takes.
     let there = item_read a.trees.now 0 c.value-item.result c.in-len1-up.len_at_least c.value-item.is in
-    c.in_err-value.ensures.told root (rw c.item.ensures (argument_stands root a.at name _ 0 _ h there))
+    c.in_err-value.ensures.reported root (rw c.item.ensures (argument_stands root a.at name _ 0 _ h there))
     (rw c.item.ensures (argument_called root a.at name _ types 0 wanted.Operand h takes.longest refl)))
 
-pub returns-in_err-timeout-clause-told : goal.returns-in_err-timeout-clause-told
-returns-in_err-timeout-clause-told c =
+pub returns-in_err-timeout-clause-reported : goal.returns-in_err-timeout-clause-reported
+returns-in_err-timeout-clause-reported c =
     let a = c.args in
-    exit_told (Told a.at (items_view a.trees.now)) c.from_residual-in_err-timeout.result _
+    exit_reported (Reported a.at (items_view a.trees.now)) c.from_residual-in_err-timeout.result _
     c.from_residual-in_err-timeout.ensures.1
-    (λ root name h takes. c.in_err-timeout.ensures.told root name _ h
+    (λ root name h takes. c.in_err-timeout.ensures.reported root name _ h
     (rw rest_whole (behind_first a.trees.now c.in-len1-up.len_at_least)) takes)

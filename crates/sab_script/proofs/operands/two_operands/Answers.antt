@@ -15,8 +15,8 @@ use Rattle.sab_script.specs.Known.{HasArguments}
 use Rattle.sab_script.specs.Truth.{IsTrueOf}
 use Rattle.sab_script.proofs.Lengths.{first_argument, second_argument, two_arguments}
 use Rattle.sab_script.proofs.Refusing.{exit_refuses}
-use Rattle.sab_script.proofs.Telling.{exit_told}
-use Rattle.sab_script.proofs.ToldArguments.{item_read, argument_stands, argument_called}
+use Rattle.sab_script.proofs.Exits.{exit_reported}
+use Rattle.sab_script.proofs.ArgumentReasons.{item_read, argument_stands, argument_called}
 use Rattle.sab_script.proofs.operands.two_operands.Goals as goal
 
 pub returns-in_err-expected-clause-found : goal.returns-in_err-expected-clause-found
@@ -44,35 +44,35 @@ returns-clause-found c =
 abbrev types : List Wanted
 types = wanted.Operand ∷ wanted.Operand ∷ []
 
--- what is told of a refusal where the arguments of a call are known
-abbrev Told : Location → Items → Located → Type 0
-Told place ds e =
+-- what is reported about a refusal where the arguments of a call are known
+abbrev Reported : Location → Items → Located → Type 0
+Reported place ds e =
     (root : Data) (name : List ℕ) → HasArguments root place name ds → TakesJust name types → IsTrueOf root e
 
-pub returns-in_default-clause-told : goal.returns-in_default-clause-told
-returns-in_default-clause-told c = λ root name h takes.
+pub returns-in_default-clause-reported : goal.returns-in_default-clause-reported
+returns-in_default-clause-reported c = λ root name h takes.
     let trees = c.args.trees.now in
     let fits : length trees < 2 ^ 63 = search rules in
     let wrong : 2 ≤ length trees → 2 < length trees = search rules in
-    c.wrong_count.ensures.told root name _ types h takes (items_len-items_view trees) refl wrong (omega (arith, fits))
+    c.wrong_count.ensures.reported root name _ types h takes (items_len-items_view trees) refl wrong (omega (arith, fits))
 
-pub returns-in_err-expected-clause-told : goal.returns-in_err-expected-clause-told
-returns-in_err-expected-clause-told c =
+pub returns-in_err-expected-clause-reported : goal.returns-in_err-expected-clause-reported
+returns-in_err-expected-clause-reported c =
     let a = c.args in
-    exit_told (Told a.at (items_view a.trees.now)) c.from_residual.result _ c.from_residual.ensures.1
+    exit_reported (Reported a.at (items_view a.trees.now)) c.from_residual.result _ c.from_residual.ensures.1
     (λ root name h takes.
     let many = c.in-len2.len_at_least in
     let there = item_read a.trees.now 0 c.expected-item.result (omega (arith, many)) c.expected-item.is in
-    c.in_err-expected.ensures.told root (rw c.item.ensures (argument_stands root a.at name _ 0 _ h there))
+    c.in_err-expected.ensures.reported root (rw c.item.ensures (argument_stands root a.at name _ 0 _ h there))
     (rw c.item.ensures (argument_called root a.at name _ types 0 wanted.Operand h takes.longest refl)))
 
-pub returns-in_err-replacement-clause-told : goal.returns-in_err-replacement-clause-told
-returns-in_err-replacement-clause-told c =
+pub returns-in_err-replacement-clause-reported : goal.returns-in_err-replacement-clause-reported
+returns-in_err-replacement-clause-reported c =
     let a = c.args in
-    exit_told (Told a.at (items_view a.trees.now)) c.from_residual-in_err-replacement.result _
+    exit_reported (Reported a.at (items_view a.trees.now)) c.from_residual-in_err-replacement.result _
     c.from_residual-in_err-replacement.ensures.1
     (λ root name h takes.
     let many = c.in-len2.len_at_least in
     let there = item_read a.trees.now 1 c.replacement-item.result (omega (arith, many)) c.replacement-item.is in
-    c.in_err-replacement.ensures.told root (rw c.item-2.ensures (argument_stands root a.at name _ 1 _ h there))
+    c.in_err-replacement.ensures.reported root (rw c.item-2.ensures (argument_stands root a.at name _ 1 _ h there))
     (rw c.item-2.ensures (argument_called root a.at name _ types 1 wanted.Operand h takes.longest refl)))

@@ -10,8 +10,8 @@ use Rattle.sab_script.specs.declared.schedule.TheConstants.{MAX_MOVES}
 use Rattle.sab_script.specs.Truth.{IsTrueWhere, HasItems, IsListOf, limit_of}
 use Rattle.sab_script.proofs.schedule.read_schedule.Goals as goal
 
-pub returns-clause-told : goal.returns-clause-told
-returns-clause-told c =
+pub returns-clause-reported : goal.returns-clause-reported
+returns-clause-reported c =
     let place = c.args.at in
     let agents = c.args.agents in
     let d = array (items_view c.args.trees.now) in
@@ -19,6 +19,6 @@ returns-clause-told c =
     (IsTrueWhere place d (λ root. IsListOf unit.Moves place × (MAX_MOVES ≡ limit_of unit.Moves)
     × ((i : ℕ) → ((k : ℕ) × (item_at place i ≡ at.Item M.Schedule k)) × HasItems root (at.Member M.Agents) agents)))
     (IsTrueWhere place d (λ root. (place ≡ at.Member M.Schedule) × HasItems root (at.Member M.Agents) agents))
-    (λ e told root stands known. told root stands
+    (λ e reported root stands known. reported root stands
     (known.0, refl, λ i. ((i, ap (λ p. item_at p i) known.0), known.1)))
-    c.read_each.ensures.told
+    c.read_each.ensures.reported

@@ -13,8 +13,8 @@ use Rattle.sab_script.proofs.Refusing.{exit_refuses}
 use Rattle.sab_script.specs.Agents.{SpellsScript}
 use Rattle.sab_script.specs.Truth.{IsTrueOf}
 use Rattle.sab_script.proofs.KnownViews.{has_lens, has_names, count_of}
-use Rattle.sab_script.proofs.Telling.{exit_told}
-use Rattle.sab_script.proofs.ToldScript.{agents_stand, lens_stand, schedule_stands, views_stand}
+use Rattle.sab_script.proofs.Exits.{exit_reported}
+use Rattle.sab_script.proofs.ScriptReasons.{agents_stand, lens_stand, schedule_stands, views_stand}
 use Rattle.sab_script.proofs.setup.locate_setup.Goals as goal
 
 pub returns-in_err-form-clause-spelled : goal.returns-in_err-form-clause-spelled
@@ -75,44 +75,44 @@ setup_by_parts-requires-clause-plan c =
 pub returns-clause-only : goal.returns-clause-only
 returns-clause-only c = only_setup (view c.args.tree.now) _ (search rules)
 
-pub returns-in_err-form-clause-told : goal.returns-in_err-form-clause-told
-returns-in_err-form-clause-told c =
-    exit_told (IsTrueOf (view c.args.tree.now)) c.from_residual.result c.in_err-form.field-0.0 c.from_residual.ensures.1
-    c.in_err-form.ensures.told
+pub returns-in_err-form-clause-reported : goal.returns-in_err-form-clause-reported
+returns-in_err-form-clause-reported c =
+    exit_reported (IsTrueOf (view c.args.tree.now)) c.from_residual.result c.in_err-form.field-0.0 c.from_residual.ensures.1
+    c.in_err-form.ensures.reported
 
-pub returns-in_err-lens-clause-told : goal.returns-in_err-lens-clause-told
-returns-in_err-lens-clause-told c =
+pub returns-in_err-lens-clause-reported : goal.returns-in_err-lens-clause-reported
+returns-in_err-lens-clause-reported c =
     let root = view c.args.tree.now in
     let place = ap at.Member c.lens_member.ensures.member in
-    exit_told (IsTrueOf root) c.from_residual-in_err-lens.result c.in_err-lens.field-0.0
+    exit_reported (IsTrueOf root) c.from_residual-in_err-lens.result c.in_err-lens.field-0.0
     c.from_residual-in_err-lens.ensures.1
-    (c.in_err-lens.ensures.told root
+    (c.in_err-lens.ensures.reported root
     (rw c.lens_member.ensures.member (lens_stand c.in_ok-form.form root _ _ _ _ c.in_ok-form.ensures.ok)) place)
 
-pub returns-in_err-views-clause-told : goal.returns-in_err-views-clause-told
-returns-in_err-views-clause-told c =
+pub returns-in_err-views-clause-reported : goal.returns-in_err-views-clause-reported
+returns-in_err-views-clause-reported c =
     let root = view c.args.tree.now in
     let form = c.in_ok-form.form in
     let tree = c.in_ok-form.ensures.ok in
     let known = has_lens root form _ c.in_ok-lens.lens.items (lens_stand form root _ _ _ _ tree)
     c.in_ok-form.ensures.form c.in_ok-lens.ensures.found in
-    exit_told (IsTrueOf root) c.from_residual-in_err-views.result c.in_err-views.field-0.0
+    exit_reported (IsTrueOf root) c.from_residual-in_err-views.result c.in_err-views.field-0.0
     c.from_residual-in_err-views.ensures.1
-    (c.in_err-views.ensures.told root (views_stand form root _ _ _ _ tree) (refl, rw c.deref.ensures.value known))
+    (c.in_err-views.ensures.reported root (views_stand form root _ _ _ _ tree) (refl, rw c.deref.ensures.value known))
 
-pub returns-in_err-scripts-clause-told : goal.returns-in_err-scripts-clause-told
-returns-in_err-scripts-clause-told c =
+pub returns-in_err-scripts-clause-reported : goal.returns-in_err-scripts-clause-reported
+returns-in_err-scripts-clause-reported c =
     let root = view c.args.tree.now in
     let form = c.in_ok-form.form in
     let tree = c.in_ok-form.ensures.ok in
     let known = has_names root form c.in_ok-lens.lens.items (items_view c.in_ok-form.view_trees.now) c.in_ok-views.views
     (views_stand form root _ _ _ _ tree) (rw c.deref.ensures.value at c.in_ok-views.ensures.read) in
-    exit_told (IsTrueOf root) c.from_residual-in_err-scripts.result c.in_err-scripts.field-0.0
+    exit_reported (IsTrueOf root) c.from_residual-in_err-scripts.result c.in_err-scripts.field-0.0
     c.from_residual-in_err-scripts.ensures.1
-    (c.in_err-scripts.ensures.told root (agents_stand form root _ _ _ _ tree) (refl, known))
+    (c.in_err-scripts.ensures.reported root (agents_stand form root _ _ _ _ tree) (refl, known))
 
-pub returns-in_err-schedule-clause-told : goal.returns-in_err-schedule-clause-told
-returns-in_err-schedule-clause-told c =
+pub returns-in_err-schedule-clause-reported : goal.returns-in_err-schedule-clause-reported
+returns-in_err-schedule-clause-reported c =
     let root = view c.args.tree.now in
     let form = c.in_ok-form.form in
     let tree = c.in_ok-form.ensures.ok in
@@ -121,7 +121,7 @@ returns-in_err-schedule-clause-told c =
     let each = c.in_ok-scripts.ensures.found.0 in
     let count : length ss ≡ c.len.result = omega arith in
     let many = count_of (SpellsScript (view_names c.in_ok-views.views)) agents ss each ∙ count in
-    exit_told (IsTrueOf root) c.from_residual-in_err-schedule.result c.in_err-schedule.field-0.0
+    exit_reported (IsTrueOf root) c.from_residual-in_err-schedule.result c.in_err-schedule.field-0.0
     c.from_residual-in_err-schedule.ensures.1
-    (c.in_err-schedule.ensures.told root (schedule_stands form root _ _ _ _ tree)
+    (c.in_err-schedule.ensures.reported root (schedule_stands form root _ _ _ _ tree)
     (refl, (agents, agents_stand form root _ _ _ _ tree, many)))

@@ -2,8 +2,8 @@
 use Rattle.std.proofs.Common.{refl}
 use Rattle.serde_json.specs.View.{view}
 use Rattle.sab_script.specs.Truth.{IsTrueOf}
-use Rattle.sab_script.proofs.Telling.{exit_told}
-use Rattle.sab_script.proofs.ToldScript.{agents_stand, schedule_stands, views_stand}
+use Rattle.sab_script.proofs.Exits.{exit_reported}
+use Rattle.sab_script.proofs.ScriptReasons.{agents_stand, schedule_stands, views_stand}
 use Rattle.sab_script.specs.Setup.{Spells}
 use Rattle.sab_script.proofs.Refusing.{exit_spells_none}
 use Rattle.sab_script.proofs.setup.script_parts.Goals as goal
@@ -14,28 +14,28 @@ returns-in_err-form-clause-err c =
     c.from_residual.ensures.1
     (λ p h. c.in_err-form.ensures.err _ _ _ _ _ h.tree)
 
-pub returns-in_err-form-clause-told : goal.returns-in_err-form-clause-told
-returns-in_err-form-clause-told c =
-    exit_told (IsTrueOf (view c.args.tree.now)) c.from_residual.result c.in_err-form.field-0.0 c.from_residual.ensures.1
-    c.in_err-form.ensures.told
+pub returns-in_err-form-clause-reported : goal.returns-in_err-form-clause-reported
+returns-in_err-form-clause-reported c =
+    exit_reported (IsTrueOf (view c.args.tree.now)) c.from_residual.result c.in_err-form.field-0.0 c.from_residual.ensures.1
+    c.in_err-form.ensures.reported
 
-pub returns-in_err-agents-clause-told : goal.returns-in_err-agents-clause-told
-returns-in_err-agents-clause-told c =
+pub returns-in_err-agents-clause-reported : goal.returns-in_err-agents-clause-reported
+returns-in_err-agents-clause-reported c =
     let root = view c.args.tree.now in
-    exit_told (IsTrueOf root) c.from_residual-in_err-agents.result c.in_err-agents.field-0.0
+    exit_reported (IsTrueOf root) c.from_residual-in_err-agents.result c.in_err-agents.field-0.0
     c.from_residual-in_err-agents.ensures.1
-    (c.in_err-agents.ensures.told root (agents_stand c.in_ok-form.form root _ _ _ _ c.in_ok-form.ensures.ok) refl)
+    (c.in_err-agents.ensures.reported root (agents_stand c.in_ok-form.form root _ _ _ _ c.in_ok-form.ensures.ok) refl)
 
-pub returns-in_err-schedule-clause-told : goal.returns-in_err-schedule-clause-told
-returns-in_err-schedule-clause-told c =
+pub returns-in_err-schedule-clause-reported : goal.returns-in_err-schedule-clause-reported
+returns-in_err-schedule-clause-reported c =
     let root = view c.args.tree.now in
-    exit_told (IsTrueOf root) c.from_residual-in_err-schedule.result c.in_err-schedule.field-0.0
+    exit_reported (IsTrueOf root) c.from_residual-in_err-schedule.result c.in_err-schedule.field-0.0
     c.from_residual-in_err-schedule.ensures.1
-    (c.in_err-schedule.ensures.told root (schedule_stands c.in_ok-form.form root _ _ _ _ c.in_ok-form.ensures.ok) refl)
+    (c.in_err-schedule.ensures.reported root (schedule_stands c.in_ok-form.form root _ _ _ _ c.in_ok-form.ensures.ok) refl)
 
-pub returns-in_err-views-clause-told : goal.returns-in_err-views-clause-told
-returns-in_err-views-clause-told c =
+pub returns-in_err-views-clause-reported : goal.returns-in_err-views-clause-reported
+returns-in_err-views-clause-reported c =
     let root = view c.args.tree.now in
-    exit_told (IsTrueOf root) c.from_residual-in_err-views.result c.in_err-views.field-0.0
+    exit_reported (IsTrueOf root) c.from_residual-in_err-views.result c.in_err-views.field-0.0
     c.from_residual-in_err-views.ensures.1
-    (c.in_err-views.ensures.told root (views_stand c.in_ok-form.form root _ _ _ _ c.in_ok-form.ensures.ok) refl)
+    (c.in_err-views.ensures.reported root (views_stand c.in_ok-form.form root _ _ _ _ c.in_ok-form.ensures.ok) refl)

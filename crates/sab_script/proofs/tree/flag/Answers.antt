@@ -4,12 +4,12 @@ use Rattle.serde_json.specs.View.{view}
 use Rattle.sab_refusal.specs.declared.reason.Wanted.TheVariants.{Flag}
 use Rattle.sab_script.specs.Places.{CallsFor}
 use Rattle.sab_script.specs.Truth.{IsTrueWhere}
-use Rattle.sab_script.proofs.Telling.{none_told}
+use Rattle.sab_script.proofs.Exits.{none_reported}
 use Rattle.sab_script.proofs.tree.flag.Goals as goal
 
-pub returns-clause-told : goal.returns-clause-told
-returns-clause-told c =
+pub returns-clause-reported : goal.returns-clause-reported
+returns-clause-reported c =
     let d = view c.args.tree.now in
-    let told = none_told (IsTrueWhere c.args.at d (λ root. CallsFor root c.args.at Flag)) c.as_bool.result _
+    let reported = none_reported (IsTrueWhere c.args.at d (λ root. CallsFor root c.args.at Flag)) c.as_bool.result _
     (λ none root stands calls. (d, stands, calls, λ is. let bad = sym none ∙ c.as_bool.ensures ∙ ap as_bool is.1 in cc)) in
-    rw c.ok_or.ensures.value told
+    rw c.ok_or.ensures.value reported

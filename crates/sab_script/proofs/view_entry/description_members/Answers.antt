@@ -8,12 +8,12 @@ use Rattle.sab_script.specs.Places.{form_of}
 use Rattle.sab_script.specs.ViewPlaces.{IsTrueOfView}
 use Rattle.serde_json.specs.View.{members_view}
 use Rattle.sab_script.proofs.Parts.{on_err, length_missing, name_missing, offset_missing, not_described, described}
-use Rattle.sab_script.proofs.Telling.{exit_told}
-use Rattle.sab_script.proofs.ViewParts.{kind_told, length_told, name_told, offset_told, further_told}
+use Rattle.sab_script.proofs.Exits.{exit_reported}
+use Rattle.sab_script.proofs.ViewParts.{kind_reported, length_reported, name_reported, offset_reported, further_reported}
 use Rattle.sab_script.proofs.view_entry.description_members.Goals as goal
 
-abbrev Told : Location → Members → Located → Type 0
-Told place rest e =
+abbrev Reported : Location → Members → Located → Type 0
+Reported place rest e =
     (form : Form) (block : ℕ) → IsTrueOfView place (with_block form block rest) (λ root. form_of root ≡ form) e
 
 pub returns-in_err-kind-clause-err : goal.returns-in_err-kind-clause-err
@@ -54,42 +54,42 @@ returns-clause-ok c =
     c.in_ok-kind.ensures.ok c.in_ok-length.ensures.ok c.in_ok-name.ensures.ok c.in_ok-offset.ensures.ok
     c.in_ok-end.ensures.ok
 
-pub returns-in_err-kind-clause-told : goal.returns-in_err-kind-clause-told
-returns-in_err-kind-clause-told c =
-    exit_told (Told c.args.at (members_view c.args.rest)) c.from_residual.result c.in_err-kind.field-0.0
+pub returns-in_err-kind-clause-reported : goal.returns-in_err-kind-clause-reported
+returns-in_err-kind-clause-reported c =
+    exit_reported (Reported c.args.at (members_view c.args.rest)) c.from_residual.result c.in_err-kind.field-0.0
     c.from_residual.ensures.1
-    (λ form block. kind_told form block c.args.at (members_view c.args.rest) c.in_err-kind.field-0.0
+    (λ form block. kind_reported form block c.args.at (members_view c.args.rest) c.in_err-kind.field-0.0
     c.in_err-kind.ensures.place c.in_err-kind.ensures.lacks)
 
-pub returns-in_err-length-clause-told : goal.returns-in_err-length-clause-told
-returns-in_err-length-clause-told c =
-    exit_told (Told c.args.at (members_view c.args.rest)) c.from_residual-in_err-length.result
+pub returns-in_err-length-clause-reported : goal.returns-in_err-length-clause-reported
+returns-in_err-length-clause-reported c =
+    exit_reported (Reported c.args.at (members_view c.args.rest)) c.from_residual-in_err-length.result
     c.in_err-length.field-0.0 c.from_residual-in_err-length.ensures.1
-    (λ form block. length_told form block c.args.at (members_view c.args.rest) (members_view c.member.new.members) _ _
+    (λ form block. length_reported form block c.args.at (members_view c.args.rest) (members_view c.member.new.members) _ _
     c.in_ok-kind.ensures.ok c.in_err-length.ensures.place c.in_err-length.ensures.lacks)
 
-pub returns-in_err-name-clause-told : goal.returns-in_err-name-clause-told
-returns-in_err-name-clause-told c =
-    exit_told (Told c.args.at (members_view c.args.rest)) c.from_residual-in_err-name.result
+pub returns-in_err-name-clause-reported : goal.returns-in_err-name-clause-reported
+returns-in_err-name-clause-reported c =
+    exit_reported (Reported c.args.at (members_view c.args.rest)) c.from_residual-in_err-name.result
     c.in_err-name.field-0.0 c.from_residual-in_err-name.ensures.1
-    (λ form block. name_told form block c.args.at (members_view c.args.rest) (members_view c.member.new.members)
+    (λ form block. name_reported form block c.args.at (members_view c.args.rest) (members_view c.member.new.members)
     (members_view c.member-2.new.members) _ _ _ c.in_ok-kind.ensures.ok c.in_ok-length.ensures.ok
     c.in_err-name.ensures.place c.in_err-name.ensures.lacks)
 
-pub returns-in_err-offset-clause-told : goal.returns-in_err-offset-clause-told
-returns-in_err-offset-clause-told c =
-    exit_told (Told c.args.at (members_view c.args.rest)) c.from_residual-in_err-offset.result
+pub returns-in_err-offset-clause-reported : goal.returns-in_err-offset-clause-reported
+returns-in_err-offset-clause-reported c =
+    exit_reported (Reported c.args.at (members_view c.args.rest)) c.from_residual-in_err-offset.result
     c.in_err-offset.field-0.0 c.from_residual-in_err-offset.ensures.1
-    (λ form block. offset_told form block c.args.at (members_view c.args.rest) (members_view c.member.new.members)
+    (λ form block. offset_reported form block c.args.at (members_view c.args.rest) (members_view c.member.new.members)
     (members_view c.member-2.new.members) (members_view c.member-3.new.members) _ _ _ _
     c.in_ok-kind.ensures.ok c.in_ok-length.ensures.ok c.in_ok-name.ensures.ok c.in_err-offset.ensures.place
     c.in_err-offset.ensures.lacks)
 
-pub returns-in_err-end-clause-told : goal.returns-in_err-end-clause-told
-returns-in_err-end-clause-told c =
-    exit_told (Told c.args.at (members_view c.args.rest)) c.from_residual-in_err-end.result
+pub returns-in_err-end-clause-reported : goal.returns-in_err-end-clause-reported
+returns-in_err-end-clause-reported c =
+    exit_reported (Reported c.args.at (members_view c.args.rest)) c.from_residual-in_err-end.result
     c.in_err-end.field-0.0 c.from_residual-in_err-end.ensures.1
-    (λ form block. further_told form block c.args.at (members_view c.args.rest) (members_view c.member.new.members)
+    (λ form block. further_reported form block c.args.at (members_view c.args.rest) (members_view c.member.new.members)
     (members_view c.member-2.new.members) (members_view c.member-3.new.members) (members_view c.member-4.new.members)
     _ _ _ _ _ c.in_ok-kind.ensures.ok c.in_ok-length.ensures.ok c.in_ok-name.ensures.ok c.in_ok-offset.ensures.ok
     c.in_err-end.ensures.place c.in_err-end.ensures.first)

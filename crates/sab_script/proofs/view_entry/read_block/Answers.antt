@@ -1,13 +1,13 @@
 use Rattle.serde_json.specs.View.{members_view}
 use Rattle.sab_script.specs.ViewPlaces.{HasBlocks, IsTrueOfView}
-use Rattle.sab_script.proofs.Telling.{exit_told}
+use Rattle.sab_script.proofs.Exits.{exit_reported}
 use Rattle.sab_script.proofs.ViewParts.{block_missing}
 use Rattle.sab_script.proofs.view_entry.read_block.Goals as goal
 
-pub returns-in_err-block-in-Blocks-clause-told : goal.returns-in_err-block-in-Blocks-clause-told
-returns-in_err-block-in-Blocks-clause-told c =
+pub returns-in_err-block-in-Blocks-clause-reported : goal.returns-in_err-block-in-Blocks-clause-reported
+returns-in_err-block-in-Blocks-clause-reported c =
     let e = c.in_err-block-in-Blocks.field-0.0 in
-    exit_told
+    exit_reported
     (IsTrueOfView c.args.at (members_view c.args.rest.now) (λ root. HasBlocks root c.args.form c.args.blocks))
     c.from_residual.result e c.from_residual.ensures.1
     (block_missing c.args.form c.args.blocks c.args.at (members_view c.args.rest.now) e c.in-Blocks.is

@@ -18,8 +18,8 @@ use Rattle.sab_script.specs.Blocks.{with_block}
 use Rattle.sab_script.specs.Places.{CallsFor}
 use Rattle.sab_refusal.specs.declared.location.Location.TheVariants as at
 use Rattle.sab_script.specs.Known.{HasLens, IsNumberAs}
-use Rattle.sab_script.proofs.Telling.{exit_told}
-use Rattle.sab_script.proofs.ViewParts.{IsDescriptionTold, told_of_part, kind_there, length_there, name_there, offset_there, part_calls, misfit_told}
+use Rattle.sab_script.proofs.Exits.{exit_reported}
+use Rattle.sab_script.proofs.ViewParts.{IsDescriptionReported, reported_of_part, kind_there, length_there, name_there, offset_there, part_calls, misfit_reported}
 use Rattle.sab_script.proofs.view_entry.read_description.Goals as goal
 
 abbrev shown : Bor (List ℕ) × ViewSpec × PlanView → List ℕ × ViewSpec
@@ -105,84 +105,84 @@ returns-in_err-plan_view-clause-read c =
     (not_made c.args.lens.now (members_view c.args.rest) c.in_ok-name.name.now spec members
     (rw (to_z-of_z w64 c.in_ok-offset.offset fits) at c.in_err-plan_view.ensures.err))
 
-pub returns-in_err-kind_word-clause-told : goal.returns-in_err-kind_word-clause-told
-returns-in_err-kind_word-clause-told c =
+pub returns-in_err-kind_word-clause-reported : goal.returns-in_err-kind_word-clause-reported
+returns-in_err-kind_word-clause-reported c =
     let at_kind = c.member-at_kind.result in
     let lens = c.args.lens.now in
     let block = c.args.block in
     let rest = members_view c.args.rest in
     let tree = view c.in_ok-kind_tree.kind_tree.now in
     let e = c.in_err-kind_word.field-0.0 in
-    exit_told (IsDescriptionTold c.args.at lens block rest) c.from_residual-in_err-kind_word.result e
+    exit_reported (IsDescriptionReported c.args.at lens block rest) c.from_residual-in_err-kind_word.result e
     c.from_residual-in_err-kind_word.ensures.1
-    (λ form has. told_of_part c.args.at at_kind M.Kind (with_block form block rest) tree e
+    (λ form has. reported_of_part c.args.at at_kind M.Kind (with_block form block rest) tree e
     (λ root. HasLens root form lens) (λ root. CallsFor root at_kind wanted.Text) c.member-at_kind.ensures
     (kind_there form block rest _ _ _ _ c.in_ok-kind_tree.ensures.ok)
-    (λ root i is known. part_calls root at_kind i M.Kind wanted.Text is refl) c.in_err-kind_word.ensures.told)
+    (λ root i is known. part_calls root at_kind i M.Kind wanted.Text is refl) c.in_err-kind_word.ensures.reported)
 
-pub returns-in_err-kind-clause-told : goal.returns-in_err-kind-clause-told
-returns-in_err-kind-clause-told c =
+pub returns-in_err-kind-clause-reported : goal.returns-in_err-kind-clause-reported
+returns-in_err-kind-clause-reported c =
     let at_kind = c.member-at_kind.result in
     let lens = c.args.lens.now in
     let block = c.args.block in
     let rest = members_view c.args.rest in
     let word = c.in_ok-kind_word.kind_word.now in
     let e = c.in_err-kind.field-0.0 in
-    exit_told (IsDescriptionTold c.args.at lens block rest) c.from_residual-in_err-kind.result e
+    exit_reported (IsDescriptionReported c.args.at lens block rest) c.from_residual-in_err-kind.result e
     c.from_residual-in_err-kind.ensures.1
-    (λ form has. told_of_part c.args.at at_kind M.Kind (with_block form block rest) (string word) e
+    (λ form has. reported_of_part c.args.at at_kind M.Kind (with_block form block rest) (string word) e
     (λ root. HasLens root form lens) (λ root. (i : ℕ) × (at_kind ≡ at.Part M.Views i M.Kind)) c.member-at_kind.ensures
     (kind_there form block rest _ _ _ _ c.in_ok-kind_tree.ensures.ok ∙ ap Some c.in_ok-kind_word.ensures.reads)
-    (λ root i is known. (i, is)) c.in_err-kind.ensures.told)
+    (λ root i is known. (i, is)) c.in_err-kind.ensures.reported)
 
-pub returns-in_err-length-clause-told : goal.returns-in_err-length-clause-told
-returns-in_err-length-clause-told c =
+pub returns-in_err-length-clause-reported : goal.returns-in_err-length-clause-reported
+returns-in_err-length-clause-reported c =
     let at_length = c.member.result in
     let lens = c.args.lens.now in
     let block = c.args.block in
     let rest = members_view c.args.rest in
     let tree = view c.in_ok-kind_tree.length_tree.now in
     let e = c.in_err-length.field-0.0 in
-    exit_told (IsDescriptionTold c.args.at lens block rest) c.from_residual-in_err-length.result e
+    exit_reported (IsDescriptionReported c.args.at lens block rest) c.from_residual-in_err-length.result e
     c.from_residual-in_err-length.ensures.1
-    (λ form has. told_of_part c.args.at at_length M.Length (with_block form block rest) tree e
+    (λ form has. reported_of_part c.args.at at_length M.Length (with_block form block rest) tree e
     (λ root. HasLens root form lens) (λ root. CallsFor root at_length wanted.WholeOrNull) c.member.ensures
     (length_there form block rest _ _ _ _ c.in_ok-kind_tree.ensures.ok)
-    (λ root i is known. part_calls root at_length i M.Length wanted.WholeOrNull is refl) c.in_err-length.ensures.told)
+    (λ root i is known. part_calls root at_length i M.Length wanted.WholeOrNull is refl) c.in_err-length.ensures.reported)
 
-pub returns-in_err-name-clause-told : goal.returns-in_err-name-clause-told
-returns-in_err-name-clause-told c =
+pub returns-in_err-name-clause-reported : goal.returns-in_err-name-clause-reported
+returns-in_err-name-clause-reported c =
     let at_name = c.member-at_name.result in
     let lens = c.args.lens.now in
     let block = c.args.block in
     let rest = members_view c.args.rest in
     let tree = view c.in_ok-kind_tree.name_tree.now in
     let e = c.in_err-name.field-0.0 in
-    exit_told (IsDescriptionTold c.args.at lens block rest) c.from_residual-in_err-name.result e
+    exit_reported (IsDescriptionReported c.args.at lens block rest) c.from_residual-in_err-name.result e
     c.from_residual-in_err-name.ensures.1
-    (λ form has. told_of_part c.args.at at_name M.Name (with_block form block rest) tree e
+    (λ form has. reported_of_part c.args.at at_name M.Name (with_block form block rest) tree e
     (λ root. HasLens root form lens) (λ root. CallsFor root at_name wanted.Text) c.member-at_name.ensures
     (name_there form block rest _ _ _ _ c.in_ok-kind_tree.ensures.ok)
-    (λ root i is known. part_calls root at_name i M.Name wanted.Text is refl) c.in_err-name.ensures.told)
+    (λ root i is known. part_calls root at_name i M.Name wanted.Text is refl) c.in_err-name.ensures.reported)
 
-pub returns-in_err-offset-clause-told : goal.returns-in_err-offset-clause-told
-returns-in_err-offset-clause-told c =
+pub returns-in_err-offset-clause-reported : goal.returns-in_err-offset-clause-reported
+returns-in_err-offset-clause-reported c =
     let at_offset = c.member-2.result in
     let lens = c.args.lens.now in
     let block = c.args.block in
     let rest = members_view c.args.rest in
     let tree = view c.in_ok-kind_tree.offset_tree.now in
     let e = c.in_err-offset.field-0.0 in
-    exit_told (IsDescriptionTold c.args.at lens block rest) c.from_residual-in_err-offset.result e
+    exit_reported (IsDescriptionReported c.args.at lens block rest) c.from_residual-in_err-offset.result e
     c.from_residual-in_err-offset.ensures.1
-    (λ form has. told_of_part c.args.at at_offset M.Offset (with_block form block rest) tree e
+    (λ form has. reported_of_part c.args.at at_offset M.Offset (with_block form block rest) tree e
     (λ root. HasLens root form lens) (λ root. CallsFor root at_offset wanted.Whole × IsNumberAs wanted.Whole tree)
     c.member-2.ensures (offset_there form block rest _ _ _ _ c.in_ok-kind_tree.ensures.ok)
     (λ root i is known. (part_calls root at_offset i M.Offset wanted.Whole is refl, (λ o. o, λ o. o)))
-    c.in_err-offset.ensures.told)
+    c.in_err-offset.ensures.reported)
 
-pub returns-in_err-plan_view-clause-told : goal.returns-in_err-plan_view-clause-told
-returns-in_err-plan_view-clause-told c =
+pub returns-in_err-plan_view-clause-reported : goal.returns-in_err-plan_view-clause-reported
+returns-in_err-plan_view-clause-reported c =
     let lens = c.args.lens.now in
     let block = c.args.block in
     let rest = members_view c.args.rest in
@@ -197,8 +197,8 @@ returns-in_err-plan_view-clause-told c =
     let members = c.in_ok-kind_tree.ensures.ok ∙ (λ i. description (kind i) (c.in_ok-length.ensures.reads.0 i)
     (c.in_ok-name.ensures.reads i) (c.in_ok-offset.ensures.reads.0 i)) in
     let e = c.in_err-plan_view.field-0.0 in
-    exit_told (IsDescriptionTold c.args.at lens block rest) c.from_residual-in_err-plan_view.result e
+    exit_reported (IsDescriptionReported c.args.at lens block rest) c.from_residual-in_err-plan_view.result e
     c.from_residual-in_err-plan_view.ensures.1
-    (λ form has. misfit_told c.args.at form lens block (get_or lens block 0) rest c.in_ok-name.name.now spec e has
+    (λ form has. misfit_reported c.args.at form lens block (get_or lens block 0) rest c.in_ok-name.name.now spec e has
     (slice_get-get_or lens block 0 c.requires) members
-    (rw (to_z-of_z w64 c.in_ok-offset.offset fits) at c.in_err-plan_view.ensures.told))
+    (rw (to_z-of_z w64 c.in_ok-offset.offset fits) at c.in_err-plan_view.ensures.reported))

@@ -9,8 +9,8 @@ use Rattle.sab_script.proofs.OneView.{block_part}
 use Rattle.sab_script.proofs.Refusing.{exit_refuses}
 use Rattle.sab_script.specs.Known.{HasLens}
 use Rattle.sab_script.specs.ViewPlaces.{HasBlocks}
-use Rattle.sab_script.proofs.Telling.{exit_told}
-use Rattle.sab_script.proofs.ViewParts.{IsDescriptionTold, IsViewTold, told_of_view, blocks_from, if_err_more}
+use Rattle.sab_script.proofs.Exits.{exit_reported}
+use Rattle.sab_script.proofs.ViewParts.{IsDescriptionReported, IsViewReported, reported_of_view, blocks_from, if_err_more}
 use Rattle.sab_script.proofs.view_entry.read_view.Goals as goal
 
 pub returns-in_err-block-clause-read : goal.returns-in_err-block-clause-read
@@ -22,26 +22,26 @@ returns-in_err-block-clause-read c =
     (block_part c.args.form c.args.lens.now (view c.args.tree.now) (members_view c.in_ok-rest.rest)
     c.in_ok-rest.ensures.ok)
 
-pub returns-in_err-block-clause-told : goal.returns-in_err-block-clause-told
-returns-in_err-block-clause-told c =
+pub returns-in_err-block-clause-reported : goal.returns-in_err-block-clause-reported
+returns-in_err-block-clause-reported c =
     let e = c.in_err-block.field-0.0 in
-    exit_told (IsViewTold c.args.at (view c.args.tree.now) (λ root. HasLens root c.args.form c.args.lens.now))
+    exit_reported (IsViewReported c.args.at (view c.args.tree.now) (λ root. HasLens root c.args.form c.args.lens.now))
     c.from_residual-in_err-block.result e c.from_residual-in_err-block.ensures.1
-    (told_of_view c.args.at (view c.args.tree.now) (members_view c.in_ok-rest.rest) e
+    (reported_of_view c.args.at (view c.args.tree.now) (members_view c.in_ok-rest.rest) e
     (λ root. HasBlocks root c.args.form (length c.args.lens.now)) (λ root. HasLens root c.args.form c.args.lens.now)
     c.in_ok-rest.ensures.ok c.in_ok-rest.ensures.order
-    (λ root h. blocks_from root c.args.form c.args.lens.now h) c.in_err-block.ensures.told)
+    (λ root h. blocks_from root c.args.form c.args.lens.now h) c.in_err-block.ensures.reported)
 
-pub returns-clause-told : goal.returns-clause-told
-returns-clause-told c =
+pub returns-clause-reported : goal.returns-clause-reported
+returns-clause-reported c =
     let form = c.args.form in
     let lens = c.args.lens.now in
     let block = c.in_ok-block.block in
     let rest = members_view c.read_block.new.rest in
     let parts = c.in_ok-block.ensures.parts in
-    if_err_more (IsDescriptionTold c.args.at lens block rest)
-    (IsViewTold c.args.at (view c.args.tree.now) (λ root. HasLens root form lens)) c.read_description.result
-    (λ e told. told_of_view c.args.at (view c.args.tree.now) (with_block form block rest) e
+    if_err_more (IsDescriptionReported c.args.at lens block rest)
+    (IsViewReported c.args.at (view c.args.tree.now) (λ root. HasLens root form lens)) c.read_description.result
+    (λ e reported. reported_of_view c.args.at (view c.args.tree.now) (with_block form block rest) e
     (λ root. HasLens root form lens) (λ root. HasLens root form lens) (c.in_ok-rest.ensures.ok ∙ ap object parts)
-    (rw parts at c.in_ok-rest.ensures.order) (λ root h. h) (told form c.in_ok-block.ensures.form))
-    c.read_description.ensures.told
+    (rw parts at c.in_ok-rest.ensures.order) (λ root h. h) (reported form c.in_ok-block.ensures.form))
+    c.read_description.ensures.reported

@@ -6,9 +6,9 @@ use Rattle.sab_script.proofs.Described.{described_more}
 use Rattle.sab_script.proofs.Each.{length-each, item_part, each_more, each_all}
 use Rattle.sab_script.proofs.ViewNames.{twice_by}
 use Rattle.sab_script.proofs.Refusing.{exit_refuses}
-use Rattle.sab_script.proofs.KnownViews.{stand_more, IsViewsTold, many_told, one_told, twice_told}
+use Rattle.sab_script.proofs.KnownViews.{stand_more, IsViewsReported, many_reported, one_reported, twice_reported}
 use Rattle.sab_script.specs.Truth.{IsStart}
-use Rattle.sab_script.proofs.Telling.{exit_told}
+use Rattle.sab_script.proofs.Exits.{exit_reported}
 use Rattle.sab_script.proofs.view_entry.read_views.Goals as goal
 
 pub returns-then-trees-gt-MAX_VIEWS-clause-read : goal.returns-then-trees-gt-MAX_VIEWS-clause-read
@@ -64,25 +64,25 @@ loop-tree-preserved c =
       room = omega (arith, c.push_reserved.ensures.capacity, c.loop-tree.invariant.room);
     }
 
-pub returns-then-trees-gt-MAX_VIEWS-clause-told : goal.returns-then-trees-gt-MAX_VIEWS-clause-told
-returns-then-trees-gt-MAX_VIEWS-clause-told c =
-    many_told c.args.form c.args.lens.now c.args.at c.args.trees.now c.if-trees-gt-MAX_VIEWS.true
+pub returns-then-trees-gt-MAX_VIEWS-clause-reported : goal.returns-then-trees-gt-MAX_VIEWS-clause-reported
+returns-then-trees-gt-MAX_VIEWS-clause-reported c =
+    many_reported c.args.form c.args.lens.now c.args.at c.args.trees.now c.if-trees-gt-MAX_VIEWS.true
 
-pub returns-in_err-name-clause-told : goal.returns-in_err-name-clause-told
-returns-in_err-name-clause-told c =
+pub returns-in_err-name-clause-reported : goal.returns-in_err-name-clause-reported
+returns-in_err-name-clause-reported c =
     let e = c.in_err-name.field-0.0 in
-    exit_told (IsViewsTold c.args.form c.args.lens.now c.args.at (items_view c.args.trees.now))
+    exit_reported (IsViewsReported c.args.form c.args.lens.now c.args.at (items_view c.args.trees.now))
     c.from_residual-in_err-name.result e c.from_residual-in_err-name.ensures.1
-    (one_told c.args.form c.args.lens.now c.args.at c.item-at_view.result c.args.trees.now c.loop-tree.tree-index
+    (one_reported c.args.form c.args.lens.now c.args.at c.item-at_view.result c.args.trees.now c.loop-tree.tree-index
     c.len.result c.tree-item.result e c.item-at_view.ensures
     (omega (arith, c.len.ensures, c.loop-tree.invariant.filled)) c.loop-tree-test.true c.tree-item.is
-    c.in_err-name.ensures.told)
+    c.in_err-name.ensures.reported)
 
-pub returns-in-Some-clause-told : goal.returns-in-Some-clause-told
-returns-in-Some-clause-told c =
+pub returns-in-Some-clause-reported : goal.returns-in-Some-clause-reported
+returns-in-Some-clause-reported c =
     let start : IsStart c.of.result c.in_ok-name.name.now =
     record { bytes = c.of.ensures.bytes; cut = c.of.ensures.cut } in
-    twice_told c.args.form c.args.lens.now c.args.at c.item-at_view.result c.member-at.result c.args.trees.now
+    twice_reported c.args.form c.args.lens.now c.args.at c.item-at_view.result c.member-at.result c.args.trees.now
     c.loop-tree.tree-index c.len.result c.tree-item.result c.in_ok-name.name.now c.in_ok-name.spec c.loop-tree.views
     c.in-Some.other c.of.result c.item-at_view.ensures (omega (arith, c.len.ensures, c.loop-tree.invariant.filled))
     c.member-at.ensures c.loop-tree-test.true c.tree-item.is c.loop-tree.invariant.count c.loop-tree.invariant.there

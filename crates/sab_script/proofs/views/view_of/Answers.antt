@@ -2,8 +2,8 @@ use Rattle.std.proofs.Common.{◌∙◌, ap, Some}
 use Rattle.sab_script.specs.Truth.{IsStart}
 use Rattle.sab_script.proofs.views.view_of.Goals as goal
 
-pub returns-in-None-clause-told : goal.returns-in-None-clause-told
-returns-in-None-clause-told c = λ root stands known.
+pub returns-in-None-clause-reported : goal.returns-in-None-clause-reported
+returns-in-None-clause-reported c = λ root stands known.
     let text = c.in_ok-name.ensures.reads in
     let start : IsStart c.of.result c.in_ok-name.name.now =
     record { bytes = c.of.ensures.bytes; cut = c.of.ensures.cut } in (

@@ -10,8 +10,8 @@ use Rattle.sab_svg.proofs.entry.push_entry.Goals as goal
 pub returns : goal.returns
 returns c =
     let names = c.args.names.now in
-    let entry = c.args.told.now.entry in
-    let fact = c.args.told.now.fact in
+    let entry = c.args.explained.now.entry in
+    let fact = c.args.explained.now.fact in
     let words = fact_words names c.args.plan.now c.args.sinces.now entry fact in
     let agent = entry.agent in
     rw (group_line_text (agent_words agent words) (pieces_of names c.args.shape c.args.k entry fact))

@@ -7,7 +7,7 @@ use Rattle.sab_text.proofs.report.write_blocks.Given as goal
 
 abbrev pub invariant-loop-b : goal.invariant-loop-b
 invariant-loop-b g l = record {
-  told : Appends (append_known (g.W.Write.contents l.fn.w) l.fn.chunk)
+  left : Appends (append_known (g.W.Write.contents l.fn.w) l.fn.chunk)
       (append_known (append_known (g.W.Write.contents l.w) l.chunk)
       (block_lines l.b (items_of_each (drop l.b l.blocks))))
       (block_lines 0 (items_of_each l.blocks));

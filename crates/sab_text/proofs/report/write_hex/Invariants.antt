@@ -11,7 +11,7 @@ invariant-loop-piece g l = record {
   can_next : (goal.iterator-loop-piece g).can_next l.piece-iterator;
   is_finite : (goal.iterator-loop-piece g).is_finite l.piece-iterator;
   size : chunks_size l.piece-iterator ≡ HEX_PIECE;
-  told : Appends (append_known (g.W.Write.contents l.fn.w) l.fn.chunk)
+  left : Appends (append_known (g.W.Write.contents l.fn.w) l.fn.chunk)
       (append_known (append_known (g.W.Write.contents l.w) l.chunk) (flat_map hex_byte (chunks_rest l.piece-iterator)))
       (flat_map hex_byte l.bytes);
   room : length l.chunk + LINE_ROOM ≤ ROOM;

@@ -6,7 +6,7 @@ use Rattle.sab_text.proofs.report.write_journal.Given as goal
 
 abbrev pub invariant-loop-k : goal.invariant-loop-k
 invariant-loop-k g l = record {
-  told : Appends (append_known (g.W.Write.contents l.fn.w) l.fn.chunk)
+  left : Appends (append_known (g.W.Write.contents l.fn.w) l.fn.chunk)
       (append_known (append_known (g.W.Write.contents l.w) l.chunk) (journal_lines l.lines l.k (drop l.k l.journal)))
       (journal_lines l.lines 0 l.journal);
   room : length l.chunk + LINE_ROOM ≤ ROOM;

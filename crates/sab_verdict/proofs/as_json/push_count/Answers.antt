@@ -8,7 +8,7 @@ use Rattle.sab_verdict.proofs.as_json.push_count.Goals as goal
 
 pub returns : goal.returns
 returns c =
-    rw (count_json (judged_of c.args.sides.now) c.args.events.now c.args.told c.args.rest c.args.data_races)
+    rw (count_json (judged_of c.args.sides.now) c.args.events.now c.args.reported c.args.rest c.args.data_races)
     (behind c.args.chunk.now _ _ _ _ (behind c.args.chunk.now _ _ _ _ c.push.ensures
     (behind_as c.push.new.self _ _ _ _ _ (ap decimal c.count_accesses.ensures) c.push_number.ensures.bytes
     (behind c.push_number.new.self _ _ _ _ c.push-2.ensures

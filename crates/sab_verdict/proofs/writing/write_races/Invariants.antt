@@ -7,7 +7,7 @@ use Rattle.sab_verdict.proofs.writing.write_races.Given as goal
 
 abbrev pub invariant-loop-race : goal.invariant-loop-race
 invariant-loop-race g l = record {
-  told : Appends (append_known (g.W.Write.contents l.fn.w) l.fn.chunk)
+  left : Appends (append_known (g.W.Write.contents l.fn.w) l.fn.chunk)
       (append_known (append_known (g.W.Write.contents l.w) l.chunk)
       (flat_map (line_of l.format (words_of l.sides) (data_of l.sides) l.events) (drop l.race-index l.races)))
       (flat_map (line_of l.format (words_of l.sides) (data_of l.sides) l.events) l.races);

@@ -6,7 +6,7 @@ use Rattle.sab_words.proofs.standings.write_standings.Given as goal
 
 abbrev pub invariant-loop-a : goal.invariant-loop-a
 invariant-loop-a g l = record {
-  told : Appends (append_known (g.W.Write.contents l.fn.w) l.fn.chunk)
+  left : Appends (append_known (g.W.Write.contents l.fn.w) l.fn.chunk)
       (append_known (append_known (g.W.Write.contents l.w) l.chunk)
       (standing_lines l.column.at l.names l.standings l.a (drop l.a l.agents)))
       (standing_lines l.column.at l.names l.standings 0 l.agents);

@@ -16,15 +16,15 @@ loop-i-preserved c =
           let room = run_room text at.start at.i kept.behind within at.chunk run w.push.ensures in
           rw (w.start-is, w.chunk-is) (record {
             behind = omega arith;
-            told = run_ended text at.start at.i kept.behind within at.chunk run _ _ w.push.ensures pushed.bytes
-                kept.told;
+            whole = run_ended text at.start at.i kept.behind within at.chunk run _ _ w.push.ensures pushed.bytes
+                kept.whole;
             room = omega arith;
           })
       | else-not-stands_for_itself w ↦
           let plain = sym c.stands_for_itself.ensures ∙ w.if-not-stands_for_itself.false in
           rw (w.start-is, w.chunk-is) (record {
             behind = omega arith;
-            told = run_longer text at.start at.i kept.behind within at.chunk _ plain kept.told;
+            whole = run_longer text at.start at.i kept.behind within at.chunk _ plain kept.whole;
             room = kept.room;
           })
     ]

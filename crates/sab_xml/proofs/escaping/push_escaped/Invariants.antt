@@ -5,7 +5,7 @@ use Rattle.sab_xml.proofs.escaping.push_escaped.Given as goal
 abbrev pub invariant-loop-i : goal.invariant-loop-i
 invariant-loop-i l = record {
   behind : l.start ≤ l.i;
-  told : l.chunk ++ take (l.i - l.start) (drop l.start l.text) ++ text_of (drop l.i l.text)
+  whole : l.chunk ++ take (l.i - l.start) (drop l.start l.text) ++ text_of (drop l.i l.text)
       ≡ l.fn.chunk ++ text_of l.text;
   room : length l.chunk ≤ length l.fn.chunk + 8 * l.start;
 }

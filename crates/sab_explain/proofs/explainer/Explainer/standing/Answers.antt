@@ -11,8 +11,8 @@ use Rattle.sab_explain.proofs.OneStanding.{IsStanding-one}
 use Rattle.sab_explain.proofs.explainer.Explainer.standing.Goals as goal
 
 -- the answer
-abbrev told : goal.After-at → Standing
-told c =
+abbrev reported_standing : goal.After-at → Standing
+reported_standing c =
     record {
       call = c.in_ok-call.call;
       place = c.place_named-place.result;
@@ -21,7 +21,7 @@ told c =
       at = c.at.result;
     }
 
-stands : (c : goal.After-at) → IsStanding c.args.self.now.plan c.args.self.now.journal c.args.agent (told c)
+stands : (c : goal.After-at) → IsStanding c.args.self.now.plan c.args.self.now.journal c.args.agent (reported_standing c)
 stands c = record {
   call = search rules;
   place = search rules;
@@ -43,4 +43,4 @@ returns-clause-standing c = stands c
 
 pub returns-clause-only : goal.returns-clause-only
 returns-clause-only c other h =
-    IsStanding-one c.args.self.now.plan c.args.self.now.journal c.args.agent other (told c) h (stands c)
+    IsStanding-one c.args.self.now.plan c.args.self.now.journal c.args.agent other (reported_standing c) h (stands c)

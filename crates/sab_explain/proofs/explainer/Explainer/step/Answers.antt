@@ -18,8 +18,8 @@ abbrev entry_first : goal.After-woken → Entry
 entry_first c =
     get_or c.journal.result.now (length c.journal-position.result.now) (record { agent = 0; call = 0; what = Began })
 
-abbrev told_first : goal.After-woken → Fact
-told_first c =
+abbrev first_reported_fact : goal.After-woken → Fact
+first_reported_fact c =
     fact_of c.before_move-before.result (slice_index_or c.self.inside.last c.agent-agent.result None)
     c.conclude-found.result
 
@@ -27,7 +27,7 @@ few_first : (c : goal.After-woken) → length c.self.inside.sim.plan.scripts ≤
 few_first c = subst (λ (p : PlanParts). length p.scripts ≤ 16) c.plan.ensures c.scripts.ensures.valid.limits.agents
 
 all_first : (c : goal.After-woken)
-    → Concludes c.self.inside.sim c.step.new.self c.agent-agent.result (entry_first c) (told_first c)
+    → Concludes c.self.inside.sim c.step.new.self c.agent-agent.result (entry_first c) (first_reported_fact c)
     (length c.journal-position.result.now) c.self.inside.wakers c.self.inside.last
 all_first c =
     let within : c.agent-agent.result < length c.self.inside.sim.plan.scripts = search rules in
@@ -35,7 +35,7 @@ all_first c =
     let most = few_first c in
     concludes c.self.inside.sim c.step.new.self c.args.m c.agent-agent.result c.journal.result.now
     c.journal-position.result.now (record { agent = 0; call = 0; what = Began }) c.before_move-before.result
-    c.self.inside.wakers c.self.inside.last (told_first c)
+    c.self.inside.wakers c.self.inside.last (first_reported_fact c)
     c.journal-position.ensures.fits c.journal.ensures.fits c.journal-position.ensures.line c.step.ensures.plan
     c.in_ok-step.ensures.moves c.in_ok-step.ensures.journal c.journal-position.ensures.journal
     c.journal.ensures.journal c.agent-agent.ensures within (omega (arith, size, most))
@@ -55,8 +55,8 @@ abbrev entry : goal.After-note_last → Entry
 entry c =
     get_or c.journal.result.now (length c.journal-position.result.now) (record { agent = 0; call = 0; what = Began })
 
-abbrev told : goal.After-note_last → Fact
-told c =
+abbrev reported_fact : goal.After-note_last → Fact
+reported_fact c =
     fact_of c.before_move-before.result (slice_index_or c.self.inside.last c.agent-agent.result None)
     c.conclude-found.result
 
@@ -64,7 +64,7 @@ few : (c : goal.After-note_last) → length c.self.inside.sim.plan.scripts ≤ 1
 few c = subst (λ (p : PlanParts). length p.scripts ≤ 16) c.plan.ensures c.scripts.ensures.valid.limits.agents
 
 all : (c : goal.After-note_last)
-    → Concludes c.self.inside.sim c.step.new.self c.agent-agent.result (entry c) (told c)
+    → Concludes c.self.inside.sim c.step.new.self c.agent-agent.result (entry c) (reported_fact c)
     (length c.journal-position.result.now) c.self.inside.wakers c.self.inside.last
 all c =
     let within : c.agent-agent.result < length c.self.inside.sim.plan.scripts = search rules in
@@ -72,7 +72,7 @@ all c =
     let most = few c in
     concludes c.self.inside.sim c.step.new.self c.args.m c.agent-agent.result c.journal.result.now
     c.journal-position.result.now (record { agent = 0; call = 0; what = Began }) c.before_move-before.result
-    c.self.inside.wakers c.self.inside.last (told c)
+    c.self.inside.wakers c.self.inside.last (reported_fact c)
     c.journal-position.ensures.fits c.journal.ensures.fits c.journal-position.ensures.line c.step.ensures.plan
     c.in_ok-step.ensures.moves c.in_ok-step.ensures.journal c.journal-position.ensures.journal
     c.journal.ensures.journal c.agent-agent.ensures within (omega (arith, size, most))
@@ -90,15 +90,15 @@ invariant_of-self-2 c = (
 )
 
 -- the entry's fact
-the_fact : (c : goal.After-note_last) → IsFact c.args.self.now.plan c.args.self.now.journal (entry c) (told c)
-the_fact c = subst (λ (t : SimParts). IsFact t.plan t.journal (entry c) (told c)) c.self.view_is (all c).fact_is
+the_fact : (c : goal.After-note_last) → IsFact c.args.self.now.plan c.args.self.now.journal (entry c) (reported_fact c)
+the_fact c = subst (λ (t : SimParts). IsFact t.plan t.journal (entry c) (reported_fact c)) c.self.view_is (all c).fact_is
 
 pub returns-clause-fact : goal.returns-clause-fact
 returns-clause-fact c = the_fact c
 
 pub returns-clause-only : goal.returns-clause-only
 returns-clause-only c other h =
-    IsFact-one c.args.self.now.plan c.args.self.now.journal (entry c) other (told c) h (the_fact c)
+    IsFact-one c.args.self.now.plan c.args.self.now.journal (entry c) other (reported_fact c) h (the_fact c)
 
 pub returns-clause-waker : goal.returns-clause-waker
-returns-clause-waker c = NamesWaker-fact c.args.self.now.plan c.args.self.now.journal (entry c) (told c) (the_fact c)
+returns-clause-waker c = NamesWaker-fact c.args.self.now.plan c.args.self.now.journal (entry c) (reported_fact c) (the_fact c)

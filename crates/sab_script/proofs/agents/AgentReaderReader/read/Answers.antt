@@ -9,60 +9,60 @@ use Rattle.sab_script.specs.Known.{HasNames}
 use Rattle.sab_script.specs.Truth.{IsTrueWhere}
 use Rattle.sab_script.specs.Views.{view_names}
 use Rattle.sab_script.proofs.Standing.{part_of_item}
-use Rattle.sab_script.proofs.Telling.{exit_told}
+use Rattle.sab_script.proofs.Exits.{exit_reported}
 use Rattle.sab_script.proofs.agents.AgentReaderReader.read.Goals as goal
 
 abbrev Known : Location → List (List ℕ) → Data → Type 0
 Known place names root = ((i : ℕ) × (place ≡ at.Item M.Agents i)) × HasNames root names
 
-pub returns-in_err-block_tree-clause-told : goal.returns-in_err-block_tree-clause-told
-returns-in_err-block_tree-clause-told c =
+pub returns-in_err-block_tree-clause-reported : goal.returns-in_err-block_tree-clause-reported
+returns-in_err-block_tree-clause-reported c =
     let names = view_names c.args.self.now.views.now in
-    exit_told (IsTrueWhere c.args.at (view c.args.tree.now) (Known c.args.at names)) c.from_residual.result
+    exit_reported (IsTrueWhere c.args.at (view c.args.tree.now) (Known c.args.at names)) c.from_residual.result
     c.in_err-block_tree.field-0.0 c.from_residual.ensures.1
-    (λ root stands known. c.in_err-block_tree.ensures.told root stands known.0)
+    (λ root stands known. c.in_err-block_tree.ensures.reported root stands known.0)
 
-pub returns-in_err-can_block-clause-told : goal.returns-in_err-can_block-clause-told
-returns-in_err-can_block-clause-told c =
+pub returns-in_err-can_block-clause-reported : goal.returns-in_err-can_block-clause-reported
+returns-in_err-can_block-clause-reported c =
     let names = view_names c.args.self.now.views.now in
     let d = view c.args.tree.now in
     let x = view c.in_ok-block_tree.block_tree.now in
     let below = c.member.ensures in
-    exit_told (IsTrueWhere c.args.at d (Known c.args.at names)) c.from_residual-in_err-can_block.result
+    exit_reported (IsTrueWhere c.args.at d (Known c.args.at names)) c.from_residual-in_err-can_block.result
     c.in_err-can_block.field-0.0 c.from_residual-in_err-can_block.ensures.1
     (λ root stands known.
     let place = below ∙ ap (λ p. member_at p M.Block) known.0.1 in
-    c.in_err-can_block.ensures.told root
+    c.in_err-can_block.ensures.reported root
     (rw below (part_of_item M.Agents M.Block known.0.0 root c.args.at d x _ known.0.1 stands
     c.in_ok-block_tree.ensures.ok refl))
     (rw place refl))
 
-pub returns-in_err-trees-clause-told : goal.returns-in_err-trees-clause-told
-returns-in_err-trees-clause-told c =
+pub returns-in_err-trees-clause-reported : goal.returns-in_err-trees-clause-reported
+returns-in_err-trees-clause-reported c =
     let names = view_names c.args.self.now.views.now in
     let d = view c.args.tree.now in
     let x = view c.in_ok-block_tree.calls_tree.now in
     let below = c.member-at_calls.ensures in
-    exit_told (IsTrueWhere c.args.at d (Known c.args.at names)) c.from_residual-in_err-trees.result
+    exit_reported (IsTrueWhere c.args.at d (Known c.args.at names)) c.from_residual-in_err-trees.result
     c.in_err-trees.field-0.0 c.from_residual-in_err-trees.ensures.1
     (λ root stands known.
     let place = below ∙ ap (λ p. member_at p M.Calls) known.0.1 in
-    c.in_err-trees.ensures.told root
+    c.in_err-trees.ensures.reported root
     (rw below (part_of_item M.Agents M.Calls known.0.0 root c.args.at d x _ known.0.1 stands
     c.in_ok-block_tree.ensures.ok refl))
     (rw place refl))
 
-pub returns-in_err-calls-clause-told : goal.returns-in_err-calls-clause-told
-returns-in_err-calls-clause-told c =
+pub returns-in_err-calls-clause-reported : goal.returns-in_err-calls-clause-reported
+returns-in_err-calls-clause-reported c =
     let names = view_names c.args.self.now.views.now in
     let d = view c.args.tree.now in
     let x = view c.in_ok-block_tree.calls_tree.now in
     let below = c.member-at_calls.ensures in
-    exit_told (IsTrueWhere c.args.at d (Known c.args.at names)) c.from_residual-in_err-calls.result
+    exit_reported (IsTrueWhere c.args.at d (Known c.args.at names)) c.from_residual-in_err-calls.result
     c.in_err-calls.field-0.0 c.from_residual-in_err-calls.ensures.1
     (λ root stands known.
     let place = below ∙ ap (λ p. member_at p M.Calls) known.0.1 in
-    c.in_err-calls.ensures.told root
+    c.in_err-calls.ensures.reported root
     (rw below (part_of_item M.Agents M.Calls known.0.0 root c.args.at d x _ known.0.1 stands
     c.in_ok-block_tree.ensures.ok refl ∙ ap Some c.in_ok-trees.ensures.reads))
     ((known.0.0, place), known.1))

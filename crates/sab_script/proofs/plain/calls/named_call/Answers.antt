@@ -19,15 +19,15 @@ returns-in_ok-value-in-store c =
 pub returns-in-compareExchange : goal.returns-in-compareExchange
 returns-in-compareExchange c =
     let same = to_z-of_z w64 c.args.index (search rules) in
-    let told = rw same at c.compare_exchange_call.ensures in
+    let reported = rw same at c.compare_exchange_call.ensures in
     if_some c.compare_exchange_call.result
-    (λ x h. items_by c.args.rest.now (λ ds p. rw c.in-compareExchange.is p) h) told
+    (λ x h. items_by c.args.rest.now (λ ds p. rw c.in-compareExchange.is p) h) reported
 
 pub returns-in-wait : goal.returns-in-wait
 returns-in-wait c =
     let same = to_z-of_z w64 c.args.index (search rules) in
-    let told = rw same at c.wait_call.ensures in
-    if_some c.wait_call.result (λ x h. items_by c.args.rest.now (λ ds p. rw c.in-wait.is p) h) told
+    let reported = rw same at c.wait_call.ensures in
+    if_some c.wait_call.result (λ x h. items_by c.args.rest.now (λ ds p. rw c.in-wait.is p) h) reported
 
 pub returns-in_ok-count-in-notify : goal.returns-in_ok-count-in-notify
 returns-in_ok-count-in-notify c =
@@ -38,6 +38,6 @@ returns-in_ok-count-in-notify c =
 pub returns-in_ok-op_of-in_default : goal.returns-in_ok-op_of-in_default
 returns-in_ok-op_of-in_default c =
     let same = to_z-of_z w64 c.args.index (search rules) in
-    let told = rw same at c.rmw_call.ensures in
+    let reported = rw same at c.rmw_call.ensures in
     if_some c.rmw_call.result
-    (λ x h. items_by c.args.rest.now (λ ds p. rw c.in_ok-op_of-in_default.ensures p) h) told
+    (λ x h. items_by c.args.rest.now (λ ds p. rw c.in_ok-op_of-in_default.ensures p) h) reported

@@ -3,15 +3,15 @@ use Rattle.std.specs.Int.{w64}
 use Rattle.std.proofs.lemmas.Int.{to_z-of_z}
 use Rattle.sab_script.specs.Views.{view_names}
 use Rattle.sab_script.proofs.Tokens.{if_some}
-use Rattle.sab_script.proofs.CallTokens.{call_told}
+use Rattle.sab_script.proofs.CallTokens.{call_reported}
 use Rattle.sab_script.proofs.plain.calls.scan_call.Goals as goal
 
 pub returns : goal.returns
 returns c =
     let same = to_z-of_z w64 c.in_ok-index.index (search rules) in
-    let told = rw same at c.named_call.ensures in
+    let reported = rw same at c.named_call.ensures in
     if_some c.named_call.result
-    (λ x h. call_told (view_names c.args.views.now) c.args.element.now c.in_ok-rest.rest c.next_text.new.rest
+    (λ x h. call_reported (view_names c.args.views.now) c.args.element.now c.in_ok-rest.rest c.next_text.new.rest
     c.next_text-2.new.rest c.next_whole.new.rest c.in_ok-name.name.now c.in_ok-next_text.field-0.now c.in_ok-view.view
     c.in_ok-index.index x c.in_ok-rest.ensures c.in_ok-name.ensures c.in_ok-next_text.ensures c.in_ok-index.ensures
-    c.in_ok-view.ensures.some h) told
+    c.in_ok-view.ensures.some h) reported

@@ -1,5 +1,5 @@
 use Rattle.std.proofs.Common.{arith}
-use Rattle.sab_script.proofs.Tokens.{tells_by, items_none, items_more, items_all}
+use Rattle.sab_script.proofs.Tokens.{holds_by, items_none, items_more, items_all}
 use Rattle.sab_script.proofs.plain.lists.scan_items.Goals as goal
 
 pub loop-item-init : goal.loop-item-init
@@ -18,6 +18,6 @@ loop-item-preserved g c =
 
 pub returns : goal.returns
 returns g c =
-    tells_by c.args.element.now (λ d h. (h.0, h.1, (h.2, omega (arith, c.if-len-most.false))))
+    holds_by c.args.element.now (λ d h. (h.0, h.1, (h.2, omega (arith, c.if-len-most.false))))
     (items_all (g.R.Scanner.nests c.args.scanner.now) (g.R.Scanner.Spells c.args.scanner.now) c.args.element.now c.loop-item.items c.next.new.self
     c.loop-item.found.items c.in_default-next.ensures.value c.loop-item.invariant)

@@ -1,10 +1,10 @@
 use Rattle.std.proofs.Common.{pos, ap, ◌∙◌, arith}
 use Rattle.std.proofs.lemmas.Int.{ints}
 use Rattle.sab_script.specs.Numbers.{whole}
-use Rattle.sab_script.proofs.Tokens.{tells_by}
+use Rattle.sab_script.proofs.Tokens.{holds_by}
 use Rattle.sab_script.proofs.plain.numbers.scan_position.Goals as goal
 
-pub returns-then-n-from-clause-told : goal.returns-then-n-from-clause-told
-returns-then-n-from-clause-told c =
-    tells_by c.args.element.now
+pub returns-then-n-from-clause-reported : goal.returns-then-n-from-clause-reported
+returns-then-n-from-clause-reported c =
+    holds_by c.args.element.now
     (λ d h. (h.0 ∙ ap whole {y = pos _} (omega (arith, ints)), omega (arith, ints, c.ranges.count.fits))) c.in_ok-n.ensures

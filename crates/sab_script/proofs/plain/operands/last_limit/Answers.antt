@@ -1,7 +1,7 @@
 use Rattle.std.proofs.Common.{rules}
 use Rattle.std.specs.Int.{w64}
 use Rattle.std.proofs.lemmas.Int.{to_z-of_z}
-use Rattle.sab_script.proofs.Tokens.{items_by, none_left, next_tells, one_then}
+use Rattle.sab_script.proofs.Tokens.{items_by, none_left, next_holds, one_then}
 use Rattle.sab_script.proofs.plain.operands.last_limit.Goals as goal
 
 pub returns-in-None : goal.returns-in-None
@@ -11,6 +11,6 @@ returns-in-None c =
 pub returns-in_ok-no_more_items-in-Some : goal.returns-in_ok-no_more_items-in-Some
 returns-in_ok-no_more_items-in-Some c =
     one_then c.args.rest.now c.next.new.self
-    (next_tells c.args.rest.now c.in-Some.item c.next.new.self c.in-Some.ensures.value c.in_ok-limit-in-Some.ensures)
+    (next_holds c.args.rest.now c.in-Some.item c.next.new.self c.in-Some.ensures.value c.in_ok-limit-in-Some.ensures)
     c.in_ok-no_more_items-in-Some.ensures
     (λ d ds h none. (rw (to_z-of_z w64 c.in_ok-limit-in-Some.limit (search rules)) h, rw none tt))

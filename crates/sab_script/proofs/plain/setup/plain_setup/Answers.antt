@@ -7,5 +7,5 @@ returns-in-Ok-parse c =
     let is = c.in-Ok.ensures.cases in
     let parsed = c.in-Ok-parse.ensures in
     if_ok c.scan_setup.result
-    (λ setup tells. plain_read c.args.script.now setup c.root.result is.1 (rw is.0 at parsed.ok.1)
-    (rw (← is.0, c.root.ensures.same) parsed.value) tells) c.scan_setup.ensures
+    (λ setup holds. plain_read c.args.script.now setup c.root.result is.1 (rw is.0 at parsed.ok.1)
+    (rw (← is.0, c.root.ensures.same) parsed.value) holds) c.scan_setup.ensures

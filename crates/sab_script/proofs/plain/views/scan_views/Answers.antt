@@ -2,7 +2,7 @@ use Rattle.std.proofs.Common.{ℕ, List, [], ◌∷◌, sym, arith, length-appen
 use Rattle.sab_script.specs.declared.view_spec.ViewSpec.{ViewSpec}
 use Rattle.sab_script.specs.Views.{SpellsView}
 use Rattle.sab_script.proofs.Described.{described_more}
-use Rattle.sab_script.proofs.Tokens.{tells_by, items_none, items_more, items_all}
+use Rattle.sab_script.proofs.Tokens.{holds_by, items_none, items_more, items_all}
 use Rattle.sab_script.proofs.ViewNames.{none_are_views}
 use Rattle.sab_script.proofs.plain.views.scan_views.Goals as goal
 
@@ -39,7 +39,7 @@ loop-item-preserved c =
 
 pub returns-clause-read : goal.returns-clause-read
 returns-clause-read c =
-    tells_by c.args.element.now
+    holds_by c.args.element.now
     (λ d h. (h.0, h.1, record { each = h.2; views = c.loop-item.invariant.views }))
     (items_all 1 (SpellsView c.args.form c.args.lens.now) c.args.element.now c.loop-item.items c.next.new.self c.loop-item.views
     c.in_default-next.ensures.value c.loop-item.invariant.read)

@@ -13,7 +13,7 @@ report c = record {
   schedule = c.self.inside.moves.items;
   journal = c.self.inside.journal.items;
   blocks = items_of_each c.hand_over.new.room.items;
-  agents = c.tell_progress.new.room.items;
+  agents = c.report_progress.new.room.items;
 }
 
 -- of the plan that is kept
@@ -22,7 +22,7 @@ fits c =
     let sim = c.self.inside in
     Fits-kept sim.plan (report c) sim.moves.items sim.journal.items sim.machine c.self.invariant.0
     refl refl (c.hand_over.ensures ∙ c.into_blocks.ensures)
-    (c.tell_progress.ensures ∙ (rw (c.agents.ensures, c.scripts.ensures.scripts) refl))
+    (c.report_progress.ensures ∙ (rw (c.agents.ensures, c.scripts.ensures.scripts) refl))
 
 pub returns-clause-fits : goal.returns-clause-fits
 returns-clause-fits c = subst (λ (t : SimParts). Fits t.plan (report c)) c.self.view_is (fits c)

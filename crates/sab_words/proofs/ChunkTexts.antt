@@ -50,9 +50,9 @@ out (Some x) (Some y) None chunk text p q = absurd q
 out (Some x) (Some y) (Some z) chunk text p q = cc
 
 -- the chunk is written
-pub told_out : {T E : Type 0} (r : Result T E) (x b c : Option (List ℕ)) (chunk text : List ℕ)
+pub chunk_written_out : {T E : Type 0} (r : Result T E) (x b c : Option (List ℕ)) (chunk text : List ℕ)
     → Appends x (append_known b chunk) text → OnOk r (Appends b c chunk) → OnOk r (Appends x c text)
-told_out r x b c chunk text p q = on_ok_weaker r (out x b c chunk text p) q
+chunk_written_out r x b c chunk text p q = on_ok_weaker r (out x b c chunk text p) q
 
 pub from_empty : (a b : Option (List ℕ)) (chunk text : List ℕ) → chunk ≡ [] → Appends (append_known a chunk) b text
     → Appends a b text

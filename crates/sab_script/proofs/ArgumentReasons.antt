@@ -1,4 +1,4 @@
--- What is told of the arguments of a call is true.
+-- The reasons that are given about the arguments of a call are true.
 use Rattle.std.proofs.Common.{◌≡◌, ℕ, zero, suc, ◌+◌, ◌<◌, ◌≤◌, List, [], ◌∷◌, ◌++◌, length, map, get_or, drop, Some, None, Result, Ok, Err, inl, inr, refl, sym, ap, ◌∙◌, subst, arith, length-append}
 use Rattle.std.proofs.lemmas.List.{length-replicate}
 use Rattle.std.specs.Prelude.{slice_get, IfErr}
@@ -22,11 +22,11 @@ use Rattle.sab_script.specs.Places.{argument_type, IsNamed, ElementIs, CallsFor,
 use Rattle.sab_script.specs.Known.{IsNumberAs, HasArguments}
 use Rattle.sab_script.specs.Arguments.{types_of, HasCall, operands, TakesTimed, StandBehind}
 
--- what is told of the refusal of a part, where its result is the result
-pub err_told : {X : Type 0} (P Q : Located → Type 0) (r : Result X Located) → IfErr r P → ((e : Located) → P e → Q e)
+-- what is reported about the refusal of a part, where its result is the result
+pub err_reported : {X : Type 0} (P Q : Located → Type 0) (r : Result X Located) → IfErr r P → ((e : Located) → P e → Q e)
     → IfErr r Q
-err_told P Q (Ok x) h more = tt
-err_told P Q (Err e) h more = more e h
+err_reported P Q (Ok x) h more = tt
+err_reported P Q (Err e) h more = more e h
 
 -- what isn't a string is an operand just where it is a number
 pub number_as_operand : (d : Data) → ((s : List ℕ) → d ≡ string s → ⊥) → IsNumberAs wanted.Operand d

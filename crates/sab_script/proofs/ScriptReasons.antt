@@ -1,4 +1,4 @@
--- What is told of the members of a script.
+-- The reasons that are given about the members of a script.
 use Rattle.std.proofs.Common.{◌≡◌, [], ◌∷◌, List, true, false, option_map, Option, Some, None, is_some, true≢false, codes, refl, sym, ap, arith}
 use Rattle.serde_json.specs.Data.{Data, object, Members, member}
 use Rattle.sab_refusal.specs.declared.location.Location.TheVariants as at
@@ -13,7 +13,7 @@ use Rattle.sab_script.specs.Setup.{script_object}
 use Rattle.sab_script.specs.Truth.{IsTrueAt}
 use Rattle.sab_script.specs.Known.{AreInOrder, IsFirst, LackMember}
 use Rattle.sab_script.proofs.Ordered.{order_behind}
-use Rattle.sab_script.proofs.Unread.{Unread, none_read, one_read, member_told, end_told}
+use Rattle.sab_script.proofs.Unread.{Unread, none_read, one_read, member_reported, end_reported}
 
 -- the form of a script
 pub form_bytes : {T : Type 0} (f : T → Data) (o : Option T) (found : Option Data) → option_map f o ≡ found
@@ -82,68 +82,68 @@ views_read form ms m1 m2 m3 m4 a l s v order e1 e2 e3 e4 =
     one_read ms (Some (codes "schedule")) m3 (codes "views") v m4 e4
     (schedule_read form ms m1 m2 m3 a l s order e1 e2 e3)
 
--- what is told where one of them is missing, or isn't called for
+-- what is reported where one of them is missing, or isn't called for
 
-pub agents_missing_told : (form : Form) (root : Data) (ms : Members) (reason : Reason) → Called form root ms
+pub agents_missing_reported : (form : Form) (root : Data) (ms : Members) (reason : Reason) → Called form root ms
     → (AreInOrder ms → LackMember M.Agents ms reason) → IsTrueAt root at.Script reason
-agents_missing_told Bytes root ms reason h lacks =
-    member_told root at.Script (names_of Bytes) ms None ms M.Agents reason (ap Some h.0) (called Bytes root h.1)
+agents_missing_reported Bytes root ms reason h lacks =
+    member_reported root at.Script (names_of Bytes) ms None ms M.Agents reason (ap Some h.0) (called Bytes root h.1)
     (none_read ms h.2) (0, omega arith, refl) tt refl (lacks h.2)
-agents_missing_told Blocks root ms reason h lacks =
-    member_told root at.Script (names_of Blocks) ms None ms M.Agents reason (ap Some h.0) (called Blocks root h.1)
+agents_missing_reported Blocks root ms reason h lacks =
+    member_reported root at.Script (names_of Blocks) ms None ms M.Agents reason (ap Some h.0) (called Blocks root h.1)
     (none_read ms h.2) (0, omega arith, refl) tt refl (lacks h.2)
 
-pub lens_missing_told : (form : Form) (root a : Data) (ms m1 : Members) (reason : Reason) → Called form root ms
+pub lens_missing_reported : (form : Form) (root a : Data) (ms m1 : Members) (reason : Reason) → Called form root ms
     → ms ≡ member (codes "agents") a m1 → (AreInOrder m1 → LackMember (lens_member form) m1 reason)
     → IsTrueAt root at.Script reason
-lens_missing_told Bytes root a ms m1 reason h e1 lacks =
+lens_missing_reported Bytes root a ms m1 reason h e1 lacks =
     let read = agents_read ms m1 a h.2 e1 in
-    member_told root at.Script (names_of Bytes) ms (Some (codes "agents")) m1 M.Bytes reason (ap Some h.0)
+    member_reported root at.Script (names_of Bytes) ms (Some (codes "agents")) m1 M.Bytes reason (ap Some h.0)
     (called Bytes root h.1) read (1, omega arith, refl) refl refl (lacks (order_behind (codes "agents") m1 read.behind))
-lens_missing_told Blocks root a ms m1 reason h e1 lacks =
+lens_missing_reported Blocks root a ms m1 reason h e1 lacks =
     let read = agents_read ms m1 a h.2 e1 in
-    member_told root at.Script (names_of Blocks) ms (Some (codes "agents")) m1 M.Blocks reason (ap Some h.0)
+    member_reported root at.Script (names_of Blocks) ms (Some (codes "agents")) m1 M.Blocks reason (ap Some h.0)
     (called Blocks root h.1) read (1, omega arith, refl) refl refl (lacks (order_behind (codes "agents") m1 read.behind))
 
-pub schedule_missing_told : (form : Form) (root a l : Data) (ms m1 m2 : Members) (reason : Reason) → Called form root ms
+pub schedule_missing_reported : (form : Form) (root a l : Data) (ms m1 m2 : Members) (reason : Reason) → Called form root ms
     → ms ≡ member (codes "agents") a m1 → m1 ≡ member (lens_name form) l m2
     → (AreInOrder m2 → LackMember M.Schedule m2 reason) → IsTrueAt root at.Script reason
-schedule_missing_told Bytes root a l ms m1 m2 reason h e1 e2 lacks =
+schedule_missing_reported Bytes root a l ms m1 m2 reason h e1 e2 lacks =
     let read = lens_read Bytes ms m1 m2 a l h.2 e1 e2 in
-    member_told root at.Script (names_of Bytes) ms (Some (codes "bytes")) m2 M.Schedule reason (ap Some h.0)
+    member_reported root at.Script (names_of Bytes) ms (Some (codes "bytes")) m2 M.Schedule reason (ap Some h.0)
     (called Bytes root h.1) read (2, omega arith, refl) refl refl (lacks (order_behind (codes "bytes") m2 read.behind))
-schedule_missing_told Blocks root a l ms m1 m2 reason h e1 e2 lacks =
+schedule_missing_reported Blocks root a l ms m1 m2 reason h e1 e2 lacks =
     let read = lens_read Blocks ms m1 m2 a l h.2 e1 e2 in
-    member_told root at.Script (names_of Blocks) ms (Some (codes "blocks")) m2 M.Schedule reason (ap Some h.0)
+    member_reported root at.Script (names_of Blocks) ms (Some (codes "blocks")) m2 M.Schedule reason (ap Some h.0)
     (called Blocks root h.1) read (2, omega arith, refl) refl refl
     (lacks (order_behind (codes "blocks") m2 read.behind))
 
-pub views_missing_told : (form : Form) (root a l s : Data) (ms m1 m2 m3 : Members) (reason : Reason) → Called form root ms
+pub views_missing_reported : (form : Form) (root a l s : Data) (ms m1 m2 m3 : Members) (reason : Reason) → Called form root ms
     → ms ≡ member (codes "agents") a m1 → m1 ≡ member (lens_name form) l m2 → m2 ≡ member (codes "schedule") s m3
     → (AreInOrder m3 → LackMember M.Views m3 reason) → IsTrueAt root at.Script reason
-views_missing_told Bytes root a l s ms m1 m2 m3 reason h e1 e2 e3 lacks =
+views_missing_reported Bytes root a l s ms m1 m2 m3 reason h e1 e2 e3 lacks =
     let read = schedule_read Bytes ms m1 m2 m3 a l s h.2 e1 e2 e3 in
-    member_told root at.Script (names_of Bytes) ms (Some (codes "schedule")) m3 M.Views reason (ap Some h.0)
+    member_reported root at.Script (names_of Bytes) ms (Some (codes "schedule")) m3 M.Views reason (ap Some h.0)
     (called Bytes root h.1) read (3, omega arith, refl) refl refl
     (lacks (order_behind (codes "schedule") m3 read.behind))
-views_missing_told Blocks root a l s ms m1 m2 m3 reason h e1 e2 e3 lacks =
+views_missing_reported Blocks root a l s ms m1 m2 m3 reason h e1 e2 e3 lacks =
     let read = schedule_read Blocks ms m1 m2 m3 a l s h.2 e1 e2 e3 in
-    member_told root at.Script (names_of Blocks) ms (Some (codes "schedule")) m3 M.Views reason (ap Some h.0)
+    member_reported root at.Script (names_of Blocks) ms (Some (codes "schedule")) m3 M.Views reason (ap Some h.0)
     (called Blocks root h.1) read (3, omega arith, refl) refl refl
     (lacks (order_behind (codes "schedule") m3 read.behind))
 
-pub script_end_told : (form : Form) (root a l s v : Data) (ms m1 m2 m3 m4 : Members) (reason : Reason)
+pub script_end_reported : (form : Form) (root a l s v : Data) (ms m1 m2 m3 m4 : Members) (reason : Reason)
     → Called form root ms → ms ≡ member (codes "agents") a m1 → m1 ≡ member (lens_name form) l m2
     → m2 ≡ member (codes "schedule") s m3 → m3 ≡ member (codes "views") v m4 → IsFirst m4 reason
     → IsTrueAt root at.Script reason
-script_end_told Bytes root a l s v ms m1 m2 m3 m4 reason h e1 e2 e3 e4 first =
-    end_told root at.Script (names_of Bytes) ms (codes "views") m4 reason (ap Some h.0) (called Bytes root h.1)
+script_end_reported Bytes root a l s v ms m1 m2 m3 m4 reason h e1 e2 e3 e4 first =
+    end_reported root at.Script (names_of Bytes) ms (codes "views") m4 reason (ap Some h.0) (called Bytes root h.1)
     (views_read Bytes ms m1 m2 m3 m4 a l s v h.2 e1 e2 e3 e4) refl first
-script_end_told Blocks root a l s v ms m1 m2 m3 m4 reason h e1 e2 e3 e4 first =
-    end_told root at.Script (names_of Blocks) ms (codes "views") m4 reason (ap Some h.0) (called Blocks root h.1)
+script_end_reported Blocks root a l s v ms m1 m2 m3 m4 reason h e1 e2 e3 e4 first =
+    end_reported root at.Script (names_of Blocks) ms (codes "views") m4 reason (ap Some h.0) (called Blocks root h.1)
     (views_read Blocks ms m1 m2 m3 m4 a l s v h.2 e1 e2 e3 e4) refl first
 
--- the member that tells of the blocks, by another spelling
+-- the member about the blocks, by another spelling
 pub lacks_lens : (form : Form) (m : Member) (ms : Members) (reason : Reason) → m ≡ lens_member form
     → (AreInOrder ms → LackMember m ms reason) → AreInOrder ms → LackMember (lens_member form) ms reason
 lacks_lens form m ms reason same lacks order = rw same at (lacks order)

@@ -1,7 +1,7 @@
-//! What entries of a journal tell of their moves.
+//! The moves that entries of a journal record.
 
 ghost use Rattle.std.specs.Prelude.{◌≡◌};
-ghost use Rattle.sab_kept.specs.Telling.{move_of, JournalTells};
+ghost use Rattle.sab_kept.specs.RecordedMoves.{move_of, JournalRecordsSchedule};
 
 use sab_sim::{Answer, Entry, Move, What, Why};
 
@@ -10,10 +10,10 @@ use sab_sim::{Answer, Entry, Move, What, Why};
 ///
 /// So a journal determines its schedule: in every report that fits a plan, move k is the one that
 /// entry k records.
-#[tactic(auto, using(crate::proofs::TellingLaw::journal_tells))]
-pub fn move_told_by(entry: Entry) -> Move
-    ensures told { result ≡ move_of entry }
-    ensures law { JournalTells }
+#[tactic(auto, using(crate::proofs::RecordedMoves::journal_records_schedule))]
+pub fn recorded_move(entry: Entry) -> Move
+    ensures recorded { result ≡ move_of entry }
+    ensures law { JournalRecordsSchedule }
 {
     match entry.what {
         What::Left(Answer::TimedOut) | What::Stuck(Why::NotWaiting) | What::Stuck(Why::Endless) =>

@@ -7,8 +7,8 @@ use Rattle.std.proofs.lemmas.List.Elements.{All-push, All-nil}
 use Rattle.sab_judge.specs.declared.event.Event.{Event}
 use Rattle.sab_judge.specs.declared.race.Race.{Race}
 use Rattle.sab_judge.specs.Race.{IsRace, Counts, below_none, one_more, no_more, CountsRaces, CountsDataRaces, of_none, and_of, ComesBefore}
-use Rattle.sab_judge.specs.Verdict.{race_at, IsTold, InOrder, IsAmong, ComesAfterAll, IsVerdict}
-use Rattle.sab_judge.specs.Telling.{HasTold}
+use Rattle.sab_judge.specs.Verdict.{race_at, IsReported, InOrder, IsAmong, ComesAfterAll, IsVerdict}
+use Rattle.sab_judge.specs.RacesSoFar.{HasReported}
 use Rattle.sab_judge.proofs.Counting.{few_below, some_counted}
 
 -- ---- what comes before
@@ -25,33 +25,33 @@ weaker : {k l i j : ℕ} → ComesBefore k l i j → ComesBefore k l (i + 1) j
 weaker (inl lt) = inl lt
 weaker {k} {l} {i} {j} (inr (same, lt)) = inr (same, omega (arith, lt))
 
-passed_more : (told : List Race) {i j : ℕ} → ComesAfterAll told i j → ComesAfterAll told (i + 1) j
-passed_more told passed k h = weaker (passed k h)
+passed_more : (reported : List Race) {i j : ℕ} → ComesAfterAll reported i j → ComesAfterAll reported (i + 1) j
+passed_more reported passed k h = weaker (passed k h)
 
 -- ---- races that are listed
 
-among_more : {told : List Race} {k l : ℕ} (r : Race) → IsAmong told k l → IsAmong (told ++ r ∷ []) k l
-among_more {told} {k} {l} r a = record {
+among_more : {reported : List Race} {k l : ℕ} (r : Race) → IsAmong reported k l → IsAmong (reported ++ r ∷ []) k l
+among_more {reported} {k} {l} r a = record {
   place = a.place;
   inside = simp length-append (omega (arith, a.inside));
   first = ap (λ (x : Race). x.first) same ∙ a.first;
   second = ap (λ (x : Race). x.second) same ∙ a.second;
 }
   where
-    same : race_at (told ++ r ∷ []) a.place ≡ race_at told a.place
-    same = get_or-append told (r ∷ []) _ a.place a.inside
+    same : race_at (reported ++ r ∷ []) a.place ≡ race_at reported a.place
+    same = get_or-append reported (r ∷ []) _ a.place a.inside
 
-among_last : (told : List Race) (r : Race) → IsAmong (told ++ r ∷ []) r.first r.second
-among_last told r = record {
-  place = length told;
+among_last : (reported : List Race) (r : Race) → IsAmong (reported ++ r ∷ []) r.first r.second
+among_last reported r = record {
+  place = length reported;
   inside = simp length-append (omega arith);
-  first = ap (λ (x : Race). x.first) (get_or-append_seam told r [] _);
-  second = ap (λ (x : Race). x.second) (get_or-append_seam told r [] _);
+  first = ap (λ (x : Race). x.first) (get_or-append_seam reported r [] _);
+  second = ap (λ (x : Race). x.second) (get_or-append_seam reported r [] _);
 }
 
-pub nothing_told : (trace : List Event) (most : ℕ) (told : List Race) → told ≡ [] → HasTold trace 0 0 most told 0
-nothing_told trace most told e = subst (λ (t : List Race). HasTold trace 0 0 most t 0) (sym e) (record {
-  races = All-nil (IsTold trace);
+pub nothing_reported : (trace : List Event) (most : ℕ) (reported : List Race) → reported ≡ [] → HasReported trace 0 0 most reported 0
+nothing_reported trace most reported e = subst (λ (t : List Race). HasReported trace 0 0 most t 0) (sym e) (record {
+  races = All-nil (IsReported trace);
   order = λ k l lt h. absurd (omega (arith, h));
   passed = λ k h. absurd (omega (arith, h));
   each = λ k l b race. elim b [
@@ -69,12 +69,12 @@ nothing_told trace most told e = subst (λ (t : List Race). HasTold trace 0 0 mo
 })
 
 -- two events that don't race
-pub passed_over : {trace : List Event} {j i most : ℕ} {told : List Race} {rest : ℕ} → HasTold trace j i most told rest
-    → ¬ IsRace trace i j → HasTold trace j (i + 1) most told rest
-passed_over {trace} {j} {i} {most} {told} {rest} t apart = record {
+pub passed_over : {trace : List Event} {j i most : ℕ} {reported : List Race} {rest : ℕ} → HasReported trace j i most reported rest
+    → ¬ IsRace trace i j → HasReported trace j (i + 1) most reported rest
+passed_over {trace} {j} {i} {most} {reported} {rest} t apart = record {
   races = t.races;
   order = t.order;
-  passed = passed_more told t.passed;
+  passed = passed_more reported t.passed;
   each = λ k l b race. elim (before_next b) [
     | inl earlier ↦ t.each k l earlier race
     | inr (k_is, l_is) ↦ absurd (apart (subst (λ (x : ℕ). IsRace trace x j) k_is
@@ -91,20 +91,20 @@ passed_over {trace} {j} {i} {most} {told} {rest} t apart = record {
 }
 
 -- a race that is left
-pub left_one : {trace : List Event} {j i most : ℕ} {told : List Race} {rest : ℕ} → HasTold trace j i most told rest
-    → most ≤ length told → IsRace trace i j → HasTold trace j (i + 1) most told (rest + 1)
-left_one {trace} {j} {i} {most} {told} {rest} t enough race = record {
+pub left_one : {trace : List Event} {j i most : ℕ} {reported : List Race} {rest : ℕ} → HasReported trace j i most reported rest
+    → most ≤ length reported → IsRace trace i j → HasReported trace j (i + 1) most reported (rest + 1)
+left_one {trace} {j} {i} {most} {reported} {rest} t enough race = record {
   races = t.races;
   order = t.order;
-  passed = passed_more told t.passed;
+  passed = passed_more reported t.passed;
   each = λ k l b r. elim (before_next b) [
     | inl earlier ↦ elim (t.each k l earlier r) [
       | inl among ↦ inl among
       | inr left ↦ inr (record { after = left.after; some = omega arith })
     ]
     | inr (k_is, l_is) ↦ inr (record {
-      after = subst (λ (x : ℕ). ComesAfterAll told x l) (sym k_is)
-          (subst (λ (x : ℕ). ComesAfterAll told i x) (sym l_is) t.passed);
+      after = subst (λ (x : ℕ). ComesAfterAll reported x l) (sym k_is)
+          (subst (λ (x : ℕ). ComesAfterAll reported i x) (sym l_is) t.passed);
       some = omega arith;
     })
   ];
@@ -119,11 +119,11 @@ left_one {trace} {j} {i} {most} {told} {rest} t enough race = record {
 }
 
 -- a race that is listed
-pub told_one : {trace : List Event} {j i most : ℕ} {told : List Race} {rest : ℕ} (r : Race)
-    → HasTold trace j i most told rest → length told < most → IsTold trace r → r.first ≡ i → r.second ≡ j
-    → HasTold trace j (i + 1) most (told ++ r ∷ []) rest
-told_one {trace} {j} {i} {most} {told} {rest} r t fewer is_told first_is second_is = record {
-  races = All-push (IsTold trace) told r t.races is_told;
+pub reported_one : {trace : List Event} {j i most : ℕ} {reported : List Race} {rest : ℕ} (r : Race)
+    → HasReported trace j i most reported rest → length reported < most → IsReported trace r → r.first ≡ i → r.second ≡ j
+    → HasReported trace j (i + 1) most (reported ++ r ∷ []) rest
+reported_one {trace} {j} {i} {most} {reported} {rest} r t fewer is_reported first_is second_is = record {
+  races = All-push (IsReported trace) reported r t.races is_reported;
   order = order;
   passed = passed;
   each = λ k l b race. elim (before_next b) [
@@ -131,8 +131,8 @@ told_one {trace} {j} {i} {most} {told} {rest} r t fewer is_told first_is second_
       | inl among ↦ inl (among_more r among)
       | inr left ↦ absurd (omega (arith, none_left, left.some))
     ]
-    | inr (k_is, l_is) ↦ inl (subst (λ (x : ℕ). IsAmong (told ++ r ∷ []) x l) (first_is ∙ sym k_is)
-        (subst (λ (x : ℕ). IsAmong (told ++ r ∷ []) r.first x) (second_is ∙ sym l_is) (among_last told r)))
+    | inr (k_is, l_is) ↦ inl (subst (λ (x : ℕ). IsAmong (reported ++ r ∷ []) x l) (first_is ∙ sym k_is)
+        (subst (λ (x : ℕ). IsAmong (reported ++ r ∷ []) r.first x) (second_is ∙ sym l_is) (among_last reported r)))
   ];
   before = t.before;
   count = t.count;
@@ -144,11 +144,11 @@ told_one {trace} {j} {i} {most} {told} {rest} r t fewer is_told first_is second_
   small = omega (arith, t.small);
 }
   where
-    len : length (told ++ r ∷ []) ≡ length told + 1
-    len = length-append told (r ∷ [])
+    len : length (reported ++ r ∷ []) ≡ length reported + 1
+    len = length-append reported (r ∷ [])
 
     race : IsRace trace i j
-    race = subst (λ (x : ℕ). IsRace trace x j) first_is (subst (λ (x : ℕ). IsRace trace r.first x) second_is is_told.is_race)
+    race = subst (λ (x : ℕ). IsRace trace x j) first_is (subst (λ (x : ℕ). IsRace trace r.first x) second_is is_reported.is_race)
 
     none_left : rest ≡ 0
     none_left = elim (cases_lt 0 rest) [
@@ -156,48 +156,48 @@ told_one {trace} {j} {i} {most} {told} {rest} r t fewer is_told first_is second_
       | inr zero ↦ omega (arith, zero)
     ]
 
-    old : (k : ℕ) → k < length told → race_at (told ++ r ∷ []) k ≡ race_at told k
-    old k lt = get_or-append told (r ∷ []) _ k lt
+    old : (k : ℕ) → k < length reported → race_at (reported ++ r ∷ []) k ≡ race_at reported k
+    old k lt = get_or-append reported (r ∷ []) _ k lt
 
-    last : race_at (told ++ r ∷ []) (length told) ≡ r
-    last = get_or-append_seam told r [] _
+    last : race_at (reported ++ r ∷ []) (length reported) ≡ r
+    last = get_or-append_seam reported r [] _
 
-    ends : (k : ℕ) → k < length (told ++ r ∷ []) → (k < length told) ⊎ (k ≡ length told)
-    ends k h = elim (cases_lt k (length told)) [
+    ends : (k : ℕ) → k < length (reported ++ r ∷ []) → (k < length reported) ⊎ (k ≡ length reported)
+    ends k h = elim (cases_lt k (length reported)) [
       | inl lt ↦ inl lt
       | inr ge ↦ inr (omega (arith, len, h, ge))
     ]
 
-    at_old : (k a b : ℕ) → (lt : k < length told) → ComesBefore (race_at told k).first (race_at told k).second a b
-        → ComesBefore (race_at (told ++ r ∷ []) k).first (race_at (told ++ r ∷ []) k).second a b
+    at_old : (k a b : ℕ) → (lt : k < length reported) → ComesBefore (race_at reported k).first (race_at reported k).second a b
+        → ComesBefore (race_at (reported ++ r ∷ []) k).first (race_at (reported ++ r ∷ []) k).second a b
     at_old k a b lt h = subst (λ (x : Race). ComesBefore x.first x.second a b) (sym (old k lt)) h
 
-    passed : ComesAfterAll (told ++ r ∷ []) (i + 1) j
+    passed : ComesAfterAll (reported ++ r ∷ []) (i + 1) j
     passed k h = elim (ends k h) [
       | inl lt ↦ at_old k (i + 1) j lt (weaker (t.passed k lt))
       | inr at ↦ subst (λ (x : Race). ComesBefore x.first x.second (i + 1) j)
-          (sym (ap (λ (x : ℕ). race_at (told ++ r ∷ []) x) at ∙ last)) (inr (second_is, omega (arith, first_is)))
+          (sym (ap (λ (x : ℕ). race_at (reported ++ r ∷ []) x) at ∙ last)) (inr (second_is, omega (arith, first_is)))
     ]
 
-    order : InOrder (told ++ r ∷ [])
+    order : InOrder (reported ++ r ∷ [])
     order k l lt h = elim (ends l h) [
       | inl l_in ↦ at_old k _ _ (omega (arith, lt, l_in))
-          (subst (λ (x : Race). ComesBefore (race_at told k).first (race_at told k).second x.first x.second)
+          (subst (λ (x : Race). ComesBefore (race_at reported k).first (race_at reported k).second x.first x.second)
           (sym (old l l_in)) (t.order k l lt l_in))
-      | inr at ↦ (let k_in : k < length told = omega (arith, at, lt) in
+      | inr at ↦ (let k_in : k < length reported = omega (arith, at, lt) in
           at_old k _ _ k_in
-          (subst (λ (x : Race). ComesBefore (race_at told k).first (race_at told k).second x.first x.second)
-          (sym (ap (λ (x : ℕ). race_at (told ++ r ∷ []) x) at ∙ last))
-          (subst (λ (x : ℕ). ComesBefore (race_at told k).first (race_at told k).second x r.second) (sym first_is)
-          (subst (λ (x : ℕ). ComesBefore (race_at told k).first (race_at told k).second i x) (sym second_is)
+          (subst (λ (x : Race). ComesBefore (race_at reported k).first (race_at reported k).second x.first x.second)
+          (sym (ap (λ (x : ℕ). race_at (reported ++ r ∷ []) x) at ∙ last))
+          (subst (λ (x : ℕ). ComesBefore (race_at reported k).first (race_at reported k).second x r.second) (sym first_is)
+          (subst (λ (x : ℕ). ComesBefore (race_at reported k).first (race_at reported k).second i x) (sym second_is)
           (t.passed k k_in)))))
     ]
 
 -- races that are all left
-pub all_left : {trace : List Event} {j most : ℕ} {told : List Race} {rest : ℕ} (count : ℕ)
-    → HasTold trace j 0 most told rest → Counts (λ i. IsRace trace i j) j count → (0 < count → most ≤ length told)
-    → HasTold trace j j most told (rest + count)
-all_left {trace} {j} {most} {told} {rest} count t counted enough = record {
+pub all_left : {trace : List Event} {j most : ℕ} {reported : List Race} {rest : ℕ} (count : ℕ)
+    → HasReported trace j 0 most reported rest → Counts (λ i. IsRace trace i j) j count → (0 < count → most ≤ length reported)
+    → HasReported trace j j most reported (rest + count)
+all_left {trace} {j} {most} {reported} {rest} count t counted enough = record {
   races = t.races;
   order = t.order;
   passed = λ k h. elim (t.passed k h) [
@@ -230,7 +230,7 @@ all_left {trace} {j} {most} {told} {rest} count t counted enough = record {
     counted_some : (k : ℕ) → IsRace trace k j → k < j → 0 < count
     counted_some k race lt = some_counted counted k lt race
 
-    full : 0 < rest + count → length told ≡ most
+    full : 0 < rest + count → length reported ≡ most
     full h = elim (cases_lt 0 count) [
       | inl some ↦ omega (arith, t.few, enough some)
       | inr none ↦ t.full (omega (arith, h, none))
@@ -249,9 +249,9 @@ from_next {k} {l} {j} order (inl lt) = elim (cases_lt l j) [
 ]
 from_next {k} {l} {j} order (inr (same, lt)) = absurd (omega (arith, lt))
 
-pub next_event : {trace : List Event} {j most : ℕ} {told : List Race} {rest : ℕ} → j < 2 ^ 20
-    → HasTold trace j j most told rest → HasTold trace (j + 1) 0 most told rest
-next_event {trace} {j} {most} {told} {rest} few t = record {
+pub next_event : {trace : List Event} {j most : ℕ} {reported : List Race} {rest : ℕ} → j < 2 ^ 20
+    → HasReported trace j j most reported rest → HasReported trace (j + 1) 0 most reported rest
+next_event {trace} {j} {most} {reported} {rest} few t = record {
   races = t.races;
   order = t.order;
   passed = λ k h. to_next (t.passed k h);
@@ -266,10 +266,10 @@ next_event {trace} {j} {most} {told} {rest} few t = record {
   small = omega (arith, t.small, few);
 }
 
-pub all_told : {trace : List Event} {most : ℕ} {told : List Race} {rest data_races : ℕ}
-    → HasTold trace (length trace) 0 most told rest → CountsDataRaces trace (length trace) data_races
-    → IsVerdict trace most told rest data_races
-all_told {trace} {most} {told} {rest} {data_races} t counted = record {
+pub all_reported : {trace : List Event} {most : ℕ} {reported : List Race} {rest data_races : ℕ}
+    → HasReported trace (length trace) 0 most reported rest → CountsDataRaces trace (length trace) data_races
+    → IsVerdict trace most reported rest data_races
+all_reported {trace} {most} {reported} {rest} {data_races} t counted = record {
   races = t.races;
   order = t.order;
   each = λ i j race. t.each i j (inl race.within) race;
@@ -279,5 +279,5 @@ all_told {trace} {most} {told} {rest} {data_races} t counted = record {
   data_count = counted;
 }
   where
-    total : t.before ≡ length told + rest
+    total : t.before ≡ length reported + rest
     total = omega (arith, t.sum, few_below t.count_here)

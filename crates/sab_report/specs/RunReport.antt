@@ -21,7 +21,7 @@ use Rattle.sab_tool.specs.declared.tool_fault.ToolFault.TheVariants.{OutOfMemory
 use Rattle.sab_tool.specs.Replay.{IsReplayOf}
 use Rattle.sab_text.specs.declared.format.Format.{Format}
 use Rattle.sab_text.specs.declared.format.Format.TheVariants.{Plain, Explained, Json, Svg}
-use Rattle.sab_text.specs.declared.format.Telling.{Telling}
+use Rattle.sab_text.specs.declared.format.ReportForm.{ReportForm}
 
 -- the facts of the report's entries and where its agents stand in the end make this text
 pub record IsByFacts (text_of : List Fact → List (Option Standing) → List ℕ) (plan : PlanParts) (report : ReportParts)
@@ -47,22 +47,22 @@ IsTextIn Svg lines names plan report text =
     × HaveRoom names plan (shape_of names plan (length report.schedule))
 
 -- just the text of the report came behind what the writer held
-pub record Tells (telling : Telling) (names : List (List ℕ)) (plan : PlanParts) (report : ReportParts)
+pub record WritesReport (report_form : ReportForm) (names : List (List ℕ)) (plan : PlanParts) (report : ReportParts)
     (old new : Option (List ℕ)) : Type 0 where
   pub text : List ℕ
-  pub text_is : IsTextIn telling.format telling.lines names plan report text
+  pub text_is : IsTextIn report_form.format report_form.lines names plan report text
   pub written : Appends old new text
 
--- the one report of the moves was told
-pub record TellsMoves (telling : Telling) (names : List (List ℕ)) (plan : PlanParts) (moves : List Move)
+-- the one report of the moves was written
+pub record ReportsMoves (report_form : ReportForm) (names : List (List ℕ)) (plan : PlanParts) (moves : List Move)
     (old new : Option (List ℕ)) (report : ReportParts) : Type 0 where
   pub is_its : IsReplayOf plan moves report
-  pub told : Tells telling names plan report old new
+  pub reported : WritesReport report_form names plan report old new
 
 -- the words of the one report of the moves begin at this column
 abbrev pub IsColumnOf : PlanParts → List Move → ℕ → Type 0
 IsColumnOf plan moves column = (report : ReportParts) → IsReplayOf plan moves report → column ≡ column_of report
 
 -- there was no memory and nothing was written, or a write failed
-abbrev pub IsTellingFault : Option (List ℕ) → Option (List ℕ) → ToolFault → Type 0
-IsTellingFault old new fault = (Keeps old new × (fault ≡ OutOfMemory)) ⊎ (fault ≡ WriteFailed)
+abbrev pub IsReportingFault : Option (List ℕ) → Option (List ℕ) → ToolFault → Type 0
+IsReportingFault old new fault = (Keeps old new × (fault ≡ OutOfMemory)) ⊎ (fault ≡ WriteFailed)

@@ -1,4 +1,4 @@
--- What is told of the moves of a schedule.
+-- The reasons that are given about the moves of a schedule.
 use Rattle.std.proofs.Common.{◌≡◌, ℕ, [], ◌∷◌, Some, None, codes, inl, inr, refl, ap, ◌∙◌, arith}
 use Rattle.serde_json.specs.Data.{Data, object, Members, member}
 use Rattle.sab_refusal.specs.declared.location.Location.{Location}
@@ -10,20 +10,20 @@ use Rattle.sab_refusal.specs.declared.reason.Reason.{Reason}
 use Rattle.sab_script.specs.Places.{Stands, CallsFor, members_at, form_of}
 use Rattle.sab_script.specs.Truth.{HasItems, IsCountedAt, IsTrueAt}
 use Rattle.sab_script.specs.Known.{AreInOrder, IsFirst, LackMember, IsNumberAs}
-use Rattle.sab_script.proofs.Unread.{none_read, one_read, member_told, end_told}
+use Rattle.sab_script.proofs.Unread.{none_read, one_read, member_reported, end_reported}
 
-pub timeout_missing_told : (root : Data) (k : ℕ) (place : Location) (d : Data) (ms : Members) (reason : Reason)
+pub timeout_missing_reported : (root : Data) (k : ℕ) (place : Location) (d : Data) (ms : Members) (reason : Reason)
     → place ≡ at.Item M.Schedule k → Stands root place d → d ≡ object ms → AreInOrder ms
     → LackMember M.Timeout ms reason → IsTrueAt root place reason
-timeout_missing_told root k place d ms reason is stands is_object order lacks =
-    member_told root place (M.Timeout ∷ []) ms None ms M.Timeout reason (stands ∙ ap Some is_object)
+timeout_missing_reported root k place d ms reason is stands is_object order lacks =
+    member_reported root place (M.Timeout ∷ []) ms None ms M.Timeout reason (stands ∙ ap Some is_object)
     (ap (members_at (form_of root)) is) (none_read ms order) (0, omega arith, refl) tt refl lacks
 
-pub move_end_told : (root : Data) (k : ℕ) (place : Location) (d t : Data) (ms rest : Members) (reason : Reason)
+pub move_end_reported : (root : Data) (k : ℕ) (place : Location) (d t : Data) (ms rest : Members) (reason : Reason)
     → place ≡ at.Item M.Schedule k → Stands root place d → d ≡ object ms → AreInOrder ms
     → ms ≡ member (codes "timeout") t rest → IsFirst rest reason → IsTrueAt root place reason
-move_end_told root k place d t ms rest reason is stands is_object order e first =
-    end_told root place (M.Timeout ∷ []) ms (codes "timeout") rest reason (stands ∙ ap Some is_object)
+move_end_reported root k place d t ms rest reason is stands is_object order e first =
+    end_reported root place (M.Timeout ∷ []) ms (codes "timeout") rest reason (stands ∙ ap Some is_object)
     (ap (members_at (form_of root)) is) (one_read ms None ms (codes "timeout") t rest e (none_read ms order)) refl first
 
 -- what is known where the agent of a move is read

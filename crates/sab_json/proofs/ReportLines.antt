@@ -5,7 +5,7 @@ use Rattle.std.specs.Io.KnownBytes.{Appends, Keeps, append_known}
 use Rattle.sab_plan.specs.declared.progress.Progress.{Progress}
 use Rattle.sab_plan.specs.Report.{items_of_each}
 use Rattle.sab_plan.specs.declared.standing.Standing.{Standing}
-use Rattle.sab_text.proofs.Appending.{left_after, left_told}
+use Rattle.sab_text.proofs.Appending.{left_after, left_written}
 use Rattle.sab_json.specs.StandingData.{agent_data}
 use Rattle.sab_json.specs.Lines.{line, block_data, block_lines, agent_lines}
 
@@ -19,7 +19,7 @@ pub blocks_after : (a b y : Option (List ℕ)) (bs : List (Vec ℕ Global)) (k :
     → Appends b y (line (block_data k (get_or bs k d).items))
     → Appends a (append_known y (block_lines (k + 1) (items_of_each (drop (k + 1) bs)))) all
 blocks_after a b y bs k d all h p q =
-    left_told a b y (line (block_data k (get_or bs k d).items)) (block_lines (k + 1) (items_of_each (drop (k + 1) bs)))
+    left_written a b y (line (block_data k (get_or bs k d).items)) (block_lines (k + 1) (items_of_each (drop (k + 1) bs)))
     all (rw (blocks_left bs k d h) at p) q
 
 agents_left : (names : List (List ℕ)) (ss : List (Option Standing)) (ps : List Progress) (k : ℕ) (d : Progress)

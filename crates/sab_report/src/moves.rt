@@ -8,36 +8,36 @@ ghost use Rattle.sab_json.specs.CallData.{AreNames};
 ghost use Rattle.sab_json.specs.SafeNumbers.{HasSafeNumbers};
 ghost use Rattle.sab_tool.specs.Replay.{IsReplayOf};
 ghost use Rattle.sab_report.specs.Driver.{AreMovesOf};
-ghost use Rattle.sab_report.specs.Telling.{TellsMoves, IsTellingFault};
+ghost use Rattle.sab_report.specs.RunReport.{ReportsMoves, IsReportingFault};
 
 use crate::explaining::{draw, explain, explain_as_json};
 use sab_sim::{Move, Plan, Report};
-use sab_text::{Format, Lines, Telling, write_plain};
+use sab_text::{Format, Lines, ReportForm, write_plain};
 use sab_tool::{ToolFault, replay_moves};
 use sab_words::Name;
 use std::alloc::Global;
 use std::io::Write;
 
 /// Makes the moves of a schedule, and writes their report; it doesn't flush.
-#[tactic(auto, using(crate::proofs::Formats::told_plainly, crate::proofs::Formats::told_explained, crate::proofs::Formats::told_as_json, crate::proofs::Formats::told_as_picture))]
-pub(crate) fn tell_moves<W: Write>(
+#[tactic(auto, using(crate::proofs::Formats::reported_plainly, crate::proofs::Formats::reported_explained, crate::proofs::Formats::reported_as_json, crate::proofs::Formats::reported_as_picture))]
+pub(crate) fn report_moves<W: Write>(
     alloc: Global,
     plan: Plan,
     names: &[Name],
     schedule: &[Move],
-    telling: Telling,
+    report_form: ReportForm,
     w: &mut W,
 ) -> Result<Report, ToolFault>
     requires plan { IsPlan plan }
     requires numbers { HasSafeNumbers plan }
     requires names { AreNames names.now }
     requires moves { AreMovesOf plan schedule.now }
-    ensures ok { IfOk result (TellsMoves telling names.now plan schedule.now (W.contents w.old) (W.contents w.new)) }
-    ensures err { IfErr result (IsTellingFault (W.contents w.old) (W.contents w.new)) }
+    ensures ok { IfOk result (ReportsMoves report_form names.now plan schedule.now (W.contents w.old) (W.contents w.new)) }
+    ensures err { IfErr result (IsReportingFault (W.contents w.old) (W.contents w.new)) }
 {
-    let lines = telling.lines;
-    match telling.format {
-        Format::Plain => tell_plainly(alloc, plan, schedule, lines, w),
+    let lines = report_form.lines;
+    match report_form.format {
+        Format::Plain => report_plainly(alloc, plan, schedule, lines, w),
         Format::Explained => explain(alloc, plan, names, schedule, lines, w),
         Format::Json => explain_as_json(alloc, plan, names, schedule, lines, w),
         Format::Svg => draw(alloc, plan, names, schedule, w),
@@ -46,7 +46,7 @@ pub(crate) fn tell_moves<W: Write>(
 
 /// Makes them, and writes the plain text of their report.
 #[tactic(auto, using(sab_tool::proofs::ReplaySteps::keeps_same))]
-fn tell_plainly<W: Write>(
+fn report_plainly<W: Write>(
     alloc: Global,
     plan: Plan,
     schedule: &[Move],
@@ -56,7 +56,7 @@ fn tell_plainly<W: Write>(
     requires moves { AreMovesOf plan schedule.now }
     ensures replay { IfOk result (IsReplayOf plan schedule.now) }
     ensures written { IfOk result (λ report. Appends (W.contents w.old) (W.contents w.new) (text_by lines report)) }
-    ensures err { IfErr result (IsTellingFault (W.contents w.old) (W.contents w.new)) }
+    ensures err { IfErr result (IsReportingFault (W.contents w.old) (W.contents w.new)) }
 {
     let report = replay_moves(alloc, plan, schedule)?;
     match write_plain(&report, lines, w) {

@@ -27,6 +27,6 @@ abbrev pub schedule_of : List Entry → List Move
 schedule_of journal = map move_of journal
 
 -- the law: a report that fits a plan has the schedule that its journal records
-abbrev pub JournalTells : Type 0
-JournalTells =
+abbrev pub JournalRecordsSchedule : Type 0
+JournalRecordsSchedule =
     (plan : PlanParts) (report : ReportParts) → Fits plan report → report.schedule ≡ schedule_of report.journal
