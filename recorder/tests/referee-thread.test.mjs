@@ -43,6 +43,17 @@ const ofProgram = () => ProgramGroup.open(/** @type {any} */ ({
   ...defaultsOf("record"), ...FIXED, isProgram: true, module: exampleUrl("count-together"),
 }));
 
+test("a group that begins before the referee of an earlier one has finished has another thread", async (context) => {
+  const group = await ofAgents();
+  const { thread } = group.referee;
+  /** @type {Promise<unknown>[]} */
+  const ways = [];
+  await group.run([{ seed: 1, whole: false }], () => void ways.push(group.close(), ofAgents()));
+  const [, next] = await Promise.all(ways);
+  context.after(() => next.close());
+  assert.notEqual(next.referee.thread, thread);
+});
+
 test("groups that come one after the other have one referee's thread, and nothing of an earlier group", async () => {
   const first = await madeBy(ofAgents());
   assert.ok(first.outcomes.some(({ fails }) => fails) && first.outcomes.some(({ fails }) => !fails));
