@@ -108,11 +108,11 @@ test("only a few threads are kept, and those that nobody needs are ended", async
   for (const thread of threads) keepThread(root, /** @type {any} */ (thread));
   assert.deepEqual(done, [...names.map((name) => `lets go ${name}`), "stops first"]);
   assert.equal(keptThread(new URL("file:///other.mjs")), undefined);
-  assert.equal(keptThread(root), threads[1]);
-  Object.assign(threads[2], { ended: "by itself" });
-  assert.equal(keptThread(root), threads[3]);
-  assert.deepEqual(done.splice(0).slice(-2), ["holds second", "holds fourth"]);
+  assert.equal(keptThread(root), threads[4]);
+  Object.assign(threads[3], { ended: "by itself" });
+  assert.equal(keptThread(root), threads[2]);
+  assert.deepEqual(done.splice(0).slice(-2), ["holds fifth", "holds third"]);
   await sleep(2_100);
-  assert.deepEqual(done.sort(), ["stops fifth", "stops third"]);
+  assert.deepEqual(done.sort(), ["stops fourth", "stops second"]);
   assert.equal(keptThread(root), undefined);
 });

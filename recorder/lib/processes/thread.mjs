@@ -230,10 +230,10 @@ export function keepThread(root, thread) {
 
 /**
  * @param {URL} root
- * @returns {Thread | undefined} a worker that was given this module, and awaits more work
+ * @returns {Thread | undefined} the last one kept of those that were given this module
  */
 export function keptThread(root) {
-  const at = kept.findIndex((one) => one.root.href === root.href && one.thread.ended === undefined);
+  const at = kept.findLastIndex((one) => one.root.href === root.href && one.thread.ended === undefined);
   if (at < 0) return undefined;
   const [{ thread }] = kept.splice(at, 1);
   thread.hold();

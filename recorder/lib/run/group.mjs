@@ -2,7 +2,6 @@
 
 import { setImmediate as turn } from "node:timers/promises";
 import { SCRIPT_LIMITS } from "../../script/limits.mjs";
-import { foundBy, leftOpen } from "../agent/answer.mjs";
 import { isAgentsFile } from "../agent/frames.mjs";
 import { Board } from "../board/board.mjs";
 import { memoryOf } from "../board/group-memory.mjs";
@@ -13,6 +12,7 @@ import { defaultsOf } from "../options/table.mjs";
 import { FIRST_AGENTS } from "../processes/first-workers.cjs";
 import { framesOf } from "../processes/place-of-thread.mjs";
 import { begunThread } from "../processes/thread.mjs";
+import { problemIn } from "./given-calls.mjs";
 import { loadProblem } from "./load-problem.mjs";
 import { RefereeThread } from "./referee-thread.mjs";
 import { TextMaker } from "./taken.mjs";
@@ -333,18 +333,9 @@ export class Group {
    * @returns {string} what went wrong in it, as "threw ..", or nothing
    */
   #askedHere(name) {
-    const { init, check, args } = this.options;
-    const { buffers } = started(this.memory);
-    try {
-      const call = name === "init" ? init : check;
-      const answer = call?.([...buffers], { agents: started(this.plan).agents, args: [...args] });
-      // That it is a promise is reported; what comes of it is nobody's.
-      Promise.resolve(answer).catch(() => {});
-      return leftOpen(answer, "it") ?? foundBy(answer) ?? "";
-    } catch (thrown) {
-      if (thrown instanceof Error) return `threw ${thrown.stack ?? thrown}`;
-      return `threw a value that is no Error: ${String(thrown)}`;
-    }
+    const { args } = this.options;
+    const { agents } = started(this.plan);
+    return problemIn(this.options[name], started(this.memory).buffers, { agents, args: [...args] });
   }
 
   /** @param {number} agent whose worker is ended, and started anew */
