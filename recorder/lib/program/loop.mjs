@@ -1,6 +1,6 @@
 // The event loop of a program's thread. Ticks and microtasks run while the thread keeps its turn. Then one task is taken
 // up: a message, a timer, an immediate, or an own one of the thread; the seed draws which. The thread's real loop turns
-// only while modules are being read.
+// only while modules are read, and before the thread ends.
 
 import process from "node:process";
 import timers from "node:timers";
@@ -8,6 +8,7 @@ import { WORD } from "../memory/layout.mjs";
 import { Random } from "../memory/random.mjs";
 import { READING } from "./reading.mjs";
 import { isForeign, pendingOf } from "./real-work.mjs";
+import { keeperText, taskText } from "./timer-texts.mjs";
 
 const { setImmediate: turnLater, clearImmediate: turnNever } = timers;
 /** @type {any} node's, with more than is written down of it */
@@ -27,7 +28,7 @@ const SOON_MILLISECONDS = 1_000;
 const HASTY = 0.5;
 
 /** What comes of a step: the thread goes on; its part is over; node reads something; or the thread looks for answers. */
-const STEP = Object.freeze({ GOES_ON: 0, IS_OVER: 1, READS: 2, LOOKS: 3 });
+const STEP = Object.freeze({ GOES_ON: 0, IS_OVER: 1, AWAITS_NODE: 2, LOOKS: 3 });
 
 /** What is under way if an answer is held back. */
 const HELD = Object.freeze({ isSome: true, byThemselves: false, texts: ["an answer"] });
@@ -73,6 +74,10 @@ export class Loop {
   /** Whether the thread looks for real answers before it takes up a task: it hasn't done so in vain since it rested. */
   #mayLook = true;
 
+  // A thread doesn't end before: node may have to do what nobody here knows of, as when a session of http2 begins.
+  /** Whether the real loop has turned since the thread did something. */
+  #hasAwaited = false;
+
   /** Whether an answer is held back that has come. */
   #holds = false;
 
@@ -109,6 +114,7 @@ export class Loop {
     this.#isTurning = this.served.hasPhases;
     this.#looks = false;
     this.#mayLook = true;
+    this.#hasAwaited = false;
     this.#before = new Map();
     this.#isHalted = false;
   }
@@ -140,17 +146,22 @@ export class Loop {
   };
 
   #turn = () => {
-    const { looking } = this.served;
     let step;
     do step = this.#step(false); while (step === STEP.GOES_ON);
     if (step === STEP.IS_OVER) return this.served.goHome();
     if (step === STEP.LOOKS) return this.#look();
+    this.#awaitNode();
+  };
+
+  /** Goes on when the real loop has turned. A real answer that comes meanwhile is a move. */
+  #awaitNode() {
+    const { looking } = this.served;
     looking.watch(this.#answers);
     this.#next = turnLater(() => {
       looking.close();
       this.#turn();
     });
-  };
+  }
 
   /**
    * One step of the event loop.
@@ -162,13 +173,13 @@ export class Loop {
     this.drain();
     if (ends.isDone()) return STEP.IS_OVER;
     const active = resources();
-    if (isReading(active)) return STEP.READS;
+    if (isReading(active)) return STEP.AWAITS_NODE;
     const pending = holds ? HELD : this.#pending(active);
     if (this.#hasTask()) {
       if (!moves.offer(pending, this.#mayLook)) return STEP.IS_OVER;
     } else {
       const kept = this.#keepers().concat(moves.silentTexts(pending));
-      if (kept.length === 0) return this.#endsNow() ? STEP.IS_OVER : STEP.GOES_ON;
+      if (kept.length === 0) return this.#endsNow();
       keepers.write(kept.join("; "));
       this.#mayLook = true;
       if (!moves.idle(this.#untilTimer(), pending)) return STEP.IS_OVER;
@@ -233,15 +244,19 @@ export class Loop {
     return !resources().some((each) => READING.has(each) || isForeign(each));
   }
 
-  /** Nothing keeps the thread alive. @returns {boolean} whether it has ended */
+  /** Nothing keeps the thread alive. @returns {number} one of `STEP` */
   #endsNow() {
     const { ends } = this.served;
+    if (!this.#hasAwaited) {
+      this.#hasAwaited = true;
+      return STEP.AWAITS_NODE;
+    }
     ends.beforeExit();
     this.drain();
-    if (ends.isOver) return true;
-    if (this.#hasOwnTask() || this.#keepers().length > 0 || this.#pending(resources()).isSome) return false;
+    if (ends.isOver) return STEP.IS_OVER;
+    if (this.#hasOwnTask() || this.#keepers().length > 0 || this.#pending(resources()).isSome) return STEP.GOES_ON;
     ends.leave();
-    return true;
+    return STEP.IS_OVER;
   }
 
   /** @param {string[]} active resources of node's @returns {import("./real-work.mjs").Pending} */
@@ -291,6 +306,7 @@ export class Loop {
   #act() {
     const acts = this.#choices();
     if (acts.length === 0) return;
+    this.#hasAwaited = false;
     const at = acts.length === 1 ? 0 : this.random.below(acts.length);
     try {
       acts[at]();
@@ -382,14 +398,3 @@ export class Loop {
 
 /** @param {string[]} active resources of node's @returns {boolean} */
 const isReading = (active) => active.some((each) => READING.has(each));
-
-/** @param {import("./timers.mjs").Described} timer @returns {string} */
-function taskText({ kind, milliseconds, repeats }) {
-  return kind === "immediate" ? "an immediate" : `${repeats ? "an interval" : "a timer"} of ${milliseconds} ms`;
-}
-
-/** @param {import("./timers.mjs").Described} timer @returns {string} */
-function keeperText(timer) {
-  return timer.where === undefined ? taskText(timer) : `${taskText(timer)} from ${timer.where}`;
-}
-
