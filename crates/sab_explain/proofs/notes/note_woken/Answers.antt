@@ -6,7 +6,7 @@ use Rattle.sab_explain.proofs.Noting.{IsNoted-none, IsNoted-more}
 use Rattle.sab_explain.proofs.notes.note_woken.Goals as goal
 
 pub loop-a-init : goal.loop-a-init
-loop-a-init c = record { size = c.reported-wakers; noted = IsNoted-none c.args.entry c.args.wakers.now }
+loop-a-init c = record { size = c.told-wakers; noted = IsNoted-none c.args.entry c.args.wakers.now }
 
 pub loop-a-preserved : goal.loop-a-preserved
 loop-a-preserved c =
