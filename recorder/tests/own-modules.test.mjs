@@ -75,18 +75,18 @@ test("a module is evaluated once, behind those that it imports, in strict mode, 
   assert.deepEqual([told, self, itsUrl], [["function", "function", 1, 2, 1, "function"], undefined, url.href]);
 });
 
-test("a thread takes what the engine has made of modules in another one", () => {
+test("a thread takes what the engine has made of modules in another one", async () => {
   const compiled = scriptOf({ url: "a:", code: "return { a: 2 };" }).createCachedData();
   // The engine knows the code of what it has made by its length alone.
   assert.deepEqual(evaluated([{ url: "a:", code: "return { a: 1 };", compiled }]), { a: 2 });
   const root = new URL("../lib/program/worker.mjs", import.meta.url);
   const all = compiledModules(root);
   assert.deepEqual(all.map(({ url, code }) => ({ url, code })), ownModules(root));
-  assert.deepEqual(refusedCode(all), []);
-  assert.deepEqual(refusedCode([{ ...all[0], compiled: all[1].compiled }]), [all[0].url]);
+  assert.deepEqual(await refusedCode(all), []);
+  assert.deepEqual(await refusedCode([{ ...all[0], compiled: all[1].compiled }]), [all[0].url]);
 });
 
-test("modules are compiled with all functions in them, and other processes take them", (context) => {
+test("modules are compiled with all functions in them, and so that other threads take them", async (context) => {
   const text = (count) => `export const list = [${"() => { for (;;) break; }, ".repeat(count)}];\n`;
   /** @param {(url: URL) => { compiled: Uint8Array }[]} compile @param {number} count of functions */
   const sizeOf = (compile, count) => compile(written(context, text(count)))[0].compiled.length;
@@ -94,7 +94,7 @@ test("modules are compiled with all functions in them, and other processes take 
   const few = sizeOf(compiledModules, most) - sizeOf(compiledModules, 0);
   const all = sizeOf(wholeModules, most) - sizeOf(wholeModules, 0);
   assert.ok(all > 2 * few, `${most} functions take ${all} bytes, and ${few} if they aren't compiled`);
-  assert.deepEqual(refusedCode(wholeModules(ROOTS[0])), []);
+  assert.deepEqual(await refusedCode(wholeModules(ROOTS[0])), []);
 });
 
 test("a module that another process has compiled isn't read, nor compiled", () => {
@@ -183,12 +183,7 @@ test("a run of agents loads nothing that is for whole programs, replays or kept 
   assert.deepEqual(needed.filter((path) => !read.includes(path)), []);
   assert.deepEqual(read.filter((path) => SELDOM.test(path)), []);
   assert.ok(isBefore(read, "agent/worker.mjs", "seeds/job.mjs"), "the workers don't await the job's modules");
-});
-
-test("one process of a command reads and compiles what the workers of all its jobs evaluate", (context) => {
-  const read = readBy(context, [agentsPath("naive-mutex"), "--seeds", "1..20", "--jobs", "2"]);
-  assert.equal(read.filter((path) => path === "seeds/job.mjs").length, 2);
-  assert.equal(read.filter((path) => path === "agent/player.mjs").length, 1);
+  assert.deepEqual(read.filter((path) => path === "agent/player.mjs").length, 1, "one process alone reads it");
 });
 
 test("what is for whole programs is loaded for them, and what is for kept runs when one is kept", (context) => {

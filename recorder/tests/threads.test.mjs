@@ -98,7 +98,7 @@ test("a thread that loops is ended, and nothing is told of it", async (context) 
   assert.equal(told, false);
 });
 
-test("each module that a worker is given is compiled already", (context) => {
+test("each module that a worker is given is compiled already", async (context) => {
   const lib = new URL("../lib/", import.meta.url);
   const [board, player] = ["board/board.mjs", "agent/player.mjs"].map((path) => new URL(path, lib));
   const thread = begunThread(player);
@@ -109,7 +109,7 @@ test("each module that a worker is given is compiled already", (context) => {
   thread.give(player);
   const [{ ahead }, { modules }] = posted;
   assert.ok(ahead.length > 10 && modules.length > 10);
-  assert.deepEqual(refusedCode([...ahead, ...modules]), []);
+  assert.deepEqual(await refusedCode([...ahead, ...modules]), []);
 });
 
 test("a worker begins without the options of the engine and of the process, which no worker takes", async (context) => {

@@ -1,22 +1,22 @@
-// Whether another process takes what the engine has made here of the recorder's modules.
+// Whether another thread takes what the engine has made here of the recorder's modules.
 
-import { spawnSync } from "node:child_process";
+import { once } from "node:events";
 import { fileURLToPath } from "node:url";
-import { deserialize, serialize } from "node:v8";
+import { Worker } from "node:worker_threads";
 
 const OWN_MODULES = fileURLToPath(new URL("../../lib/processes/own-modules.cjs", import.meta.url));
 const ASKING = `
-  const { readFileSync, writeFileSync } = require("node:fs");
-  const { deserialize, serialize } = require("node:v8");
-  const { scriptOf } = require(${JSON.stringify(OWN_MODULES)});
-  const refused = deserialize(readFileSync(0)).filter((each) => scriptOf(each).cachedDataRejected !== false);
-  writeFileSync(1, serialize(refused.map(({ url }) => url)));
+  const { parentPort, workerData: { path, list } } = require("node:worker_threads");
+  const { scriptOf } = require(path);
+  parentPort.postMessage(list.filter((each) => scriptOf(each).cachedDataRejected !== false).map(({ url }) => url));
 `;
 
 /**
  * @param {import("../../lib/processes/own-modules.cjs").OwnModule[]} list compiled modules
- * @returns {string[]} the URLs of those that the engine compiles anew in another process
+ * @returns {Promise<string[]>} the URLs of those that the engine compiles anew in another thread
  */
-export function refusedCode(list) {
-  return deserialize(spawnSync(process.execPath, ["--eval", ASKING], { input: serialize(list) }).stdout);
+export async function refusedCode(list) {
+  const worker = new Worker(ASKING, { eval: true, workerData: { path: OWN_MODULES, list } });
+  const [refused] = await once(worker, "message");
+  return refused;
 }
