@@ -6,9 +6,9 @@ import { join } from "node:path";
 import { test } from "node:test";
 import { setTimeout as sleep } from "node:timers/promises";
 import { pathToFileURL } from "node:url";
+import { compileFunction } from "node:vm";
 import { Thread, beginThreads, begunThread } from "../lib/processes/thread.mjs";
 import { temporaryFolder } from "./helpers/common.mjs";
-import { refusedCode } from "./helpers/refused-code.mjs";
 
 /**
  * A thread that runs some code, in which `port` is where its messages go.
@@ -109,7 +109,11 @@ test("each module that a worker is given is compiled already", async (context) =
   thread.give(player);
   const [{ ahead }, { modules }] = posted;
   assert.ok(ahead.length > 10 && modules.length > 10);
-  assert.deepEqual(await refusedCode([...ahead, ...modules]), []);
+  for (const { url, code, compiled } of [...ahead, ...modules]) {
+    const options = { filename: url, cachedData: Buffer.from(compiled) };
+    const made = compileFunction(code, ["modules", "require", "loaded"], options);
+    assert.equal(made.cachedDataRejected, false, url);
+  }
 });
 
 test("a worker begins without the options of the engine and of the process, which no worker takes", async (context) => {

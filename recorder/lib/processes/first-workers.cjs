@@ -2,8 +2,8 @@
 // module, since such a one is loaded sooner.
 "use strict";
 
-/** Of a module of agents: one for each of three. After the pilots each has another one, which begins later. */
-const FIRST_AGENTS = 3;
+/** Of a module of agents: two for each of two agents, since others of theirs load after the pilots. */
+const FIRST_AGENTS = 4;
 
 /** Of a program: its own thread, and two workers. */
 const FIRST_THREADS = 3;
