@@ -5,12 +5,11 @@
 import { createRequire } from "node:module";
 
 const require = createRequire(import.meta.url);
-const { startFirstJob } = require("./lib/seeds/start-job.cjs");
+const { startJob } = require("./lib/seeds/start-job.cjs");
 const words = process.argv.slice(2);
 /** @param {RegExp} pattern @returns {boolean} */
 const hasWord = (pattern) => words.some((word) => pattern.test(word));
-const startsJob = !hasWord(/^(-[hV]$|--(help|version|replay))/);
-const child = startsJob ? startFirstJob(hasWord(/^--program(=|$)/)) : undefined;
+const child = hasWord(/^(-[hV]$|--(help|version|replay))/) ? undefined : startJob(hasWord(/^--program(=|$)/));
 const { evaluated, ownModules } = require("./lib/processes/own-modules.cjs");
 const { main } = evaluated(ownModules(new URL("./lib/command/main.mjs", import.meta.url)));
 const status = await main(words, child);

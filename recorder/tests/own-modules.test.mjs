@@ -6,11 +6,9 @@ import { readFileSync, writeFileSync } from "node:fs";
 import { join } from "node:path";
 import { test } from "node:test";
 import { fileURLToPath, pathToFileURL } from "node:url";
-import {
-  compiledModules, evaluated, ownModules, scriptOf, takeModules, wholeModules,
-} from "../lib/processes/own-modules.cjs";
+import { compileFunction } from "node:vm";
+import { compiledModules, evaluated, ownModules } from "../lib/processes/own-modules.cjs";
 import { RECORD, agentsPath, temporaryFolder } from "./helpers/common.mjs";
-import { refusedCode } from "./helpers/refused-code.mjs";
 
 const ROOTS = ["agent/worker.mjs", "run/referee.mjs"].map((path) => new URL(`../lib/${path}`, import.meta.url));
 // The first one begins to work where it is evaluated.
@@ -76,38 +74,17 @@ test("a module is evaluated once, behind those that it imports, in strict mode, 
 });
 
 test("a thread takes what the engine has made of modules in another one", () => {
-  const compiled = scriptOf({ url: "a:", code: "return { a: 2 };" }).createCachedData();
+  const parameters = ["modules", "require", "loaded"];
+  const { cachedData } = compileFunction("return { a: 2 };", parameters, { filename: "a:", produceCachedData: true });
   // The engine knows the code of what it has made by its length alone.
-  assert.deepEqual(evaluated([{ url: "a:", code: "return { a: 1 };", compiled }]), { a: 2 });
+  assert.deepEqual(evaluated([{ url: "a:", code: "return { a: 1 };", compiled: cachedData }]), { a: 2 });
   const root = new URL("../lib/program/worker.mjs", import.meta.url);
   const all = compiledModules(root);
   assert.deepEqual(all.map(({ url, code }) => ({ url, code })), ownModules(root));
-  assert.deepEqual(refusedCode(all), []);
-  assert.deepEqual(refusedCode([{ ...all[0], compiled: all[1].compiled }]), [all[0].url]);
-});
-
-test("modules are compiled with all functions in them, and other processes take them", (context) => {
-  const text = (count) => `export const list = [${"() => { for (;;) break; }, ".repeat(count)}];\n`;
-  /** @param {(url: URL) => { compiled: Uint8Array }[]} compile @param {number} count of functions */
-  const sizeOf = (compile, count) => compile(written(context, text(count)))[0].compiled.length;
-  const most = 200;
-  const few = sizeOf(compiledModules, most) - sizeOf(compiledModules, 0);
-  const all = sizeOf(wholeModules, most) - sizeOf(wholeModules, 0);
-  assert.ok(all > 2 * few, `${most} functions take ${all} bytes, and ${few} if they aren't compiled`);
-  assert.deepEqual(refusedCode(wholeModules(ROOTS[0])), []);
-});
-
-test("a module that another process has compiled isn't read, nor compiled", () => {
-  const [one, two] = ["one", "two"].map((name) => new URL(`file:///no-such-folder/${name}.mjs`));
-  const url = two.href;
-  const compiled = scriptOf({ url, code: "return { a: 2 };" }).createCachedData();
-  takeModules([
-    { url: one.href, code: "return { b: 3 };", imported: [] },
-    { url, code: "return { a: 1 };", imported: [one.href], compiled },
-  ]);
-  assert.deepEqual(ownModules(two), [{ url: one.href, code: "return { b: 3 };" }, { url, code: "return { a: 1 };" }]);
-  assert.equal(compiledModules(two)[1].compiled, compiled);
-  assert.deepEqual(evaluated(ownModules(two)), { a: 2 });
+  for (const { url, code, compiled } of all) {
+    const made = compileFunction(code, parameters, { filename: url, cachedData: Buffer.from(compiled) });
+    assert.equal(made.cachedDataRejected, false, url);
+  }
 });
 
 test("a module of CommonJS is required as it is, once", (context) => {
@@ -183,12 +160,6 @@ test("a run of agents loads nothing that is for whole programs, replays or kept 
   assert.deepEqual(needed.filter((path) => !read.includes(path)), []);
   assert.deepEqual(read.filter((path) => SELDOM.test(path)), []);
   assert.ok(isBefore(read, "agent/worker.mjs", "seeds/job.mjs"), "the workers don't await the job's modules");
-});
-
-test("one process of a command reads and compiles what the workers of all its jobs evaluate", (context) => {
-  const read = readBy(context, [agentsPath("naive-mutex"), "--seeds", "1..20", "--jobs", "2"]);
-  assert.equal(read.filter((path) => path === "seeds/job.mjs").length, 2);
-  assert.equal(read.filter((path) => path === "agent/player.mjs").length, 1);
 });
 
 test("modules for whole programs are loaded only for these, and those for kept runs when one is kept", (context) => {

@@ -6,9 +6,9 @@ import { join } from "node:path";
 import { test } from "node:test";
 import { setTimeout as sleep } from "node:timers/promises";
 import { pathToFileURL } from "node:url";
+import { compileFunction } from "node:vm";
 import { Thread, beginThreads, begunThread } from "../lib/processes/thread.mjs";
 import { temporaryFolder } from "./helpers/common.mjs";
-import { refusedCode } from "./helpers/refused-code.mjs";
 
 /**
  * A thread that runs some code, in which `port` is where its messages go.
@@ -98,7 +98,7 @@ test("a thread that loops can be stopped, and its end isn't reported", async (co
   assert.equal(isReported, false);
 });
 
-test("each module is compiled before a worker gets it", (context) => {
+test("each module is compiled before a worker gets it", async (context) => {
   const lib = new URL("../lib/", import.meta.url);
   const [board, player] = ["board/board.mjs", "agent/player.mjs"].map((path) => new URL(path, lib));
   const thread = begunThread(player);
@@ -109,7 +109,11 @@ test("each module is compiled before a worker gets it", (context) => {
   thread.give(player);
   const [{ ahead }, { modules }] = posted;
   assert.ok(ahead.length > 10 && modules.length > 10);
-  assert.deepEqual(refusedCode([...ahead, ...modules]), []);
+  for (const { url, code, compiled } of [...ahead, ...modules]) {
+    const options = { filename: url, cachedData: Buffer.from(compiled) };
+    const made = compileFunction(code, ["modules", "require", "loaded"], options);
+    assert.equal(made.cachedDataRejected, false, url);
+  }
 });
 
 test("a worker begins without the options of the engine and of the process, which no worker takes", async (context) => {

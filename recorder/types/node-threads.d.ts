@@ -17,14 +17,11 @@ declare module "node:vm" {
   interface CompileOptions {
     filename: string;
     lineOffset?: number;
-    cachedData?: Buffer;
   }
   export function compileFunction(code: string, names: string[], options: CompileOptions): Function;
   export class Script {
-    constructor(code: string, options?: CompileOptions);
-    createCachedData(): Buffer;
+    constructor(code: string);
     runInContext(context: object): any;
-    runInThisContext(): any;
   }
   export function createContext(...given: unknown[]): object;
   export function isContext(given: object): boolean;

@@ -1,6 +1,5 @@
 // A group of workers: one for each agent, and one for their referee. All end with the process, however it ends.
 
-import { setImmediate as turn } from "node:timers/promises";
 import { SCRIPT_LIMITS } from "../../script/limits.mjs";
 import { isAgentsFile } from "../agent/frames.mjs";
 import { Board } from "../board/board.mjs";
@@ -237,26 +236,20 @@ export class Group {
     needsRightNames(loaded.names);
     this.plan = planOf(this.options, loaded.setup);
     const { strategy, everywhere, timeouts, maxMoves } = this.options;
-    const { agents } = this.plan;
+    this.rules = { agents: this.plan.agents, ways: waysOf(strategy, everywhere), timeouts, maxMoves };
     const options = this.refereeOptions(loaded);
-    if (options.init !== undefined && agents === SCRIPT_LIMITS.agents) {
+    if (options.init !== undefined && this.plan.agents === SCRIPT_LIMITS.agents) {
       throw new Refused(`with ${SCRIPT_LIMITS.agents} agents none is left for the stores of \`init\`: give one less`);
     }
-    const others = Array.from({ length: agents - 1 }, (_, other) => other + 1);
-    const loading = Promise.all(others.map((agent) => this.#load(agent)));
-    // If one can't load it, that is reported below.
-    loading.catch(() => {});
-    // Those that have begun load it while others begin.
-    await turn();
-    const hasPilots = learns(agents, everywhere);
-    this.#beginUpTo(hasPilots ? agents : 0);
-    this.rules = { agents, ways: waysOf(strategy, everywhere), timeouts, maxMoves };
     this.memory = memoryOf(this.plan, this.options.logEvents);
     this.board = new Board(this.memory.board, this.rules);
     const { memory, plan, rules } = this;
     referee.give({ memory, plan, rules, options });
+    const others = Array.from({ length: this.plan.agents - 1 }, (_, other) => other + 1);
+    const hasPilots = learns(this.plan.agents, everywhere);
+    this.#beginUpTo(others.length + (hasPilots ? this.plan.agents : 0));
     if (!hasPilots) meanwhile();
-    await loading;
+    await Promise.all(others.map((agent) => this.#load(agent)));
     await Promise.all(this.agents.map((_, agent) => this.#hand(agent)));
     if (hasPilots) await this.#learn(meanwhile);
   }

@@ -2,8 +2,6 @@
 
 import { onceMore, stopGrowth } from "../processes/garbage.mjs";
 import { endGroup } from "../processes/group-end.mjs";
-import { takeModules } from "../processes/own-modules.cjs";
-import { giveAhead } from "../processes/thread.mjs";
 import { Job } from "./job.mjs";
 import { Outbox } from "./outbox.mjs";
 import { packed } from "./remote-job.mjs";
@@ -28,19 +26,9 @@ async function answerTo(request) {
   return request.shorten && job.shorten(request.shorten, (tried) => outbox.put({ tried }));
 }
 
-/** @param {import("../processes/own-modules.cjs").WholeModule[]} modules of its workers, their own one behind others */
-function giveWorkers(modules) {
-  takeModules(modules);
-  giveAhead(new URL(modules[modules.length - 1].url));
-}
-
 process.on("disconnect", () => endGroup(process.pid));
 if (!process.connected) endGroup(process.pid);
 process.on("message", async (request) => {
-  if (request.modules !== undefined) {
-    giveWorkers(request.modules);
-    return;
-  }
   try {
     outbox.put({ done: await answerTo(request) });
   } catch (error) {

@@ -14,7 +14,6 @@ import { KeepsGlobals } from "./first-again.mjs";
  * @property {Parameters<import("./job.mjs").Job["open"]>[0]} [open]
  * @property {import("../run/outcome.mjs").Wanted[]} [run]
  * @property {import("../run/same.mjs").RunSummary} [shorten]
- * @property {import("../processes/own-modules.cjs").WholeModule[]} [modules] of its workers: there is no answer
  */
 
 /**
