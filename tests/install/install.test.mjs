@@ -229,7 +229,7 @@ test("in an empty folder README's first command checks every run, and keeps expl
   const words = ["sabsim-record", example, "--seeds", "1..200", "--out", "found"];
   const { status, output, errors } = npx(folder, words);
   assert.deepEqual([status, errors], [1, ""]);
-  assert.match(summary, CHECKED);
+  assert.match(output, CHECKED);
   const kept = (ending) => readFileSync(join(folder, `found/seed-13.${ending}`), "utf8");
   for (const [ending, format] of [["report", "plain"], ["explained", "explained"], ["svg", "svg"]]) {
     const replay = npx(folder, ["sabsim", "replay", "--format", format, "found/seed-13.json"]);
@@ -347,7 +347,7 @@ test("with a program it replays what was recorded, and checks", withProgram, asy
     const chosen = recorded(folder, ["--sabsim", join(place, "sabsim")]);
     assert.match(chosen.output, /^every run .* by sabsim \(program\): it agrees with the recorder$/m);
     const { seed, output } = recorded(folder, ["--out", "found"]);
-    assert.match(summary, CHECKED);
+    assert.match(output, CHECKED);
     const kept = (ending) => join(folder, `found/seed-${seed}.${ending}`);
     const { status, output: report } = npx(folder, ["sabsim", "replay", kept("json")]);
     assert.equal(status, 0);

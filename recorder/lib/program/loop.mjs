@@ -27,8 +27,8 @@ const SOON_MILLISECONDS = 1_000;
 /** How likely it is that the time of the first timer comes, in runs in which short times are up early. */
 const HASTY = 0.5;
 
-/** What comes of a step: the thread goes on; its part is over; node reads something; or the thread looks for answers. */
-const STEP = Object.freeze({ GOES_ON: 0, IS_OVER: 1, AWAITS_NODE: 2, LOOKS: 3 });
+/** What comes of a step: the thread goes on; its part is over; node reads something; it looks; or the real loop turns. */
+const STEP = Object.freeze({ GOES_ON: 0, IS_OVER: 1, READS: 2, LOOKS: 3, TURNS: 4 });
 
 /** What is under way if an answer is held back. */
 const HELD = Object.freeze({ isSome: true, byThemselves: false, texts: ["an answer"] });
@@ -74,8 +74,7 @@ export class Loop {
   /** Whether the thread looks for real answers before it takes up a task: it hasn't done so in vain since it rested. */
   #mayLook = true;
 
-  // A thread doesn't end before: node may have to do what nobody here knows of, as when a session of http2 begins.
-  /** Whether the real loop has turned since the thread did something. */
+  /** Whether the real loop has turned since the thread did something: node may do more then, as http2 when it begins. */
   #hasAwaited = false;
 
   /** Whether an answer is held back that has come. */
@@ -150,11 +149,12 @@ export class Loop {
     do step = this.#step(false); while (step === STEP.GOES_ON);
     if (step === STEP.IS_OVER) return this.served.goHome();
     if (step === STEP.LOOKS) return this.#look();
-    this.#awaitNode();
+    if (step === STEP.READS) return this.#read();
+    this.#next = turnLater(this.#turn);
   };
 
   /** Goes on when the real loop has turned. A real answer that comes meanwhile is a move. */
-  #awaitNode() {
+  #read() {
     const { looking } = this.served;
     looking.watch(this.#answers);
     this.#next = turnLater(() => {
@@ -173,7 +173,7 @@ export class Loop {
     this.drain();
     if (ends.isDone()) return STEP.IS_OVER;
     const active = resources();
-    if (isReading(active)) return STEP.AWAITS_NODE;
+    if (isReading(active)) return STEP.READS;
     const pending = holds ? HELD : this.#pending(active);
     if (this.#hasTask()) {
       if (!moves.offer(pending, this.#mayLook)) return STEP.IS_OVER;
@@ -249,7 +249,7 @@ export class Loop {
     const { ends } = this.served;
     if (!this.#hasAwaited) {
       this.#hasAwaited = true;
-      return STEP.AWAITS_NODE;
+      return STEP.TURNS;
     }
     ends.beforeExit();
     this.drain();
