@@ -204,7 +204,7 @@ const MOST_KEPT = 4;
 
 /** @typedef {{ root: URL, thread: Thread }} Kept */
 
-/** @type {Kept[]} those that have done their work, and await more of it */
+/** @type {Kept[]} those that have done their work, and await more of it; the last one is the first here */
 const kept = [];
 
 /** @param {Kept} one that is ended, unless it was taken */
@@ -222,9 +222,9 @@ function endKept(one) {
  */
 export function keepThread(root, thread) {
   const one = { root, thread };
-  kept.push(one);
+  kept.unshift(one);
   thread.letGo();
-  if (kept.length > MOST_KEPT) endKept(kept[0]);
+  if (kept.length > MOST_KEPT) endKept(kept[MOST_KEPT]);
   setTimeout(endKept, KEPT_MILLISECONDS, one).unref();
 }
 
@@ -233,7 +233,7 @@ export function keepThread(root, thread) {
  * @returns {Thread | undefined} the last one kept of those that were given this module
  */
 export function keptThread(root) {
-  const at = kept.findLastIndex((one) => one.root.href === root.href && one.thread.ended === undefined);
+  const at = kept.findIndex((one) => one.root.href === root.href && one.thread.ended === undefined);
   if (at < 0) return undefined;
   const [{ thread }] = kept.splice(at, 1);
   thread.hold();
