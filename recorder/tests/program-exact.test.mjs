@@ -110,7 +110,7 @@ describe("a run that strays from its row", () => {
     const { outcome: { row = [] } } = await made({});
     const { aside: { stray } } = await made({ row: [...row, LOOK, 0], isExact: true });
     assert.equal(rowStrayedText(/** @type {any} */ (stray)),
-      `a real answer came to agent 0 with draw ${row.length} of the kept run, and now none comes`);
+      `agent 0 got a real answer with draw ${row.length} of the kept run, and now it gets none`);
   });
 
   it("isn't the same run, though all of its own moves are in the row", async (context) => {

@@ -6,9 +6,9 @@
 // and behind the row's end the agent that moved last goes on as long as it can, then the next one in number. If all that
 // can only read the same again, the wait goes on whose time is up first.
 //
-// Of real answers a row has each one. They may come in other pieces when the run is made again: so it matters only behind
-// which answer an agent makes its next move. Before a run strays, agents look for answers, since what has closed is seen
-// only by those that look, and no row has it.
+// A row has each real answer. When the run is made again, they may come in other pieces. So it matters only after which
+// answer an agent makes its next move. Before a run strays, agents look for answers: only an agent that looks sees what
+// has closed, and no row has that.
 //
 // All of it lies in shared memory. Only the thread that has the turn changes it, as the words of the board.
 
@@ -73,8 +73,8 @@ const REASONS = Object.freeze(["call", "leaves", "waits", "ended", "goes on", "c
 /**
  * @typedef {object} Stray how a run that was forced exactly has strayed from its row
  * @property {StrayReason} reason the agent makes another call; or it leaves a wait where it is to make a call; or it is
- * to move, and waits or has come to its end; or the row has come to its end, and the agent goes on; or a real answer
- * comes to it that the row hasn't got there
+ * to move, and waits or has ended; or the row has ended, and the agent goes on; or the agent gets a real answer, and the
+ * row has none there
  * @property {number} agent
  * @property {number} draw how many draws had been made by the row
  * @property {number} [wanted] what the row has as the next draw, if it has one
@@ -207,7 +207,7 @@ export class Row {
     return this.state[HOW] === EXACT;
   }
 
-  /** @param {number} agent @returns {boolean} whether a real answer to it comes now by the row; if there is none, it may */
+  /** @param {number} agent @returns {boolean} whether the row lets it get a real answer now; without a row it may */
   isDue(agent) {
     return this.state[HOW] !== EXACT || this.due !== DUE.NOT || this.#hasNext(agent + LOOK);
   }
@@ -218,7 +218,7 @@ export class Row {
   }
 
   /**
-   * A real answer comes to an agent; the row goes on if it has one there.
+   * An agent gets a real answer. If the row has one there, the row goes on.
    * @param {number} agent
    * @returns {boolean} false: the run strays by it
    */
@@ -379,8 +379,8 @@ export class Row {
  * @param {string} call that the agent makes, where that is why
  */
 export function strayText({ reason, agent, wanted = NOBODY }, call) {
-  if (reason === "comes") return `a real answer comes to agent ${agent}, and by the row none does`;
-  if (reason === "waits" && isLook(wanted)) return `a real answer is to come to agent ${agent} by the row, and none does`;
+  if (reason === "comes") return `agent ${agent} gets a real answer, and the row has none there`;
+  if (reason === "waits" && isLook(wanted)) return `by the row agent ${agent} gets a real answer, and now it gets none`;
   if (reason === "call") return `agent ${agent} makes another call than by the row: ${call}`;
   if (reason === "goes on") return `the row has come to its end, and agent ${agent} goes on`;
   if (reason === "leaves") return `agent ${agent} is to make a call by the row, and goes on from a wait`;

@@ -17,19 +17,16 @@ const OWN = [Timeout, Immediate, MessagePort, Promise, AsyncResource];
  * @typedef {"came" | "nothing" | "less"} Found
  */
 
-/** @typedef {{ onCome: () => void }} Watch `onCome` is called with each answer before it is handed to the program */
-
 /**
- * @typedef {object} LookOnly
+ * @typedef {object} Look
  * @property {number} milliseconds how long it takes at most
  * @property {() => string} waitsFor what is waited for, in words
+ * @property {() => void} onCome is called for each answer, before the program gets it
  * @property {(found: Found) => void} then is called by the real loop, when all that has come at once was handed over
  */
 
-/** @typedef {Watch & LookOnly} Look */
-
 export class Looking {
-  /** @type {() => void} as in `Watch` */
+  /** @type {() => void} as in `Look` */
   #onCome = () => {};
 
   /** @type {(found: Found) => void} as in `Look` */
@@ -53,11 +50,11 @@ export class Looking {
     turnLater(() => {
       if (this.#guard === guard && waitsFor() !== before) this.#end("less");
     });
-    this.watch({ onCome });
+    this.watch(onCome);
   }
 
-  /** @param {Watch} watch answers may come until it is closed */
-  watch({ onCome }) {
+  /** @param {() => void} onCome as in `Look`; answers may come until this is closed */
+  watch(onCome) {
     this.#onCome = onCome;
     this.#hook.enable();
   }

@@ -156,7 +156,7 @@ export class Loop {
   /** Goes on when the real loop has turned. A real answer that comes meanwhile is a move. */
   #read() {
     const { looking } = this.served;
-    looking.watch(this.#answers);
+    looking.watch(this.#answered);
     this.#next = turnLater(() => {
       looking.close();
       this.#turn();
@@ -193,7 +193,7 @@ export class Loop {
   #look() {
     const { looking, moves } = this.served;
     looking.begin({
-      ...this.#answers,
+      onCome: this.#answered,
       milliseconds: moves.looksFor,
       waitsFor: () => this.#pending(resources()).texts.join(),
       then: (found) => {
@@ -205,13 +205,11 @@ export class Loop {
     });
   }
 
-  /** What becomes of each answer. */
-  #answers = {
-    onCome: () => {
-      const { moves } = this.served;
-      if (!moves.isDue()) this.#hold();
-      moves.answered();
-    },
+  /** An answer has come. */
+  #answered = () => {
+    const { moves } = this.served;
+    if (!moves.isDue()) this.#hold();
+    moves.answered();
   };
 
   /** What has come isn't due by the run's row: the thread goes on with what else it has to do until it is. */

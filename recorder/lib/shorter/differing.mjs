@@ -32,7 +32,7 @@ export function strayedText({ reason, agent, draw }, detail, { draws }) {
   if (reason === "call" && !goesOn) return `${was} was ${text} in the script, and is now ${other}${perhaps}`;
   const now = {
     call: `it makes the next one, ${other}`, leaves: "it goes on from a wait", waits: "it still waits",
-    ended: "it has come to its end", comes: "a real answer comes",
+    ended: "it has come to its end", comes: "it gets a real answer",
   }[reason];
   if (goesOn) return `agent ${agent} was still in its call ${call}, ${text}, in the script, and now ${now}`;
   return `${was} was ${text} in the script, and now the agent hasn't come so far: ${now}`;
@@ -98,19 +98,19 @@ const stepText = ({ agent, isOwn, call, text }) =>
  */
 export function rowStrayedText({ reason, agent, draw, wanted, able }) {
   if (reason === "goes on") return `agent ${agent} goes on where the kept run ends`;
-  if (wanted === undefined) return `a real answer comes to agent ${agent} where the kept run ends`;
+  if (wanted === undefined) return `agent ${agent} gets a real answer where the kept run ends`;
   return `${drawText(wanted, draw)}, and now ${nowText(reason, agent, wanted)}${ableText(able)}`;
 }
 
 /** @param {number} drawn @param {number} draw its position in the row of a kept run */
 const drawText = (drawn, draw) =>
-  `${isLook(drawn) ? "a real answer came to " : ""}agent ${moverOf(drawn)}${isLook(drawn) ? "" : " moved"} with draw ${draw} of the kept run`;
+  `agent ${moverOf(drawn)} ${isLook(drawn) ? "got a real answer" : "moved"} with draw ${draw} of the kept run`;
 
 /** @param {import("../board/row.mjs").StrayReason} reason @param {number} agent @param {number} wanted */
 function nowText(reason, agent, wanted) {
-  if (reason === "comes") return `one comes to agent ${agent} before`;
-  if (reason === "ended") return `${isLook(wanted) ? "that agent" : "it"} has come to its end, or hasn't begun`;
-  return isLook(wanted) ? "none comes" : "it has nothing to do, or waits";
+  if (reason === "comes") return `agent ${agent} gets one before`;
+  if (reason === "ended") return "it has come to its end, or hasn't begun";
+  return isLook(wanted) ? "it gets none" : "it has nothing to do, or waits";
 }
 
 /** @param {number[]} able who could move in place of what was wanted */
