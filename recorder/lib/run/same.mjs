@@ -13,13 +13,12 @@ import { isLook, moverOf } from "../board/row.mjs";
  * @param {RunSummary} other
  */
 export function areSame(one, other) {
-  const rows = one.real === undefined || one.row === undefined || other.row === undefined ? [] : [one.row, other.row];
-  // An answer on which no agent moves is counted as a move.
-  const isMoves = rows.length > 0 || one.moves === other.moves;
   /** @param {RunSummary} summary */
   const parts = ({ ending, calls, state }) => [ending, calls, state.hash].join(" ");
-  const [row = [], made = []] = rows;
-  return parts(one) === parts(other) && isMoves && firstOtherMove(row, made) === undefined;
+  if (parts(one) !== parts(other)) return false;
+  // An answer on which no agent moves is counted as a move, too.
+  if (one.real && one.row && other.row) return firstOtherMove(one.row, other.row) === undefined;
+  return one.moves === other.moves;
 }
 
 /**

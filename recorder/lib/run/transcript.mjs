@@ -69,7 +69,8 @@ class Writer {
     this.moves = [];
     /** @type {Move[]} each agent's move that isn't the end of a time */
     this.plainMoves = [];
-    // The engine makes other arrays of `map` once it has compiled this, and then all that takes them is compiled anew.
+    // Not by `map`: its arrays are of another kind once the engine has optimized this, and then the engine has to compile
+    // anew all code that takes them.
     for (let agent = 0; agent < canBlock.length; agent += 1) {
       this.calls.push([]);
       this.own.push(0);
