@@ -13,7 +13,7 @@ const MOST_REPEATS = 100;
 
 /** @typedef {import("./ordinary/context.mjs").Place} Place */
 
-/** What comes of an access: it is noted, it is repeated without an end, the log has no room for it. */
+/** What becomes of an access: it is noted, it is repeated without end, or the log has no room for it. */
 export const NOTED = Object.freeze({ YES: 0, SPINS: 1, FULL: 2 });
 
 export class Accesses {
@@ -99,8 +99,8 @@ export class Accesses {
   }
 
   /**
-   * Takes what the writes that were seen have changed in the blocks that no script can have as they are. Those that
-   * follow each other and go on from each other are taken together, as below.
+   * Takes what the writes that were seen have changed in the blocks that no script can have as they are. Those whose
+   * bytes follow each other are taken together, as below.
    */
   #takeMore() {
     const { log } = this.table;
@@ -129,8 +129,8 @@ export class Accesses {
   }
 
   /**
-   * Takes what the writes that were seen have changed in a block. Those that go on from each other are taken together,
-   * whether the log has joined them or not: a script doesn't depend on that.
+   * Takes what the writes that were seen have changed in a block. Those whose bytes follow each other are taken
+   * together, whether the log has joined them or not: a script doesn't depend on that.
    * @param {number} block
    */
   #takeSeen(block) {

@@ -1,13 +1,14 @@
-// What an agent, an `init` or a `check` answers: nothing that is still to be done.
+// What an agent, an `init` or a `check` returns mustn't be something that is still to be done.
 
 import { atText } from "./undone.mjs";
 
 const { Error: EngineError } = globalThis;
 
 /**
- * What a `check` finds that answers it and doesn't throw it, as one line of code does.
+ * What a `check` finds if it returns that and doesn't throw it, as a check of one line of code does.
  * @param {unknown} answer
- * @returns {string | undefined} in words that go on after who it was; undefined where it finds nothing
+ * @returns {string | undefined} in words that follow the name of the one that returned it; undefined if it finds
+ * nothing
  */
 export function foundBy(answer) {
   if (answer === false) return "returned false";
@@ -15,11 +16,11 @@ export function foundBy(answer) {
 }
 
 /**
- * What an answer leaves undone.
+ * What a returned value leaves undone.
  * @param {unknown} answer
- * @param {string} who has answered
+ * @param {string} who has returned it
  * @param {string} [place] in the code that goes on later, if it is known
- * @returns {string | undefined} in words that go on after who it was; undefined where nothing is left
+ * @returns {string | undefined} in words that follow the name of the one that returned it; undefined if nothing is left
  */
 export function leftOpen(answer, who, place) {
   if (answer === null || (typeof answer !== "object" && typeof answer !== "function")) return undefined;

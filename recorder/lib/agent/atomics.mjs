@@ -16,8 +16,8 @@ const { wait: WAIT, notify: NOTIFY } = CALL_NUMBERS;
 /**
  * @typedef {object} Own how the calls of one agent are made
  * @property {(buffer: unknown) => number} blockOf the position of a buffer among those that are recorded, or -1
- * @property {(call: Call, view: object, called: Function) => unknown} make blocks until it is the agent's turn; above
- * what was called stands the agent's own frame
+ * @property {(call: Call, view: object, called: Function) => unknown} make blocks until it is the agent's turn; the
+ * agent's own frame is above the function that was called
  * @property {(why: string) => never} refuse ends the run, for a call that no script can have
  */
 

@@ -1,4 +1,4 @@
-// Contexts of node:vm, where ordinary accesses aren't watched. Nobody would see what the `Atomics` of a context does,
+// Contexts of node:vm. Ordinary accesses aren't watched there. Nobody would see what the `Atomics` of a context does,
 // or what is done with shared memory that a context makes. So each context gets those of the agents.
 
 import vm from "node:vm";
@@ -47,7 +47,7 @@ export function shareWithContexts(theirs) {
   const made = (given, others) => {
     if (typeof given === "object" && given !== null && isContext(given)) return given;
     const global = apply(createContext, vm, [given, ...others]);
-    // A constant in place of an object stands for the context's own global object.
+    // A constant in place of an object means the context's own global object.
     installInContext(global, typeof given !== "symbol", theirs);
     return global;
   };

@@ -59,8 +59,8 @@ function operandName({ call, operands }) {
 }
 
 /**
- * An operand of an array of Numbers, by ToIntegerOrInfinity. That of a wait is taken by ToInt32, for which an infinite
- * one is 0.
+ * An operand of an array of Numbers, by ToIntegerOrInfinity. The operand of a wait is converted by ToInt32, which makes
+ * 0 of an infinite one.
  * @param {any} value
  * @param {Call} asked
  * @param {Refuse} refuse
@@ -73,7 +73,7 @@ function numberFrom(value, asked, refuse) {
 }
 
 /**
- * The next operand of a call, as the kind of its array has it. A BigInt that a script can have is taken as it is: with
+ * The next operand of a call, as the kind of its array has it. A BigInt that a script can have is taken as it is. With
  * an array of Numbers the call itself throws then, as it does for a Number with BigInts.
  * @param {any} value that is no safe integer
  * @param {Call} asked with its index, and with the operands before this one
@@ -89,7 +89,7 @@ export function operandFrom(value, asked, refuse) {
 }
 
 /**
- * The count of a notify, by ToIntegerOrInfinity. None is no bound, and so is Infinity.
+ * The count of a notify, by ToIntegerOrInfinity. None means that there is no bound, and so does Infinity.
  * @param {any} value
  * @param {Call} asked with its index
  * @param {Refuse} refuse
@@ -119,7 +119,7 @@ export function timeoutFrom(value, asked) {
 }
 
 /**
- * A timeout as a script has it. The number has no effect there, where time is a move: its fraction is cut off, and it
+ * A timeout as a script has it. The number has no effect there, since time is a move: its fraction is cut off, and it
  * is brought within ±(2^53 - 1).
  * @param {number | undefined} milliseconds
  */

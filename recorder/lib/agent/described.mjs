@@ -9,7 +9,7 @@ const includes = uncurried(String.prototype.includes);
 const plainTitle = uncurried(Error.prototype.toString);
 
 /**
- * An error's title as its own `toString` returns it, or as the engine does where the agents' code has broken that.
+ * An error's title as its own `toString` returns it, or as the engine does if the agents' code has broken that.
  * @param {Error} error
  * @returns {string}
  */
@@ -24,7 +24,7 @@ function titleOf(error) {
 }
 
 /**
- * An error's stack without the recorder's frames, where its code has left it one.
+ * An error's stack without the recorder's frames, if its code has left it one.
  * @param {Error} error
  */
 function stackOf(error) {
@@ -36,7 +36,7 @@ function stackOf(error) {
 }
 
 /**
- * Something else than an error of this realm, with its message where it has one.
+ * Something else than an error of this realm, with its message if it has one.
  * @param {any} thrown
  */
 function shownWithMessage(thrown) {
@@ -48,7 +48,7 @@ function shownWithMessage(thrown) {
 const MOST_CAUSES = 3;
 
 /**
- * What an error was caused by, where it says so.
+ * What an error was caused by, if it says so.
  * @param {Error} error
  * @param {number} depth how many came before
  */
@@ -58,7 +58,7 @@ function causeOf(error, depth) {
 }
 
 /**
- * What was thrown, with its stack and its causes where it has them.
+ * What was thrown, with its stack and its causes if it has them.
  * @param {unknown} thrown
  * @param {number} [depth] how many errors have it as their cause
  * @returns {string}

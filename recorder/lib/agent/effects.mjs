@@ -37,7 +37,7 @@ export function effectOf(call, value) {
 
 /**
  * Whether a wait went on only because its time was up: nothing else could move, and it hasn't seen that its word has
- * changed, or nobody else is left who could go on.
+ * changed, or no other agent is left that could go on.
  * @param {Call} call
  * @param {object} view
  * @param {number} end one of `END`

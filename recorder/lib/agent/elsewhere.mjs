@@ -1,5 +1,5 @@
-// Calls of Atomics on memory that isn't recorded: the engine makes them. A wait there that has a timeout is how code
-// sleeps, where nobody else uses that memory: it takes only the run's time. All else is noted.
+// Calls of Atomics on memory that isn't recorded: the engine makes them. Code sleeps by a wait there that has a
+// timeout, if nobody else uses that memory: it takes only the run's time. All else is noted.
 
 import { apply, create } from "../primordials.mjs";
 
@@ -42,7 +42,7 @@ function isSleep({ unseen }, buffer, timeout) {
 }
 
 /**
- * For how long the engine waits. Where the run's time goes on instead, or the run is ended, it only compares.
+ * For how long the engine waits. If the run's time goes on instead, or the run is ended, it only compares.
  * @param {Elsewhere} how
  * @param {object} buffer
  * @param {number} timeout

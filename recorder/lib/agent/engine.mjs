@@ -9,10 +9,10 @@ const ELEMENTS = Object.freeze(CONSTRUCTORS.map((Kind) => [new Kind(1), new Kind
 const { wait: WAIT, notify: NOTIFY } = CALL_NUMBERS;
 
 /**
- * Makes a call. A wait has no time, and a notify wakes nobody: who waits is the board's.
+ * Makes a call. A wait takes no time, and a notify wakes nobody: the board knows who waits.
  * @param {import("../memory/records.mjs").Call} call
  * @param {object} view
- * @returns {any} what the engine answers: a value, or of a wait a word
+ * @returns {any} what the engine returns: a value, or for a wait a word
  */
 export function engineCall({ call, index, operands }, view) {
   const make = FUNCTIONS[call];

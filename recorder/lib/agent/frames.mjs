@@ -22,7 +22,7 @@ const LIBRARY = `${RECORDER}lib/`;
 const OWN = [LIBRARY, `${RECORDER}script/`, "node:", "wasm://wasm/sabsim-"];
 const COMPILED = "wasm:";
 
-/** Where the instruction of WebAssembly stands in its module that has called the recorder last. */
+/** Which instruction of WebAssembly has called the recorder last: its position in its module. */
 export const compiled = { at: 0 };
 
 /** @type {(error: Error, frames: NodeJS.CallSite[]) => NodeJS.CallSite[]} */
@@ -37,7 +37,7 @@ const sites = (_error, frames) => frames;
 export function framesHere(from = framesHere, most = MOST_FRAMES) {
   const { stackTraceLimit, prepareStackTrace } = EngineError;
   try {
-    // Neither throws where the agents' code has made them constant: then no frames are known.
+    // Neither throws if the agents' code has made them constant: then no frames are known.
     set(EngineError, "stackTraceLimit", most);
     set(EngineError, "prepareStackTrace", sites);
     /** @type {{ stack?: any }} */
@@ -142,7 +142,7 @@ export function isCalledByAgents(called) {
 /**
  * The number of where the agent's code is.
  * @param {Sources} sources of the agent
- * @returns {number} `UNKNOWN` where no frame of it is found, or there is no room for it
+ * @returns {number} `UNKNOWN` if no frame of it is found, or there is no room for it
  */
 export function numberHere(sources) {
   const frame = agentsFrame(numberHere);
@@ -150,7 +150,7 @@ export function numberHere(sources) {
 }
 
 /**
- * The same as `numberHere`, where it is known what the agent's code has called: so a single frame is enough as a rule.
+ * The same as `numberHere`, if it is known what the agent's code has called. So a single frame is enough as a rule.
  * @param {Sources} sources of the agent
  * @param {Function} called
  * @returns {number}

@@ -1,6 +1,6 @@
 // Whether an agent leaves something to be done later: a timer, a callback, what comes after a promise. Its worker never
-// gets there, so the agent would seem to have finished with its work undone. What an async function throws shows there
-// too: its promise is rejected, and nobody would hear of it.
+// gets there, so the agent would seem to have finished with its work undone. What an async function throws is found
+// here too: its promise is rejected, and nobody would hear of it.
 
 import { createHook } from "node:async_hooks";
 import util from "node:util";
@@ -32,10 +32,10 @@ const JOB = "REQUEST";
 // What node itself does later for a warning, and for a worker that was started: nothing of the agent's.
 const HARMLESS = Object.freeze(["node:internal/process/warning", "node:internal/worker"]);
 
-// What zlib does at once is done by a stream of its own, which leaves a tick behind where it fails.
+// What zlib does at once is done by a stream of its own, which leaves a tick behind if it fails.
 const ZLIB = Object.freeze({ type: "ZLIB", file: "node:zlib", atOnce: "zlibBufferSync", making: "syncBufferWrapper" });
 
-// A listener's error is thrown once more by a tick, where nobody catches it.
+// A listener's error is thrown once more by a tick, and nobody catches it there.
 const LISTENERS = Object.freeze({
   type: "TickObject", file: "node:internal/event_target", throwing: "emitUncaughtException",
 });
@@ -45,7 +45,7 @@ const LOADED_LATE = Object.freeze([
   "FormData", "Headers", "Request", "Response", "MessageEvent", "WebSocket", "EventSource", "CloseEvent",
 ]);
 
-// The frames of this file stand before those of who calls.
+// The frames of this file come before those of its caller.
 const OWN = import.meta.url;
 
 const SHOWN = Object.freeze({ depth: 0, customInspect: false, compact: true, breakLength: Infinity });
@@ -53,7 +53,7 @@ const REJECTED = "{ <rejected> ";
 const HOOKS = ", [Symbol(async_id_symbol)]";
 
 /**
- * Where the reason ends in what node shows of a promise: before what its hooks have put there.
+ * Where the reason ends in the text by which node shows a promise: before what its hooks have put there.
  * @param {string} text
  */
 function endOf(text) {
@@ -130,7 +130,7 @@ export class Later {
     this.settled = [];
     /** @type {unknown[]} what listeners of an EventTarget threw */
     this.thrown = [];
-    /** @type {any} the last job that was begun: one that is done later has somebody that waits for it */
+    /** @type {any} the last job that was begun; somebody waits for one that is done later */
     this.job = undefined;
     /** @type {WeakMap<object, boolean>} the promises that something comes after, whenever that was said */
     this.awaited = new EngineWeakMap();
@@ -174,8 +174,8 @@ export class Later {
   }
 
   /**
-   * Notes that something surely goes on later, and where. The run fails for it, so no run that passes pays for a look
-   * at the stack.
+   * Notes that something surely goes on later, and where. The run fails for it, so looking at the stack costs no run
+   * that passes.
    * @param {string | undefined} word
    */
   #find(word) {
@@ -206,7 +206,7 @@ export class Later {
     return this.thrown.length === 0 ? undefined : withoutOwn(inspect(this.thrown[0], SHOWN));
   }
 
-  /** @returns {string | undefined} why a promise was rejected, where nobody handles that */
+  /** @returns {string | undefined} why a promise was rejected, if nobody handles that */
   rejected() {
     for (let at = 0; at < this.settled.length; at += 1) {
       const text = inspect(this.settled[at], SHOWN);
@@ -265,7 +265,7 @@ export class Later {
     this.job = resource;
   }
 
-  /** Who waits for a job is known only when it has been made. */
+  /** It is known only after a job has been made who waits for it. */
   #lookAtJob() {
     if (this.job !== undefined && typeof this.job.ondone === "function") this.found ??= "a callback";
   }

@@ -1,5 +1,5 @@
-// Messages and listeners that nobody serves. An agent never gets to its event loop, so a listener of its never runs; and
-// a message gets only to code that takes it at once, by `receiveMessageOnPort`.
+// Messages and listeners that nobody serves. An agent never gets to its event loop, so its listeners never run. A
+// message gets only to code that takes it at once, by `receiveMessageOnPort`.
 
 import nodeModule from "node:module";
 import {
@@ -93,7 +93,7 @@ export class Messages {
   }
 
   /**
-   * A BroadcastChannel gets to other agents, and to all that this process has besides.
+   * A BroadcastChannel reaches other agents, and all other threads of this process.
    * @param {Threads} threads
    */
   #watchChannels(threads) {
@@ -129,7 +129,7 @@ export class Messages {
   }
 
   /**
-   * Puts a method in the place of an owner's, which is asked before.
+   * Puts a method in the place of an owner's. It asks before that one is called.
    * @param {any} owner
    * @param {string} name
    * @param {(self: object, first: unknown) => void} ask

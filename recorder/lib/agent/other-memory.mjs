@@ -1,4 +1,5 @@
-// Shared memory that the agents' code makes itself. Where it makes some is remembered, so that a message can say so.
+// Shared memory that the agents' code makes itself. The place where it makes some is remembered, so that a message can
+// say so.
 
 import { apply, construct, getOwnPropertyDescriptor, put, uncurried, weakGet, weakSet } from "../primordials.mjs";
 import { isCalledByAgents, sourceHere } from "./frames.mjs";
@@ -14,8 +15,8 @@ const growable = getOwnPropertyDescriptor(SharedArrayBuffer.prototype, "growable
 const isGrowable = growable === undefined ? () => false : uncurried(growable);
 
 /**
- * Whether arrays on shared memory can be watched: not where the memory grows, and they with it. That one is made is
- * noted then.
+ * Whether arrays on shared memory can be watched: not if the memory grows, and they with it. Then it is noted that one
+ * is made.
  * @param {any} buffer
  * @param {(buffer: object) => void} note
  */
@@ -51,7 +52,7 @@ function noteMaking(owner, name, note) {
 }
 
 /**
- * Notes what is done with memory for WebAssembly, of which nothing is seen: where it was made is all that is known.
+ * Notes what is done with memory for WebAssembly. Nothing that it does is seen: where it was made is all that is known.
  * @param {Unseen} unseen
  */
 function noteWebAssembly(unseen) {

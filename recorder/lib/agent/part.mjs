@@ -38,11 +38,11 @@ export class Part {
     this.made = 0;
     /** Whether the agent has a part in a run now. */
     this.isPlaying = false;
-    /** Whether that run is over for it. */
+    /** Whether the run is over for it. */
     this.isOver = false;
     /** How often the agent's code has caught that. */
     this.caught = 0;
-    /** Whether it is in a call of Atomics. It stays so if an exception ends the call amid its way. */
+    /** Whether it is in a call of Atomics. It stays so if an exception ends the call midway. */
     this.isInside = false;
     /** @type {Call | undefined} the last call, for messages */
     this.last = undefined;
@@ -87,7 +87,7 @@ export class Part {
   }
 
   /**
-   * Ends the run where the script could not have the call.
+   * Ends the run if the script couldn't have the call.
    * @param {Call} call
    */
   stayWithin(call) {
@@ -105,7 +105,7 @@ export class Part {
   }
 
   /**
-   * Ends the run where something else was to be done.
+   * Ends the run if something else was to be done.
    * @param {Call} [call] that the agent makes; else it goes on from a wait
    */
   stayInRow(call) {
@@ -120,7 +120,7 @@ export class Part {
   }
 
   /**
-   * Whether the run may go beyond what a script can have. Then it has none, and only a spin ends it.
+   * Whether the run may go beyond what a script can have. Then it has no script, and only a spin ends it.
    * @returns {boolean}
    */
   goesBeyond() {
@@ -162,7 +162,7 @@ export class Part {
     return this.end("bound", detail);
   }
 
-  /** @param {string} limit that is met, to which it is added where the agent is @returns {never} */
+  /** @param {string} limit that is met; where the agent is, is added to it @returns {never} */
   meetsLimit(limit) {
     const where = whereText();
     return this.bound(where === "" ? limit : `${limit}: agent ${this.agent} is${where}`, false);
@@ -177,7 +177,7 @@ export class Part {
     this.over();
   }
 
-  /** The stack came to its end amid a call: the agent can't go on as if it had been made. */
+  /** The stack ran out within a call: the agent can't go on as if the call had been made. */
   outOfStack() {
     const { board } = this.table;
     if (!board.turn.isInCall(this.agent) && !board.end.hasEnded()) board.turn.sleep(this.agent);

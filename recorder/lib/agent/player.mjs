@@ -31,7 +31,7 @@ export class Player {
   constructor(agent, table) {
     this.agent = agent;
     this.table = table;
-    /** The run in which it began last. What a worker before it has begun isn't begun again. */
+    /** The run in which it began last. What an earlier worker of the agent has begun isn't begun again. */
     this.started = table.board.turn.lastStart(agent);
     this.part = new Part(agent, table);
   }
@@ -93,7 +93,7 @@ export class Player {
    * @param {object} view its typed array
    * @param {Function} called the function of Atomics that the agent's code has called
    * @param {() => void} [before] called when the agent has the turn
-   * @returns {unknown} what it answers; what it throws, it throws
+   * @returns {unknown} what the call returns; an error that the call throws is thrown
    */
   make(call, view, called, before) {
     const source = this.begins(call, called, before);
@@ -135,7 +135,7 @@ export class Player {
   }
 
   /**
-   * Ends the run for something that it can't have.
+   * Ends the run for something that a run can't have.
    * @param {string} text
    * @returns {never}
    */
@@ -182,7 +182,7 @@ export class Player {
     return this.table.board.clock.look();
   }
 
-  /** @param {number} milliseconds for which the agent sleeps where nobody else can wake it */
+  /** @param {number} milliseconds for which the agent sleeps, and nobody else can wake it */
   doze(milliseconds) {
     this.part.needsRun();
     this.table.board.clock.pass(milliseconds);
@@ -259,7 +259,7 @@ export class Player {
    * @param {Call} call
    * @param {object} view
    * @param {number} source
-   * @param {boolean} [isAllowed] whether the agent may wait; else that is what is wrong with the call
+   * @param {boolean} [isAllowed] whether the agent may wait; if not, that is what is wrong with the call
    * @returns {"not-equal" | "timed-out"}
    */
   compared(call, view, source, isAllowed = true) {
@@ -287,7 +287,7 @@ export class Player {
   }
 
   /**
-   * What the engine answers. An error that it throws is the call's answer, and is thrown on to the agent's code.
+   * What the engine returns. An error that it throws is the call's answer, and is thrown on to the agent's code.
    * @template T
    * @param {Call} call
    * @param {number} source
@@ -299,7 +299,7 @@ export class Player {
       return make();
     } catch (error) {
       const isRange = error instanceof EngineRangeError;
-      // No index is to blame, so it is the stack that came to its end: no answer of the call.
+      // No index is to blame, so the stack ran out: that is no answer of the call.
       if (isRange && isWithin(call)) this.part.outOfStack();
       this.#log(MAKE, call, 0, source);
       this.#answer(isRange ? "RangeError" : "TypeError", MAKE);
@@ -334,7 +334,7 @@ export class Player {
     return answer;
   }
 
-  /** @param {number} event that was logged of the agent's last call, which has its answer */
+  /** @param {number} event that was logged for the agent's last call, which has its answer */
   #lookForSpin(event) {
     const { board: { spins }, records } = this.table;
     if (event !== LEAVE && records.comesAgain(this.part.made)) spins.repeated(this.agent);

@@ -1,5 +1,5 @@
 // Which ordinary accesses an agent has made since its last call, so that the same one is noted once, and a spin is
-// found. Nobody else moves between two calls of an agent: what it repeats there shows nothing new.
+// found. Nobody else moves between two calls of an agent, so what it repeats there shows nothing new.
 
 import { FIRST_MORE } from "../memory/more-blocks.mjs";
 import { mapGet, mapSet, slotOf, uncurried } from "../primordials.mjs";
@@ -9,7 +9,7 @@ const fill = uncurried(Int32Array.prototype.fill);
 const clearMap = uncurried(EngineMap.prototype.clear);
 const sizeOf = slotOf(EngineMap.prototype, "size");
 
-/** More than any byte of a block has as its position. */
+/** More than the position of any byte of a block. */
 const MOST_BYTES = 2 ** 31;
 
 // So often is one access repeated before it is a spin: nothing that it reads can change meanwhile.
@@ -23,14 +23,16 @@ export const REPEATED = Object.freeze({ NEW: 0, KNOWN: 1, SPINS: 2 });
 export class Repeats {
   /** @param {number[]} lengths of the blocks */
   constructor(lengths) {
-    /** For each byte, when an access began there last, and how long it was: of reads, and of writes. */
+    /** For each byte, when an access last began there, and how long it was: for reads, and for writes. */
     this.reads = [];
     this.writes = [];
     for (let block = 0; block < lengths.length; block += 1) {
       this.reads[block] = new Int32Array(lengths[block]);
       this.writes[block] = new Int32Array(lengths[block]);
     }
-    /** @type {Map<number, number>} of blocks that no script can have: how long the accesses since the last call were */
+    /**
+     * @type {Map<number, number>} for blocks that no script can have: how long the accesses since the last call were
+     */
     this.more = new EngineMap();
     this.epoch = 1;
     this.again = 0;

@@ -1,4 +1,4 @@
-// What is reported of an error's stack.
+// What is reported about an error's stack.
 
 import { uncurried } from "../primordials.mjs";
 
@@ -9,7 +9,7 @@ const slice = uncurried(String.prototype.slice);
 const OWN = new URL("../", import.meta.url).href;
 
 /**
- * A stack without the frames of the recorder's own files, which say nothing of the agents' code.
+ * A stack without the frames of the recorder's own files, which say nothing about the agents' code.
  * @param {string} stack
  * @returns {string}
  */

@@ -1,4 +1,4 @@
-// Why a run fails for what an agent has left behind, in words.
+// Why a run fails when an agent has left something behind, in words.
 
 import { callText, viewName } from "../memory/spelling.mjs";
 

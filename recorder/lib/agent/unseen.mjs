@@ -9,7 +9,7 @@ import { sourceHere } from "./frames.mjs";
 
 const { WeakMap: EngineWeakMap, SharedArrayBuffer: EngineShared } = globalThis;
 
-/** So often is memory used in a run before the run is ended: it may be a spin, and the run is no pass anyway. */
+/** How often memory may be used in a run before the run is ended: it may be a spin, and the run doesn't pass anyway. */
 const MOST_USES = 100_000;
 
 /**
@@ -22,7 +22,7 @@ export class Unseen {
   /** @param {boolean} isAllowed whether a run in which agents use such memory may pass */
   constructor(isAllowed) {
     this.isAllowed = isAllowed;
-    /** @type {Notes | undefined} where it is written down; nowhere while the module is being loaded */
+    /** @type {Notes | undefined} the notes that it is written to; none while the module is being loaded */
     this.notes = undefined;
     /** @type {WeakMap<object, Memory>} by their buffers */
     this.memories = new EngineWeakMap();
@@ -35,7 +35,7 @@ export class Unseen {
     this.run = 0;
   }
 
-  /** @param {object} memory that has a copy of bytes, and that nobody else has */
+  /** @param {object} memory that has a copy of bytes, and that no other code has */
   addCopy(memory) {
     weakSet(this.others, memory, false);
   }
@@ -107,7 +107,7 @@ export class Unseen {
     return buffer instanceof EngineShared;
   }
 
-  /** @param {object} buffer @returns {boolean} whether it was used in this run in another way than to sleep */
+  /** @param {object} buffer @returns {boolean} whether it was used in this run otherwise than to sleep */
   isUsed(buffer) {
     return weakGet(this.memories, buffer)?.run === this.run;
   }

@@ -1,5 +1,5 @@
 // The worker of one agent. It replaces what shows an agent the world: Atomics, typed arrays, clocks, random numbers. It
-// imports the agents' module, and then does again and again what it is ordered: the agent's part in a run, or the
+// imports the agents' module, and then carries out orders, one after the other: the agent's part in a run, or the
 // module's `init` or `check`. It never gets back to its event loop.
 //
 // All of this runs beside the agents' code, which may change what it finds: so it uses functions that it has kept from

@@ -1,4 +1,4 @@
-// The methods of typed arrays that answer an array, for watched ones. What they answer is private, unless the
+// The methods of typed arrays that return an array, for watched ones. What they return is private, unless the
 // receiver's species makes another one.
 
 import { TypedArray, uncurried } from "../../primordials.mjs";
@@ -24,7 +24,7 @@ function filled(array, values, count) {
   return array;
 }
 
-/** @type {Record<string, import("./patch.mjs").WatchedMethod>} methods that answer an array */
+/** @type {Record<string, import("./patch.mjs").WatchedMethod>} methods that return an array */
 export const ANSWERING = {
   map(watched, self, callback, thisArgument) {
     needsFunction(callback);

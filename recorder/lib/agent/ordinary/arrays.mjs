@@ -92,8 +92,8 @@ function filledBy(constructor, values, mapper, thisArgument) {
 }
 
 /**
- * A private array without its iterator: the engine takes its elements one by one, faster than by an iterator that isn't
- * its own.
+ * A private array without its iterator. So the engine takes its elements one by one, which is faster than by an
+ * iterator that isn't the engine's own.
  * @param {any} source
  */
 function withoutIterator(source) {
@@ -119,8 +119,8 @@ function replaceStatics() {
 }
 
 /**
- * The getter of what an array has. That of a private array must be fast, and throws for a watched one; the one that was
- * asked through its proxy just now is at hand.
+ * The getter of what an array has. The getter of a private array must be fast, and throws for a watched one. The
+ * watched array that was asked through its proxy just now is at hand.
  * @param {(real: object) => unknown} slot
  * @param {(watched: import("./watched.mjs").Watched) => unknown} known
  */
@@ -174,7 +174,7 @@ function replaceAll(methods) {
 }
 
 /**
- * What this engine has besides isn't known here. `toString` asks the array's own `join`.
+ * What else this engine has isn't known here. `toString` asks the array's own `join`.
  * @param {object} owner
  */
 function refuseOthers(owner) {
@@ -201,7 +201,7 @@ function replaceMethods() {
   refuseOthers(typedArrays);
 }
 
-/** The typed arrays that this engine has besides the eleven kinds: there is no script for them. */
+/** The typed arrays that this engine has besides the eleven kinds: a script can't have them. */
 function refuseOtherKinds() {
   const realm = /** @type {Record<string, unknown>} */ (globalThis);
   for (const name of ownKeys(realm)) {

@@ -1,5 +1,5 @@
-// Node's Buffer. A Buffer on a recorded buffer is watched as other arrays are; its methods that node has in the engine
-// are reported by what they read and write.
+// Node's Buffer. A Buffer on a recorded buffer is watched as other arrays are; of its methods that are native code of
+// node's, what they read and write is reported.
 
 import { KINDS } from "../../../script/kinds.mjs";
 import { apply, bufferOf, lengthOf, offsetOf, put, setPrototypeOf, tagOf, uncurried } from "../../primordials.mjs";
@@ -62,11 +62,11 @@ function copied(watched, from, to) {
  */
 
 /**
- * A method that goes another way where the receiver is watched. Such take any array's bytes; here its elements have to
- * be bytes.
+ * A method that does something else if the receiver is watched. Such methods take any array's bytes; here its elements
+ * have to be bytes.
  * @param {Function} engine
  * @param {BytesMethod} method
- * @param {Function} [otherwise] what is called where it isn't
+ * @param {Function} [otherwise] what is called if it isn't
  */
 const forBytes = (engine, method, otherwise = engine) => methodOf((self, given) => {
   const watched = watchedOf(self);
@@ -106,12 +106,12 @@ function textSlice(engine, watched, given) {
   const { length } = watched;
   const from = whole(given[0]);
   const to = given[1] === undefined ? length : wholeOf(given[1]);
-  // Where the range is wrong, node says so before it reads.
+  // If the range is wrong, node says so before it reads.
   if (from < 0 || to > length || from > to) return apply(engine, zeros(length), given);
   return apply(engine, copied(watched, from, to), []);
 }
 
-/** @type {BytesMethod} those that write a text: how many bytes they will write is tried in a private Buffer */
+/** @type {BytesMethod} those that write a text: a try in a private Buffer shows how many bytes they will write */
 function textWrite(engine, watched, given) {
   const bytes = zeros(watched.length);
   const count = apply(engine, bytes, given);
@@ -138,7 +138,7 @@ const likeness = (value) => {
 };
 
 /**
- * `copy`, where one of the two is watched.
+ * `copy`, if one of the two is watched.
  * @param {Function} engine
  * @param {unknown} source
  * @param {unknown} target
@@ -169,7 +169,7 @@ const reading = (engine) => methodOf((self, given) => {
   return apply(engine, made[0], given);
 });
 
-/** @type {Standing} a method that answers another Buffer on the same memory */
+/** @type {Standing} a method that returns another Buffer on the same memory */
 const sharingSlice = (engine) => methodOf((self, given) => {
   const answer = apply(engine, self, given);
   return tagOf(answer) === undefined || watchedOf(self) === undefined ? answer : wrappedArray(answer);

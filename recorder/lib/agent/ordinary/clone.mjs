@@ -1,5 +1,5 @@
-// Clones of values, in the agent itself. A clone of a shared buffer is another object on the same memory: here it is
-// known, elsewhere nobody would see what is done with it.
+// Clones of values, in the agent itself. A clone of a shared buffer is another object on the same memory. Here it is
+// known; elsewhere nobody would see what is done with it.
 
 import { apply, tagOf } from "../../primordials.mjs";
 import { learn, memoryNumber, originalOf, refused } from "./context.mjs";

@@ -1,8 +1,8 @@
-// What a watched realm asks and reports to: which buffers are recorded, who hears of accesses, and who ends a run.
+// What a watched realm asks and reports to: which buffers are recorded, what gets the accesses, and what ends a run.
 
 import { weakGet, weakSet } from "../../primordials.mjs";
 
-/** The number that shared memory has as its block where it isn't recorded. No block has it. */
+/** The number that shared memory has as its block if it isn't recorded. No block has it. */
 export const OTHER = 2 ** 30 - 1;
 
 /**
@@ -11,7 +11,7 @@ export const OTHER = 2 ** 30 - 1;
  * @property {number} kind its number in KINDS, KINDS.length for a DataView, KINDS.length + 1 for a whole buffer
  * @property {number} offset byteOffset of the view
  * @property {number} length its elements; bytes for a DataView or a whole buffer
- * @property {object} [memory] the buffer, where it isn't recorded
+ * @property {object} [memory] the buffer, if it isn't recorded
  */
 
 /**
@@ -72,7 +72,7 @@ export function blockNumber(buffer) {
 }
 
 /**
- * The same where memory that isn't recorded has a number too.
+ * The same, but memory that isn't recorded has a number too.
  * @param {unknown} buffer
  * @returns {number}
  */

@@ -16,7 +16,7 @@ const { prototype: views } = EngineDataView;
 
 const OUTSIDE = "Offset is outside the bounds of the DataView";
 
-/** @type {Record<string, number>} the bytes that each accessor's value has; others aren't known here */
+/** @type {Record<string, number>} how many bytes each accessor's value has; others aren't known here */
 const SIZES = {
   Int8: 1, Uint8: 1, Int16: 2, Uint16: 2, Int32: 4, Uint32: 4, Float32: 4, Float64: 8, BigInt64: 8, BigUint64: 8,
 };
@@ -35,7 +35,7 @@ export function wrappedView(real, block) {
 }
 
 /**
- * Where a value of a size stands that is asked for; it must be within the view.
+ * Where the value of a size begins that is asked for; it must be within the view.
  * @param {{ length: number }} watched
  * @param {number} at
  * @param {number} size

@@ -10,9 +10,10 @@ import { Watched, arrayOn, registerArray } from "./watched.mjs";
 
 const EngineProxy = Proxy;
 
-// The traps of a watched array are what is known of it. They are short, since each access comes through them.
+// The object that has what is known about a watched array is also its proxy's handler. The traps are short, since each
+// access comes through them.
 class Elements extends Watched {
-  // Without one that is written out the engine takes its arguments through the iterator of arrays.
+  // Without a constructor that is written out the engine takes its arguments through the iterator of arrays.
   /** @param {any} real @param {import("./context.mjs").Place} place @param {number} size */
   constructor(real, place, size) {
     super(real, place, size);
@@ -110,7 +111,7 @@ const { String: text } = globalThis;
 const isNumeric = (key) => key === "-0" || text(+key) === key;
 
 /**
- * What agents get for an array of the engine: itself, or a watched one where it stands on a recorded buffer.
+ * What agents get for an array of the engine: itself, or a watched one if it is on a recorded buffer.
  * @param {any} real one of the typed arrays
  * @param {number} block of its buffer, or -1
  * @returns {any}

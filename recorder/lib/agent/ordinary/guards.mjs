@@ -1,4 +1,5 @@
-// Functions of node and the engine that see through no watched array: what is done where recorded memory is given them.
+// Functions of node and the engine that can't see through a watched array: what is done when recorded memory is given
+// to them.
 
 import { apply, construct, isArray, put, setPrototypeOf } from "../../primordials.mjs";
 import { anyOthers, refused } from "./context.mjs";
@@ -53,7 +54,7 @@ export function madePrivate(given, depth = WHOLLY) {
 /** @type {Standing} private copies are given, which are reported as reads */
 export const copying = (engine) => methodOf((self, given) => apply(engine, self, madePrivate(given)));
 
-/** @type {Standing} the same of what is given itself, where that may be any object */
+/** @type {Standing} the same for what is given itself, if that may be any object */
 export const copyingGiven = (engine) => methodOf((self, given) => apply(engine, self, madePrivate(given, 0)));
 
 /**
@@ -96,7 +97,7 @@ export const looking = (engine) => methodOf((self, given) => {
 });
 
 /**
- * Ends the run where recorded memory is given.
+ * Ends the run if recorded memory is given.
  * @param {string} what the function is called
  * @param {number} [depth]
  * @param {boolean} [suspicious]
@@ -126,7 +127,7 @@ export const constructing = (engine, make) => {
 };
 
 /**
- * For a constructor: ends the run where recorded memory is given.
+ * For a constructor: ends the run if recorded memory is given.
  * @param {string} what
  * @returns {(given: unknown[]) => unknown[]}
  */

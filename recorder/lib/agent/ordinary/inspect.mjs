@@ -1,5 +1,5 @@
-// What node shows of values: its own way looks through watched arrays. By the way that a value may have of its own,
-// each is reported as read, and looks like the engine's.
+// How node shows values. Its own way looks through watched arrays. So each watched array has a way of its own to be
+// shown, which reports it as read, and it looks like the engine's.
 
 import util from "node:util";
 import { TypedArray, apply, getOwnPropertyDescriptor, put, uncurried } from "../../primordials.mjs";
@@ -11,7 +11,7 @@ import { watchedOf, watchedView } from "./watched.mjs";
 
 const custom = Symbol.for("nodejs.util.inspect.custom");
 
-// Node shows what these answer; for what isn't watched it goes on as if there were none of them.
+// Node shows what these return; for what isn't watched it goes on as if there were none of them.
 const SHOWN = {
   array() {
     const watched = watchedOf(this);
@@ -29,7 +29,7 @@ const SHOWN = {
 
 const includes = uncurried(String.prototype.includes);
 
-/** Node's options where nobody gives others. */
+/** Node's options if nobody gives others. */
 const { get: defaults } = /** @type {{ get: Function }} */ (getOwnPropertyDescriptor(util.inspect, "defaultOptions"));
 
 /** @param {any} options @returns {boolean} whether options leave no way of a value's own, or look into proxies */
@@ -37,8 +37,8 @@ const isPlain = (options) =>
   typeof options === "object" && options !== null && (options.customInspect === false || !!options.showProxy);
 
 /**
- * Node's own way alone is gone where the options say so, or a format that shows all that there is: then private copies
- * are shown.
+ * Node uses its own way alone if the options say so, or a format that shows all that there is: then private copies are
+ * shown.
  * @param {unknown[]} given
  * @param {number} place of the options, or -1
  * @param {number} format its place, or -1

@@ -1,4 +1,4 @@
-// Functions of node and the engine that need an array of the engine's, by module: what is done where recorded memory is
+// Functions of node and the engine that need an array of the engine's, by module: what is done when recorded memory is
 // given to them. What isn't named here can have no use of it, or ends the run.
 
 import assert from "node:assert";
@@ -28,7 +28,7 @@ const EngineBytes = Uint8Array;
 const setBytes = uncurried(EngineBytes.prototype.set);
 const subarray = uncurried(EngineBytes.prototype.subarray);
 
-/** @type {Record<string, string[]>} what these read, they read before they answer */
+/** @type {Record<string, string[]>} what these read, they read before they return */
 const READING = {
   fs: ["writeSync", "writevSync", "writeFileSync", "appendFileSync"],
   crypto: [
@@ -59,7 +59,7 @@ const otherFunctions = (owner, lists = []) => /** @type {string[]} */ (ownKeys(o
 }));
 
 /**
- * A module whose functions may go on after they have answered: those that aren't named end the run.
+ * A module whose functions may go on after they have returned: those that aren't named end the run.
  * @param {string} word its name
  * @param {object} module
  */
@@ -89,7 +89,7 @@ function watchCrypto() {
   put(crypto, "X509Certificate", constructing(crypto.X509Certificate, madePrivate));
   const { webcrypto } = crypto;
   const { subtle } = webcrypto;
-  // Where the numbers are drawn from the seed, the object has a function of its own.
+  // If the numbers are drawn from the seed, the object has a function of its own.
   replace(webcrypto, "getRandomValues", writing);
   replace(Object.getPrototypeOf(webcrypto), "getRandomValues", writing);
   const prototype = Object.getPrototypeOf(subtle);
@@ -131,7 +131,7 @@ function watchAssertions() {
   }
 }
 
-/** @type {Standing} how many bytes a text takes is tried in a private array, so that those alone are reported */
+/** @type {Standing} a try in a private array shows how many bytes a text takes, so that those alone are reported */
 const encodingInto = (engine) => methodOf((self, given) => {
   const text = given[0];
   const target = given[1];

@@ -42,10 +42,10 @@ export function wholeOf(value) {
 export const bigOf = (value) => asIntN(MOST, value);
 
 /**
- * A position in an array, which counts from its end where it is negative.
+ * A position in an array, which counts from its end if it is negative.
  * @param {any} value
  * @param {number} length
- * @param {number} otherwise where none is given
+ * @param {number} otherwise if none is given
  */
 export function positionOf(value, length, otherwise) {
   if (value === undefined) return otherwise;

@@ -34,7 +34,8 @@ export function replace(owner, name, make) {
 }
 
 /**
- * Does the same for a function by which recorded memory would get where nothing is seen. The function must be there.
+ * Does the same for a function by which recorded memory would get to code that nobody watches. The function must be
+ * there.
  * @param {Record<string, any>} owner
  * @param {string} name
  * @param {(engine: Function) => Function} make
@@ -97,7 +98,7 @@ export const methodOf = (body) => ({
  */
 
 /**
- * A method of the engine, which goes another way where the receiver is watched.
+ * A method of the engine, which does something else if the receiver is watched.
  * @param {Function} engine
  * @param {WatchedMethod} method
  */

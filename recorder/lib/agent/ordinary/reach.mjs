@@ -28,7 +28,10 @@ const isObject = (value) => (typeof value === "object" && value !== null) || typ
 
 /** @typedef {(value: unknown) => boolean} Test what is looked for */
 
-/** @type {Test} whether a value is itself memory whose accesses are noted: recorded memory, or an array on other one */
+/**
+ * @type {Test} whether a value is itself memory whose accesses are noted: recorded memory, or an array on other shared
+ * memory
+ */
 export const isWatched = (value) => anyWatchedOf(value) !== undefined || blockNumber(value) >= 0;
 
 /** @type {Test} whether a value is an array on shared memory that isn't recorded */
@@ -42,10 +45,10 @@ const isLeaf = (value) =>
   !isObject(value) || tagOf(value) !== undefined || isView(value) || anyWatchedOf(value) !== undefined;
 
 /**
- * What stands in an object, one after the other: the values of its own properties, and what a Map or Set has.
+ * What an object has in it, one after the other: the values of its own properties, and what a Map or Set has.
  * @param {object} object
  * @param {(inner: unknown) => void} visit
- * @returns {boolean} false where a getter stands there, of which nobody knows what it would answer
+ * @returns {boolean} false if there is a getter: nobody knows what it would return
  */
 function eachWithin(object, visit) {
   if (object instanceof EngineMap) {
@@ -116,7 +119,7 @@ function bytesOf(buffer, offset, length) {
 }
 
 /**
- * A private copy of a recorded buffer. That all of it is read is reported.
+ * A private copy of a recorded buffer. It is reported that all of it is read.
  * @param {object} buffer
  */
 export function privateBuffer(buffer) {
@@ -125,8 +128,7 @@ export function privateBuffer(buffer) {
 }
 
 /**
- * A private copy of a watched array or view, which lies where that one lies in its buffer. That all of it is
- * read is reported.
+ * A private copy of a watched array or view, at the same place of its buffer. It is reported that all of it is read.
  * @param {import("./watched.mjs").Watched} watched
  * @param {SharedArrayBuffer} [buffer] another one than what is made
  */

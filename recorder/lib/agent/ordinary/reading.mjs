@@ -56,7 +56,7 @@ function found(watched, self, callback, thisArgument, step) {
 }
 
 /**
- * What `reduce` and `reduceRight` answer.
+ * What `reduce` and `reduceRight` return.
  * @param {WatchedArray} watched
  * @param {object} self
  * @param {unknown} callback

@@ -13,7 +13,7 @@ const { species } = Symbol;
 const setElements = uncurried(EngineBytes.prototype.set);
 
 /**
- * The constructor of what `slice` answers.
+ * The constructor of what `slice` returns.
  * @param {any} buffer as agents may have changed it
  */
 function speciesOf(buffer) {
@@ -26,7 +26,7 @@ function speciesOf(buffer) {
 }
 
 /**
- * The buffer that `slice` answers, by the receiver's species.
+ * The buffer that `slice` returns, by the receiver's species.
  * @param {object} buffer
  * @param {number} count of bytes
  */
@@ -39,7 +39,7 @@ function answered(buffer, count) {
 }
 
 /**
- * Reports that bytes of a buffer are accessed, where it is recorded.
+ * Reports that bytes of a buffer are accessed, if it is recorded.
  * @param {object} buffer
  * @param {number} from
  * @param {number} to

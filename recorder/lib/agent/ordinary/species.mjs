@@ -1,4 +1,4 @@
-// Which array a method answers: the language asks the receiver's constructor for it.
+// Which array a method returns: the language asks the receiver's constructor for it.
 
 import { construct, get, lengthOf, tagOf, uncurried } from "../../primordials.mjs";
 import { ENGINE, unwrapped, watchedOf } from "./watched.mjs";
@@ -14,7 +14,7 @@ export const standIns = /** @type {Function[]} */ ([]);
 const isObject = (value) => (typeof value === "object" && value !== null) || typeof value === "function";
 
 /**
- * The constructor of what a method answers, where it isn't the engine's own of the receiver's kind.
+ * The constructor of what a method returns, if it isn't the engine's own of the receiver's kind.
  * @param {object} self the receiver
  * @param {number} kind
  * @returns {Function | undefined}
@@ -47,7 +47,7 @@ export function arrayBy(constructor, given) {
 }
 
 /**
- * The array that a method answers: a private one of the receiver's kind, or what its species makes.
+ * The array that a method returns: a private one of the receiver's kind, or what its species makes.
  * @param {import("./watched.mjs").Watched} watched the receiver
  * @param {object} self the receiver, as agents hold it
  * @param {number} length

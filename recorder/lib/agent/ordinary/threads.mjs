@@ -42,7 +42,7 @@ function giveAway(port) {
 /** @param {any} value a view of the engine's own */
 const bufferBehind = (value) => (tagOf(value) === undefined ? viewBufferOf(value) : bufferOf(value));
 
-/** @type {import("./reach.mjs").Test} whether a value is recorded memory, also where arrays aren't watched */
+/** @type {import("./reach.mjs").Test} whether a value is recorded memory, also if arrays aren't watched */
 const isRecordedHere = (value) => isRecorded(value) || (isView(value) && blockNumber(bufferBehind(value)) >= 0);
 
 /** @param {unknown} value @returns {boolean} whether a value is memory that threads can share */

@@ -1,5 +1,5 @@
 // Watches a realm: typed arrays and DataViews on recorded buffers report each ordinary read and write. The code knows
-// nothing of it. What would pass unseen ends the run.
+// nothing about it. What would pass unseen ends the run.
 
 import buffer from "node:buffer";
 import { syncBuiltinESMExports } from "node:module";

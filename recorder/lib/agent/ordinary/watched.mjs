@@ -1,4 +1,4 @@
-// What is known of each watched array: the engine's own array behind it, and what it stands on.
+// What is known about each watched array: the engine's own array behind it, and what memory it is on.
 
 import { CONSTRUCTORS, KINDS } from "../../../script/kinds.mjs";
 import {
@@ -26,7 +26,7 @@ const FIRST_BIG = kindNumbers.BigInt64Array;
 export const ENGINE = CONSTRUCTORS;
 const EngineView = DataView;
 
-/** What is known of each array of this realm, by what stands for it in the agents' code. */
+/** What is known about each array of this realm, by what stands for it in the agents' code. */
 const arrays = new WeakMap();
 
 /** A constructor that returns its argument, so that a subclass can add a private field to an existing object. */
@@ -57,7 +57,7 @@ class Marked extends Same {
 /** A watched array or DataView. */
 export class Watched {
   /**
-   * @param {any} real the engine's own; of which type its elements are goes by the kind
+   * @param {any} real the engine's own; the kind says what type its elements have
    * @param {import("./context.mjs").Place} place
    * @param {number} size bytes of an element
    */
@@ -102,7 +102,7 @@ function onOriginal(real, buffer, Engine, offset, length) {
 }
 
 /**
- * Has the length of an array on a buffer that grows be what the engine's own array has.
+ * Sets the length of an array on a buffer that grows to that of the engine's own array.
  * @param {Watched} watched
  * @param {(real: object) => number} slot its length
  */
@@ -119,7 +119,7 @@ export function askedLength(watched) {
 }
 
 /**
- * What an array stands on.
+ * What memory an array is on.
  * @param {import("./context.mjs").Place} place
  * @param {object} buffer
  */
@@ -169,14 +169,14 @@ export function registerView(watched, standIn) {
 }
 
 /**
- * What is known of a typed array that agents hold, or undefined where it isn't watched.
+ * What is known about a typed array that agents hold, or undefined if it isn't watched.
  * @param {unknown} value
  * @returns {WatchedArray | undefined}
  */
 export const watchedOf = (value) => weakGet(arrays, value);
 
 /**
- * The same of an object that may be a DataView. What is no object is none, and throws.
+ * The same for an object that may be a DataView. What is no object is none, and throws.
  * @type {(view: object) => Watched | undefined}
  */
 export const watchedView = Marked.of;

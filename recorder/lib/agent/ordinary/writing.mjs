@@ -61,7 +61,7 @@ export const WRITING = {
 };
 
 /**
- * `set` of a typed array, where the receiver or what it is given is watched.
+ * `set` of a typed array, if the receiver or what it is given is watched.
  * @param {object} target
  * @param {any} source
  * @param {any} offset
