@@ -1,12 +1,12 @@
-// Real answers: what sockets, pipes and child processes bring to a thread of a program. A thread that has nothing else to
-// do, and waits for some, may move: it looks until one has come. To look is no move and takes no time of the run, and a
-// thread that has looked in vain isn't offered again before something else has moved. If several wait and nothing else can
-// move, each looks for a short while first, so that none holds up another one whose answer is there. A thread that has a
-// task may look before it takes it up. Answers that come to a thread with no move of its own between are one move.
+// Real answers: what sockets, pipes and child processes bring to a thread of a program. A thread that has nothing else
+// to do, and waits for some, may move: it looks until one has come. Looking is no move and takes no time of the run. A
+// thread that has looked in vain isn't offered again before something else has moved. If several wait and nothing else
+// can move, each looks for a short while first. So none holds up another one whose answer is there. A thread that has a
+// task may look before it begins it. Answers that come to a thread without a move of its own between them are one move.
 
 import { AGENT_WORD, NOBODY, PHASE, WORD, wordOf } from "../memory/layout.mjs";
 
-/** How long a look lasts in milliseconds: a short one, which comes while others can move; and one if nothing else can. */
+/** How long a look lasts in milliseconds: a short one while others can move, and a long one if nothing else can. */
 const SHORT = 5;
 const LONG = 500;
 
@@ -16,7 +16,10 @@ const LONG_BY_ITSELF = 5_000;
 
 const NEVER = -1;
 
-/** Whether a row has an answer now: not; so that it can do without; or so that the agent moves on it. */
+/**
+ * Whether a row has an answer now: it has none; it has one that no agent moves on; or it has one that the agent moves
+ * on.
+ */
 export const DUE = Object.freeze({ NOT: 0, PERHAPS: 1, SURELY: 2 });
 
 export class Answers {
@@ -31,7 +34,7 @@ export class Answers {
     this.agents = agents;
   }
 
-  /** Nobody waits for any. */
+  /** No agent waits for any. */
   begin() {
     const { words } = this;
     words[WORD.EXPECTS] = 0;
@@ -53,7 +56,7 @@ export class Answers {
   expect(agent) {
     const { words } = this;
     words[WORD.EXPECTS] |= 1 << agent;
-    // It has done something: others may get answers by that.
+    // It has done something: other agents may get answers by that.
     if ((words[WORD.SILENT] & (1 << agent)) === 0) words[WORD.SILENT] = 0;
   }
 

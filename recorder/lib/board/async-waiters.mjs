@@ -6,8 +6,8 @@ const { Int32Array, SharedArrayBuffer } = globalThis;
 
 const MOST_WAITERS = 1_024;
 
-// How many waits there were in the run, how many were notified, behind which slot all are free, and whether a notify
-// came to the place of a lost wait.
+// How many waits there were in the run, how many were notified, the slot from which on all are free, and whether a
+// notify came to the place of a lost wait.
 const JOINED = 0;
 const NOTIFIED = 1;
 const END = 2;
@@ -83,7 +83,7 @@ export class AsyncWaiters {
   /**
    * @param {number} block
    * @param {number} byte
-   * @returns {number} the slot of the wait that is the oldest at a place, or `NO_WAITER`
+   * @returns {number} the slot of the oldest wait at a place, or `NO_WAITER`
    */
   oldest(block, byte) {
     let oldest = NO_WAITER;

@@ -38,7 +38,7 @@ const TEXT_BYTES = 16_384;
  * @property {SharedArrayBuffer} places
  * @property {import("./row.mjs").RowMemory} row
  * @property {SharedArrayBuffer} [waiters] of a program: for the waits of Atomics.waitAsync
- * @property {SharedArrayBuffer} [names] of a program: by which pilots know its memory
+ * @property {SharedArrayBuffer} [names] of a program: the names by which pilots know its memory
  */
 
 export class Board {
@@ -99,7 +99,7 @@ export class Board {
   }
 
   /**
-   * Has agent 0 do something else than its part in a run. No agent may be busy.
+   * Orders agent 0 to do something else than its part in a run. No agent may be busy.
    * @param {number} order one of `ORDER`
    */
   order(order) {
@@ -127,7 +127,7 @@ export class Board {
   }
 
   /**
-   * Picks who moves next, and hands the turn over. Where nobody can move, the run ends.
+   * Picks who moves next, and hands the turn over. If nobody can move, the run ends.
    * @param {number} agent that has the turn
    * @returns {boolean} whether it moves next itself
    */
@@ -154,8 +154,8 @@ export class Board {
    * @param {number} agent
    * @param {number} block
    * @param {number} byte
-   * @param {number | undefined} milliseconds its timeout, if it has one; one that is 0 or less ends whatever is said of
-   * timeouts, since nobody waits by it
+   * @param {number | undefined} milliseconds its timeout, if it has one; one that is 0 or less ends whatever `timeouts`
+   * says, since nobody waits by it
    */
   wait(agent, block, byte, milliseconds) {
     const isTimed = milliseconds !== undefined && !(this.rules.timeouts === NEVER && milliseconds > 0);
@@ -185,7 +185,7 @@ export class Board {
   }
 
   /**
-   * The event loop of an agent has nothing to do: it waits for what others bring.
+   * The event loop of an agent has nothing to do: it waits for what others send.
    * @param {number} agent that has the turn
    * @param {number} where `LOOP`, or `NOWHERE` if nobody can wake it
    * @param {number | undefined} milliseconds until it goes on by itself
@@ -197,13 +197,13 @@ export class Board {
     if (milliseconds !== undefined) this.clock.setDeadline(agent, milliseconds);
   }
 
-  /** @param {number} agent whose next move is one of its event loop, or takes a message from a port */
+  /** @param {number} agent whose next move is one of its event loop, or receives a message from a port */
   asksForTask(agent) {
     const place = loopPlace(agent);
     this.strategy.asks(agent, place, place + 1, FLAG.WAITERS);
   }
 
-  /** An agent's event loop takes up something: that is a move, though none of a script. */
+  /** An agent's event loop begins something: that is a move, though none of a script. */
   turned() {
     this.words[WORD.MOVES] += MOST_MOVES;
     this.clock.advance(MOST_MOVES);
@@ -212,7 +212,7 @@ export class Board {
   /**
    * A real answer has come to an agent: that is its move.
    * @param {number} agent
-   * @returns {boolean} whether it may come now; else the run has strayed from its row by it
+   * @returns {boolean} whether it may come now; if not, the run has strayed from its row by it
    */
   answered(agent) {
     const { answers, row, strategy } = this;
@@ -229,7 +229,7 @@ export class Board {
     this.row.misses();
   }
 
-  /** @returns {import("./end.mjs").Ended} how a run ends in which nobody can move */
+  /** @returns {import("./end.mjs").Ended} how a run ends if nobody can move */
   #standstill() {
     const { line, words } = this;
     if (this.#anyAgent((each) => line.waits(each) && !line.isIdle(each))) return "deadlock";

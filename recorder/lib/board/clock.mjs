@@ -1,5 +1,5 @@
 // The time of a run, in milliseconds from its beginning. It goes on by a step with each move and each look at it, and
-// to the end of a wait's time where that is up: so deadlines fit the answers, and a seed has one time.
+// to the end of a wait's time if that is up. So deadlines agree with the answers, and a seed has one time.
 
 const { Float64Array } = globalThis;
 
@@ -42,7 +42,7 @@ export class Clock {
     this.times[NOW] += moves * STEP;
   }
 
-  /** @returns {number} what time it is; to look takes time too */
+  /** @returns {number} what time it is; looking takes time too */
   look() {
     this.times[NOW] += STEP;
     return this.times[NOW];
@@ -53,7 +53,7 @@ export class Clock {
     return this.times[NOW];
   }
 
-  /** @param {number} milliseconds for which somebody sleeps who has the turn */
+  /** @param {number} milliseconds for which the agent sleeps that has the turn */
   pass(milliseconds) {
     if (!(milliseconds > 0)) return;
     this.times[NOW] += milliseconds;
@@ -80,7 +80,7 @@ export class Clock {
   }
 
   /**
-   * Whether a wait's time is up because the time of another wait was, or because somebody slept. Single steps don't
+   * Whether a wait's time is up because the time of another wait was, or because an agent slept. Single steps don't
    * count: they are as small as they are so that clocks go on.
    * @param {number} agent that waits
    */

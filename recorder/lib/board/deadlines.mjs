@@ -1,5 +1,5 @@
-// Whose time is up first, and what is known of a wait that ends by its time: whether anybody else could have gone on.
-// An agent that only reads the same again, asleep between or not, counts as one that can't.
+// Whose time is up first, and what is known about a wait that ends by its time: whether another agent could have gone
+// on. An agent that only reads the same again, asleep between or not, counts as one that can't.
 
 import { AGENT_WORD, NOBODY, PHASE, WORD, wordOf } from "../memory/layout.mjs";
 
@@ -11,7 +11,7 @@ export const END = Object.freeze({
   WOKEN: 0,
   /** Its time is up, and another agent could go on. */
   IN_TIME: 1,
-  /** Its time is up, and no other agent could go on before the time of its own wait was. */
+  /** Its time is up, and each other agent could only go on after the time of its own wait was up. */
   LAST: 2,
   /** Its time is up, and no other agent could ever go on. */
   ALONE: 3,
@@ -133,8 +133,8 @@ export class Deadlines {
   }
 
   /**
-   * Whether the time of one wait is up before that of another: the deadline says so, and of two that are the same the
-   * one that began first. A wait in a loop that only looks at the same again comes behind all others.
+   * Whether the time of one wait is up before that of another: the deadline decides, and of two with the same deadline
+   * the one that began first. A wait in a loop that only reads the same again comes after all others.
    * @param {number} one
    * @param {number} other
    */

@@ -93,7 +93,7 @@ export class End {
    * @param {string} detail
    */
   end(ending, detail) {
-    // What may run out of stack comes first: else nobody would have the turn, in a run that hasn't ended.
+    // What may run out of stack comes first: else no agent would have the turn, in a run that hasn't ended.
     this.#note(ending, detail);
     store(this.words, WORD.TURN, NOBODY);
     store(this.words, WORD.ENDED, ENDED);
@@ -101,7 +101,7 @@ export class End {
   }
 
   /**
-   * The same, where nobody has the turn any more.
+   * The same, if no agent has the turn any more.
    * @param {Ended} ending
    * @param {string} detail
    */

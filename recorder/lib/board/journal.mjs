@@ -78,7 +78,7 @@ export class Journal {
   /**
    * Finds room for a view in the script.
    * @param {number} key that no other view has
-   * @returns {boolean} false where a script can't have another
+   * @returns {boolean} false if a script can't have another
    */
   registers(key) {
     const count = this.words[WORD.VIEWS];

@@ -74,7 +74,7 @@ export class Line {
     }));
   }
 
-  /** @returns {number} a number that is greater than those of all who have joined the line before */
+  /** @returns {number} a number that is greater than those of all that have joined the line before */
   ticket() {
     this.words[WORD.TICKETS] += 1;
     return this.words[WORD.TICKETS] - 1;

@@ -1,4 +1,4 @@
-// What all threads of a program know of its ports: whose each is, how many messages wait there, and whether it is
+// What all threads of a program know about its ports: whose each is, how many messages wait there, and whether it is
 // started or closed. Only the thread that has the turn changes it. The two ports of a channel have the numbers 2n and
 // 2n + 1.
 
@@ -17,7 +17,7 @@ const WAITING = 1;
 const STATE = 2;
 const NAME = 3;
 
-// Beside the number of the agent that has started a thread.
+// Set beside the number of the agent that has started a thread.
 const BEGUN = 64;
 
 const STARTED = 1;
@@ -26,7 +26,7 @@ const CLOSED = 2;
 // The last message that it has is that the other side was closed.
 const CLOSING = 4;
 
-/** In place of the agent that owns a port: the port is under way in a message. */
+/** In place of the agent that owns a port: the port is being sent in a message. */
 export const NOBODYS = -1;
 
 export class PortTable {
@@ -163,8 +163,8 @@ export class PortTable {
   }
 
   /**
-   * Whether a message of a port can be delivered by its owner's event loop. That the other side was closed is, also if
-   * the port isn't started.
+   * Whether a message of a port can be delivered by its owner's event loop. The message that the other side was closed
+   * is delivered also if the port isn't started.
    * @param {number} port
    */
   isReady(port) {

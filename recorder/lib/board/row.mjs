@@ -1,14 +1,14 @@
-// The row of a run: which agent moved with each draw. It is returned on request; and a run can be forced to go
-// by a row, where the seed draws nothing, and only clocks and random numbers come from it.
+// The row of a run: which agent moved with each draw. It is returned on request. A run can be forced to go by a row:
+// then the seed draws nothing, and only clocks and random numbers come from it.
 //
-// Exactly: where the row names an agent that can't move, or has come to its end while an agent can, or an agent makes
-// another call than it is to make, the run strays from the row, which ends it. Leniently: what can't move is left out,
-// and behind the row's end the agent that moved last goes on as long as it can, then the next one in number. If all that
-// can only read the same again, the wait goes on whose time is up first.
+// Exactly: the run strays from the row, which ends it, if the row names an agent that can't move, if it has come to its
+// end while an agent can, or if an agent makes another call than it is to make. Leniently: what can't move is left out,
+// and behind the row's end the agent that moved last goes on as long as it can, then the next one in number. If all
+// agents that can move only read the same again, the wait goes on whose time is up first.
 //
-// A row has each real answer. When the run is made again, they may come in other pieces. So it matters only after which
-// answer an agent makes its next move. Before a run strays, agents look for answers: only an agent that looks sees what
-// has closed, and no row has that.
+// A row has each real answer. When the run is made again, they may come in other pieces. So only the answer matters
+// after which an agent makes its next move. Before a run strays, agents look for answers: only an agent that looks sees
+// what has closed, and no row has that.
 //
 // All of it lies in shared memory. Only the thread that has the turn changes it, as the words of the board.
 
@@ -23,7 +23,7 @@ const { Int32Array, Uint8Array, SharedArrayBuffer } = globalThis;
 const { imul } = Math;
 const codeAt = uncurried(String.prototype.charCodeAt);
 
-/** What `next` answers where the run strays from its row. */
+/** What `next` returns if the run strays from its row. */
 export const STRAYS = -2;
 
 /** Is added to an agent's number in a row if its move is that a real answer has come to it. */
@@ -38,7 +38,8 @@ export const isLook = (drawn) => drawn >= LOOK;
 // A draw makes two moves at least; and one may be the last thing that is done.
 export const MOST_DRAWS = SCRIPT_LIMITS.moves / 2 + 1;
 
-// Behind the row's end another agent that can move gets its turn after so many draws of one agent: it may spin.
+// Behind the row's end another agent that can move gets its turn after so many draws of one agent, since that one may
+// spin.
 const MOST_ALIKE = 200;
 
 // The words of the row's state.
@@ -72,7 +73,7 @@ const REASONS = Object.freeze(["call", "leaves", "waits", "ended", "goes on", "c
 
 /**
  * @typedef {object} Stray how a run that was forced exactly has strayed from its row
- * @property {StrayReason} reason the agent makes another call; or it leaves a wait where it is to make a call; or it is
+ * @property {StrayReason} reason the agent makes another call; or it leaves a wait and is to make a call; or it is
  * to move, and waits or has ended; or the row has ended, and the agent goes on; or the agent gets a real answer, and the
  * row has none there
  * @property {number} agent
@@ -84,9 +85,9 @@ const REASONS = Object.freeze(["call", "leaves", "waits", "ended", "goes on", "c
 /**
  * @typedef {object} RowWanted
  * @property {number[]} [row] the agents in the order in which they are to be drawn; else the seed draws
- * @property {boolean} [isExact] whether the run ends where it strays from the row
+ * @property {boolean} [isExact] whether the run ends if it strays from the row
  * @property {Int32Array} [calls] for each draw the number of the call (see `callNumber`) that the agent is to make; 0
- * where it is to go on from a wait
+ * if it is to go on from a wait
  * @property {boolean} [wantsRow] whether the run's own row is wanted
  */
 
@@ -180,7 +181,7 @@ export class Row {
     return this.state[HOW] !== FREE;
   }
 
-  /** @returns {number} who moves next by the row, or `NOBODY` where nobody can, or `STRAYS` */
+  /** @returns {number} who moves next by the row; `NOBODY` if nobody can; or `STRAYS` */
   next() {
     this.state[IS_DUE] = DUE.NOT;
     return this.state[HOW] === EXACT ? this.#exactNext() : this.#lenientNext();
@@ -202,7 +203,7 @@ export class Row {
     state[DRAWN] += 1;
   }
 
-  /** @returns {boolean} whether the run ends where it strays from its row */
+  /** @returns {boolean} whether the run ends if it strays from its row */
   get isExact() {
     return this.state[HOW] === EXACT;
   }
@@ -249,9 +250,9 @@ export class Row {
   }
 
   /**
-   * Whether an agent that was drawn does what it is to do; where that isn't known, all is right.
+   * Whether an agent that was drawn does what it is to do; if that isn't known, all is right.
    * @param {number} agent
-   * @param {import("../memory/records.mjs").Call} [call] that it makes; else it goes on from a wait
+   * @param {import("../memory/records.mjs").Call} [call] that it makes; without, it goes on from a wait
    */
   allows(agent, call) {
     const { state } = this;
@@ -328,8 +329,8 @@ export class Row {
   }
 
   /**
-   * The next agent in number that can move, after the one that moved last. Behind all others comes the wait whose time
-   * is up first, and behind that who only reads the same again.
+   * The next agent in number that can move, after the one that moved last. After all others comes the wait whose time
+   * is up first, and after that an agent that only reads the same again.
    */
   #able() {
     const first = this.state[LAST] + 1;
@@ -376,7 +377,7 @@ export class Row {
 /**
  * Why a run that has strayed has ended, in words.
  * @param {Stray} stray
- * @param {string} call that the agent makes, where that is why
+ * @param {string} call that the agent makes, if that is why
  */
 export function strayText({ reason, agent, wanted = NOBODY }, call) {
   if (reason === "comes") return `agent ${agent} gets a real answer, and the row has none there`;

@@ -1,7 +1,8 @@
 // Which agents only read the same again: their last calls each come again within few, with the same answers, and no
-// byte has changed meanwhile. Such an agent goes on only when another one does something. It is known where it matters:
-// in runs with timed waits, since the time of a wait may be up beside it, and in a program one of whose threads seems to
-// spin for good. An agent that spins for a while before it sleeps isn't one, so that many calls in a row are needed.
+// byte has changed meanwhile. Such an agent goes on only when another one does something. It is noted only if it
+// matters: in runs with timed waits, since the time of a wait may be up meanwhile, and in a program with a thread that
+// seems to spin for good. An agent that spins for a while before it sleeps isn't one, so many calls in a row are
+// needed.
 
 import { AGENT_WORD, WORD, wordOf } from "../memory/layout.mjs";
 import { SPIN_CALLS } from "../memory/records.mjs";
@@ -35,7 +36,7 @@ export class Spins {
     for (let agent = 0; agent < this.agents; agent += 1) this.words[wordOf(agent, AGENT_WORD.SAME)] = 0;
   }
 
-  /** @param {number} agent that has found something new, as the time */
+  /** @param {number} agent that has found something new, such as the time */
   found(agent) {
     this.words[wordOf(agent, AGENT_WORD.SAME)] = 0;
   }

@@ -1,7 +1,7 @@
 // Who moves next, drawn from the seed's row among the agents that can: those that ask for a call or were woken, those
-// whose time is over, and now and then one whose wait has a timeout, which ends it early. Where nothing else can move,
-// or all that can only reads the same again, the wait ends whose time is up first. How it is drawn is a strategy's
-// affair. A call that is nobody else's affair is made without a draw.
+// whose time is over, and now and then one whose wait has a timeout, which ends it early. If nothing else can move, or
+// if all that can move only read the same again, the wait ends whose time is up first. A strategy says how it is drawn.
+// A call that concerns no other agent is made without a draw.
 
 import { AGENT_WORD, PHASE, WORD, wordOf } from "../memory/layout.mjs";
 import { MOST_MOVES } from "./journal.mjs";
@@ -19,7 +19,7 @@ const { imul } = Math;
  * @property {number} agents how many
  * @property {readonly Way[]} ways how runs are drawn: a run by the one at its seed modulo how many there are
  * @property {number | "never"} timeouts in how many draws the end of a timed wait is offered while something else can
- * move; never: it isn't, and not where nothing else can move either
+ * move; never: it isn't, even if nothing else can move
  * @property {number} maxMoves
  * @property {number} [soon] of a program: the time of a wait that is less than so many milliseconds away may be up as
  * easily as anything else may move, in some seeds
@@ -29,13 +29,13 @@ const { imul } = Math;
 /** @typedef {import("./strategy/ways.mjs").Way} Way */
 /** @typedef {import("../memory/random.mjs").Random} Random */
 
-/** What `next` answers where nobody moves any more. */
+/** What `next` returns if nobody moves any more. */
 export const NOBODY_MOVES = -1;
 
-// All that can move are drawn for: no call is its agent's own affair.
+// The draw is among all that can move: each call may concern other agents.
 const NOBODY_GOES_ON = -2;
 
-// What may be changed in how a seed of a program is drawn: short times are up early, and an agent is slow now and then.
+// What may differ in how a seed of a program is drawn: short times are up early, and an agent is slow now and then.
 const HASTY = 1;
 const SLOW = 2;
 
@@ -48,7 +48,9 @@ const EARLY_ANSWERS = 0.05;
 /** In how many of the turns of an event loop they come before a task of its own, in the eager seeds. */
 const EAGER_ANSWERS = 0.5;
 
-/** After so many early ends a run hurries no more: else code that tries again when its time is up might never end. */
+/**
+ * After so many early ends a run isn't hasty any more: else code that tries again when its time is up might never end.
+ */
 const MOST_HASTY = 20;
 
 /** Of eight seeds two have neither, one each has one of them, and four have both, whatever their strategies. */
@@ -116,7 +118,7 @@ export class Strategy {
    * An agent asks for a call: it is known what it will touch before it is drawn.
    * @param {number} agent
    * @param {number} from the first place
-   * @param {number} to the place behind the last one; where the call touches nothing, both are 0
+   * @param {number} to the place behind the last one; if the call touches nothing, both are 0
    * @param {number} how the call's flags, as in the log
    * @param {number} [known] the number of the first place as pilots know it
    */
@@ -132,13 +134,13 @@ export class Strategy {
     return words[WORD.STARTED] - 1;
   }
 
-  /** @returns {number} who moves next; `NOBODY_MOVES` where nobody can, `STRAYS` where a row can't be followed */
+  /** @returns {number} who moves next; `NOBODY_MOVES` if nobody can, `STRAYS` if a row can't be followed */
   next() {
     const { row, words } = this;
     const next = row.isForced() ? row.next() : this.#drawn();
     if (next < 0) return next;
     const agent = moverOf(next);
-    // What has come is noted when it has.
+    // A real answer is noted when it has come.
     const looks = isLook(next) || (!row.isForced() && this.#looks(next));
     words[WORD.LOOKS] = looks ? 1 : 0;
     if (!looks) this.moves(agent, next);
@@ -206,7 +208,7 @@ export class Strategy {
 
   /**
    * Gathers the agents that can move. Here it is decided when the time of a wait may be up.
-   * @returns {number} one of them whose call is nobody else's affair, or `NOBODY_GOES_ON`
+   * @returns {number} one of them whose call concerns no other agent, or `NOBODY_GOES_ON`
    */
   #gather() {
     const { able } = this;

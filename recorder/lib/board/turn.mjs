@@ -1,6 +1,6 @@
 // Whose turn it is. The turn goes from agent to agent: the one that has it asks for its next call, the strategy picks
-// who moves next, and the turn is handed to that agent's thread. No thread stands in between, so a call costs one
-// change of threads at most, and none where the same agent goes on.
+// who moves next, and the turn is handed to that agent's thread. No other thread is between them, so a call costs one
+// change of threads at most, and none if the same agent goes on.
 
 import { AGENT_WORD, NOBODY, STATUS, WORD, agentOf, inCall, inCode, wordOf } from "../memory/layout.mjs";
 import { uncurried } from "../primordials.mjs";
@@ -8,10 +8,10 @@ import { uncurried } from "../primordials.mjs";
 const { load, store, add, compareExchange, wait, notify } = Atomics;
 const writeText = uncurried(Buffer.prototype.write);
 
-/** How many bytes there are for the word of why an agent's worker is no more. */
+/** How many bytes there are for the reason why an agent's worker has ended. */
 export const REASON_BYTES = 4_096;
 
-/** Nobody changes it, and nobody wakes those that wait here. */
+/** No thread changes it, and none wakes those that wait here. */
 const NEVER = new Int32Array(new SharedArrayBuffer(4));
 
 // How long an agent that was silent may take to say where it is.
@@ -44,7 +44,7 @@ export class Turn {
   /**
    * An agent's own code makes a call, or ends.
    * @param {number} agent
-   * @returns {boolean} false where the run has ended meanwhile
+   * @returns {boolean} false if the run has ended meanwhile
    */
   enter(agent) {
     return compareExchange(this.words, WORD.TURN, inCode(agent), inCall(agent)) === inCode(agent);
@@ -69,7 +69,7 @@ export class Turn {
   }
 
   /**
-   * An agent gets the turn to begin what it was ordered.
+   * An agent gets the turn to begin what it was ordered to do.
    * @param {number} agent
    */
   start(agent) {
@@ -86,7 +86,7 @@ export class Turn {
   }
 
   /**
-   * Has an agent begin, and sleep until it gets the turn.
+   * Lets an agent begin, which then sleeps until it gets the turn.
    * @param {number} agent
    */
   call(agent) {
@@ -112,7 +112,7 @@ export class Turn {
   }
 
   /**
-   * Sleeps until there is something to begin. What is left of an earlier run wakes nobody here.
+   * Sleeps until there is something to begin. What is left of an earlier run wakes no agent here.
    * @param {number} agent
    * @param {number} last the number of the run in which it began something last
    * @returns {number} that of the run in which it begins something now
@@ -172,7 +172,7 @@ export class Turn {
   /**
    * Waits for the end of the run. An agent that makes no call for too long ends it too.
    * @param {number} seconds
-   * @returns {boolean} whether it came to that
+   * @returns {boolean} whether that was so
    */
   awaitEnd(seconds) {
     const { words } = this;
@@ -202,7 +202,7 @@ export class Turn {
   }
 
   /**
-   * Takes note that a worker has died; if it had the turn, that is the end of the run.
+   * Takes note that a worker has died; if it had the turn, the run ends.
    * @param {number} agent
    * @param {string} why
    */
@@ -239,7 +239,7 @@ export class Turn {
     const turn = load(this.words, WORD.TURN);
     if (turn === NOBODY || compareExchange(this.words, WORD.TURN, turn, NOBODY) !== turn) return;
     const agent = agentOf(turn);
-    // An agent whose stack came to its end amid a call never comes out of it.
+    // An agent whose stack ran out within a call never comes out of it.
     if (turn !== inCode(agent)) {
       this.end.close("failed", `agent ${agent} didn't come out of a call of Atomics for ${seconds} s`);
       return;

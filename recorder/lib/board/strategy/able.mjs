@@ -28,7 +28,7 @@ export class Able {
     for (let at = place; at < this.count; at += 1) this.agents[at] = this.agents[at + 1];
   }
 
-  /** @param {number} agent @returns {number} where it stands in the list, or -1 */
+  /** @param {number} agent @returns {number} its position in the list, or -1 */
   place(agent) {
     for (let at = 0; at < this.count; at += 1) {
       if (this.agents[at] === agent) return at;

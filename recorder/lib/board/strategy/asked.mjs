@@ -7,8 +7,8 @@ import { FLAG } from "../../memory/log.mjs";
 /** Set beside the flags of a call that needs no draw. */
 const GOES_ON = 64;
 
-// After so many calls in a row that are nobody else's affair, others may move before each further one: perhaps the
-// agent waits in a loop for something that no pilot has seen.
+// After so many calls in a row that concern no other agent, others may move before each further one: perhaps the agent
+// waits in a loop for something that no pilot has seen.
 const MOST_IN_A_ROW = 128;
 
 export class Asked {
@@ -27,9 +27,9 @@ export class Asked {
    * An agent asks for a call.
    * @param {number} agent
    * @param {number} from the first place that it touches
-   * @param {number} to the place behind the last one; where the call touches nothing, both are 0
+   * @param {number} to the place behind the last one; if the call touches nothing, both are 0
    * @param {number} how its flags, as in the log
-   * @param {number} known the number of the first place, as it is found in what is known
+   * @param {number} known the number of the first place in what pilots have shown
    * @param {boolean} everywhere whether a draw is made before each call
    */
   note(agent, from, to, how, known, everywhere) {
@@ -73,8 +73,8 @@ export class Asked {
     const phase = this.words[wordOf(agent, AGENT_WORD.PHASE)];
     const isLoop = this.words[wordOf(agent, AGENT_WORD.WHERE_BLOCK)] === LOOP;
     if (phase === PHASE.ASKS || (phase === PHASE.WOKEN && isLoop)) return this.words[wordOf(agent, AGENT_WORD.ASKS_HOW)];
-    // The end of a time takes an agent off the line; of one that was woken nothing is left to be decided, except which
-    // task its event loop takes up.
+    // The end of a time takes an agent off the line. For one that was woken nothing is left to be decided, except which
+    // task its event loop begins.
     return phase === PHASE.WAITS_TIMED ? FLAG.WAITERS : 0;
   }
 }

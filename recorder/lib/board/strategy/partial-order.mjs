@@ -1,14 +1,14 @@
 // Partial-order sampling: each move that can be made has a random priority, and the one with the greatest is made. Then
-// the moves that conflict with it get new priorities. So orders of moves that conflict are about alike, however many
-// other moves there are.
+// the moves that conflict with it get new priorities. So orders of moves that conflict are about equally likely,
+// however many other moves there are.
 
 import { AGENT_WORD, PHASE, wordOf } from "../../memory/layout.mjs";
 
 // No priority was drawn yet.
 const NONE = 0;
 
-// In one of so many draws all get new priorities: else an agent that waits in a loop for one with a low priority might
-// go on for ever.
+// In one of so many draws all agents get new priorities: else an agent that waits in a loop for one with a low priority
+// might go on for ever.
 const RENEWAL = 64;
 
 export class PartialOrder {

@@ -1,9 +1,9 @@
 // A slow agent: now and then one that can move is left out of the next few draws, if others can move. So a thread can
-// stand for a while between two of its moves, and the others come far, however a strategy draws.
+// rest for a while between two of its moves, and the others make many moves, however a strategy draws.
 
 import { NOBODY, WORD } from "../../memory/layout.mjs";
 
-/** In how many of the draws in which nobody is slow an agent becomes it. */
+/** In one of so many draws in which no agent is slow, one becomes slow. */
 const BECOMES = 0.2;
 
 /** For how many draws it is slow. */

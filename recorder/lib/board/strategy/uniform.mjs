@@ -1,4 +1,4 @@
-// All that can move are alike.
+// All agents that can move are equally likely.
 
 export class Uniform {
   /** @param {import("./drawing.mjs").Parts} parts */

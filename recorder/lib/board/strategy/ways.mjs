@@ -9,7 +9,7 @@ export const NEVER = "never";
 /**
  * @typedef {object} Way how the agents of a run are drawn
  * @property {string} name of its strategy
- * @property {number} likelihood behind that name, where it has one
+ * @property {number} likelihood behind that name, if it has one
  * @property {boolean} everywhere whether a draw is made before each call, also where agents can't meet
  */
 
@@ -21,12 +21,12 @@ const RARELY = way("switch", 0.1);
 const NOW_AND_THEN = way("switch", 0.2);
 const OFTEN = way("switch", 0.3);
 const MOSTLY = way("switch", 0.85);
-// It goes by nothing that pilots have shown: what they haven't seen is found by it, though later.
+// It doesn't depend on what pilots have shown: it finds what they haven't seen, though later.
 const EVERYWHERE = way("switch", 0.3, true);
 
 /**
- * What mixed runs take in turn: a run takes the one at its seed modulo how many there are. How often each stands here
- * comes from `recorder/bench`: for each of its programs there are some that find much.
+ * What mixed runs take in turn: a run takes the one at its seed modulo how many there are. How often each is in the
+ * list comes from `recorder/bench`: for each of its programs there are some that find much.
  */
 const MIXED = Object.freeze([
   ORDER, OFTEN, ORDER, MOSTLY, ORDER, NOW_AND_THEN, ORDER, RARELY,
@@ -60,7 +60,7 @@ export function waysOf(strategy, everywhere) {
 }
 
 /**
- * The same of a program. The run of seed 1 needs no pilots.
+ * The same for a program. The run of seed 1 needs no pilots.
  * @param {string} strategy
  * @param {boolean} everywhere
  * @returns {readonly Way[]}
