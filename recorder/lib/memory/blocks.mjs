@@ -1,5 +1,5 @@
 // The blocks of a program. The program makes their memory during its run, and a buffer becomes a block when two threads
-// can reach it. The last block is for messages: to send one and to receive it are acts on the waiters of a place there.
+// can reach it. The last block is for messages: sending one and receiving it are acts on the waiters of a place there.
 // So what was done before it was sent happens before what is done after it is received.
 
 import { KINDS } from "../../script/kinds.mjs";
@@ -17,8 +17,8 @@ export const MESSAGE_PLACES = MESSAGE_BYTES / 4;
 
 /**
  * The places by which strategies know what a move of an event loop or a message conflicts with, before the message has a
- * number. They are in the block for messages: one for each thread's event loop, and the rest for ports that are under way
- * in a message.
+ * number. They are in the block for messages: one for each thread's event loop, and the rest for ports that are being
+ * sent in a message.
  */
 export const LOOP_PLACES = 0;
 export const PORT_PLACES = LOOP_PLACES + SCRIPT_LIMITS.agents;
@@ -111,7 +111,7 @@ export class Blocks {
   }
 
   /**
-   * This thread gets to know a block.
+   * This thread learns about a block.
    * @param {number} block
    * @param {SharedArrayBuffer} buffer
    */
@@ -129,7 +129,7 @@ export class Blocks {
   }
 
   /**
-   * A block that no script can have as it is begins: what this thread has written there is known from now on.
+   * A block that no script can have as it is begins: from now on it is known what this thread has written there.
    * @param {number} block
    * @param {number} agent the thread
    * @param {number} position in the log
@@ -151,7 +151,7 @@ export class Blocks {
     this.lengths[block] = length;
   }
 
-  /** The referee gets to know all blocks that were made. */
+  /** The referee learns about all blocks that were made. */
   refresh() {
     const { words, more } = this;
     for (let block = 0; block < words[COUNT]; block += 1) this.#learn(block, words[LENGTHS + block]);
@@ -167,7 +167,7 @@ export class Blocks {
     this.lengths[block] = length;
   }
 
-  /** This thread knows none. */
+  /** This thread knows no blocks. */
   clear() {
     const { memory, lengths } = this;
     this.buffers = [];

@@ -13,13 +13,13 @@ const SLOTS = 32;
 const SLOT_BYTES = 65_536;
 const NO_SLOT = -1;
 
-// At the beginning there is a word for each slot: whether a copy is there.
+// The memory begins with a word for each slot: whether it has a copy.
 const HEAD_BYTES = SLOTS * Int32Array.BYTES_PER_ELEMENT;
 
 /**
  * @typedef {object} Sizes of what was written down of a run
- * @property {number} events how many its log has
- * @property {number} stores how many stand for ordinary writes
+ * @property {number} events how many events its log has
+ * @property {number} stores how many stores there are for ordinary writes
  * @property {number[]} calls how many each agent has made
  */
 

@@ -1,5 +1,5 @@
 // What each thread of a program is, and what keeps it alive while its event loop has nothing to do: texts of each thread,
-// in shared memory. The thread writes them as it begins and before it rests, and who reports of the run reads them.
+// in shared memory. The thread writes them as it begins and before it rests. The code that reports the run reads them.
 
 import { uncurried } from "../primordials.mjs";
 

@@ -1,12 +1,12 @@
-// What pilot runs have shown of each byte: whose it is, or that several agents use it. Only where agents can meet does
-// it matter who moves first. A byte of which nothing is known counts as one where they can.
+// What pilot runs have shown about each byte: whose it is, or that several agents use it. Who moves first matters only
+// where agents can meet. A byte counts as such a place if nothing is known about it.
 
 import { SCRIPT_LIMITS } from "../../script/limits.mjs";
 import { FLAG } from "./log.mjs";
 
 const { Uint8Array, SharedArrayBuffer } = globalThis;
 
-// What is known of a byte. 0: nothing. 1 to 16: only agent n - 1 uses it.
+// What is known about a byte. 0: nothing. 1 to 16: only agent n - 1 uses it.
 const ORDERED = 253;
 const READ_ALONE = 254;
 const SHARED = 255;
@@ -20,8 +20,7 @@ const MORE_PLACES = 2 ** 30;
 /**
  * @param {number} block
  * @param {number} byte
- * @returns {number} the number of a place: no other byte has it, except of blocks that no script can have, of which few
- * bytes have the same one
+ * @returns {number} the number of a place: no other byte has it; in blocks that no script can have, few bytes share one
  */
 export const placeNumber = (block, byte) => {
   const place = block * SCRIPT_LIMITS.bytes + byte;
@@ -39,7 +38,11 @@ export class KnownPlaces {
     this.known = new Uint8Array(memory);
   }
 
-  /** @param {number} block @param {number} byte @returns {number} the number by which what is known of it is found */
+  /**
+   * @param {number} block
+   * @param {number} byte
+   * @returns {number} the number by which one finds what is known about it
+   */
   placeOf(block, byte) {
     return placeNumber(block, byte);
   }

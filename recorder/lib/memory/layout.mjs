@@ -1,7 +1,7 @@
 // Where everything of a run lies in the board's words: 32-bit words in memory that all threads share.
 //
-// Only the thread that has the turn changes them, by plain writes. These are published by the atomic stores of GO,
-// TURN and ENDED that come after them: who is woken by one of these, or reads it, sees all that was written before.
+// Only the thread that has the turn changes them, by plain writes. The atomic stores of GO, TURN and ENDED that come
+// after them publish them: a thread that is woken by one of these, or reads it, sees all that was written before.
 
 /** Words of the run. */
 export const WORD = Object.freeze({
@@ -31,7 +31,9 @@ export const WORD = Object.freeze({
   EARLY_OTHER: 26,
   EARLY_CALL: 27,
   IS_SILENT: 28,
-  /** Of a program: how many threads have joined its run, how many messages were sent, and how many threads stand ready. */
+  /**
+   * Of a program: how many threads have joined its run, how many messages were sent, and how many threads are ready.
+   */
   JOINED: 29,
   MESSAGES: 30,
   THREADS: 31,

@@ -1,5 +1,5 @@
 // The log of a run: every access and every act on a place's waiters, in the order in which they were made, in shared
-// memory. Scripts, traces and the judging of races are read off it.
+// memory. Scripts and traces are made from it, and races are judged by it.
 
 const { ArrayBuffer, Int32Array, SharedArrayBuffer, Uint8Array } = globalThis;
 
@@ -9,14 +9,14 @@ export const WRITE = 5;
 
 /**
  * What an event is. `AGAIN`: an ordinary access that its agent has made before, since its last call. `ONLY_BY_TIME`:
- * the end of a wait by its time, where nothing else could move, though its word had changed or nobody else was left.
+ * the end of a wait by its time: nothing else could move, though its word had changed or no other agent was left.
  * `ASYNC`: a wait of Atomics.waitAsync joins the line, or it ends: nobody sleeps in it.
  */
 export const FLAG = Object.freeze({
   READS: 1, WRITES: 2, ATOMIC: 4, WAITERS: 8, AGAIN: 16, ONLY_BY_TIME: 32, ASYNC: 64,
 });
 
-/** Where there is no call of Atomics. */
+/** If there is no call of Atomics. */
 export const NO_CALL = 15;
 
 // How many events there are room for; the last ones are kept for calls of Atomics, which a script is made of.
@@ -54,14 +54,14 @@ const BEFORE_CALL = (1 << CALL_BITS) - 1;
  * @typedef {object} LogEvent
  * @property {number} what one of the board's events, or `READ` or `WRITE`
  * @property {number} agent
- * @property {number} kind of the view; see `Place` of what watches ordinary accesses
+ * @property {number} kind of the view; see `Place` in the code that watches ordinary accesses
  * @property {number} method the number of the call's function in `CALLS`, or `NO_CALL`
  * @property {number} flags
  * @property {number} call which of the agent's calls it is; of an ordinary access, how many began before
  * @property {number} block
  * @property {number} from its first byte in the block
  * @property {number} to the byte behind its last one
- * @property {number} source a number of the agent's source positions; 0 where none was taken
+ * @property {number} source a number of the agent's source positions; 0 if none was taken
  * @property {number} offset of the view, in bytes
  * @property {number} length of the view, in elements
  */
@@ -137,9 +137,9 @@ export class Log {
   }
 
   /**
-   * Lets an ordinary access go on to more bytes, in place of another event: one of the same agent by the same view on
-   * the bytes just before. That is the last one, or the one before where the agent has read and written in turn. Nobody
-   * else has moved since, so nothing is ordered otherwise.
+   * Adds more bytes to an ordinary access, in place of another event: to one of the same agent by the same view on the
+   * bytes just before. That is the last one, or the one before if the agent has read and written in turn. Nobody else
+   * has moved since, so nothing is ordered otherwise.
    * @param {number} what
    * @param {number} agent
    * @param {number} block
@@ -174,7 +174,7 @@ export class Log {
     for (let byte = from; byte < to; byte += 1) this.values[at + byte - from] = bytes[byte];
   }
 
-  // Of one event.
+  // About one event.
 
   /** @param {number} event @returns {Uint8Array} the bytes that it has read, if they were written down */
   valueAt(event) {

@@ -61,8 +61,9 @@ export class Memory {
   }
 
   /**
-   * Whether a byte of the block isn't as it is known. To compare a block that is longer than a script's would take long
-   * each time, and one that grows is as long as what is known at its end alone. There only what is seen is known.
+   * Whether a byte of the block isn't as it is known. Comparing a block that is longer than a script's would take long
+   * each time. One that grows is as long as its known bytes only when it has grown as far as it can. Of both kinds only
+   * what is seen is known.
    * @param {number} block
    */
   hasChanged(block) {

@@ -1,6 +1,6 @@
 // The blocks of a program that no script can have as they are: those behind the third one, those of more bytes than a
-// block of a script, and those that grow. Their number has no small limit. What is known of their bytes, with which
-// ones they began, and where their memory was made, stands in memory that grows as they come.
+// block of a script, and those that grow. Their number has no small limit. The bytes that are known, the bytes with
+// which they began, and where their memory was made, are in memory that grows as they come.
 
 import { SCRIPT_LIMITS } from "../../script/limits.mjs";
 import { uncurried } from "../primordials.mjs";
@@ -30,7 +30,7 @@ export const FIRST_MORE = SCRIPT_LIMITS.blocks;
 const MOST = 2 ** 20;
 const MOST_BYTES = 2 ** 31 - 2 ** 16;
 
-/** Of a longer one it isn't kept with which bytes it began. */
+/** The bytes with which a longer one began aren't kept. */
 const MOST_START = 2 ** 26;
 
 const NAME_BYTES = 1_024;
@@ -89,7 +89,7 @@ export class MoreBlocks {
   }
 
   /**
-   * Adds a block. Its known bytes may be those of an earlier run: they are to be taken over.
+   * Adds a block. Its known bytes may be those of an earlier run, until its own are taken over.
    * @param {number} length in bytes
    * @param {number} mostLength how long it can get
    * @param {string} place where its memory was made; empty: it isn't known
@@ -116,7 +116,7 @@ export class MoreBlocks {
   }
 
   /**
-   * A block begins with the bytes that are known of it now.
+   * A block begins with the bytes that are known now.
    * @param {number} block its number
    * @param {number} agent that has made and filled it
    * @param {number} position in the log
@@ -131,7 +131,7 @@ export class MoreBlocks {
     words[at + POSITION] = position;
   }
 
-  /** @param {number} block its number @returns {Start | undefined} undefined: it isn't known of so long a block */
+  /** @param {number} block its number @returns {Start | undefined} undefined: it isn't known for so long a block */
   start(block) {
     const { words, memory } = this;
     const at = this.#at(block);
@@ -140,7 +140,7 @@ export class MoreBlocks {
     return { bytes, agent: words[at + AGENT], position: words[at + POSITION] };
   }
 
-  /** @param {number} block its number @returns {Uint8Array} what is known of its bytes */
+  /** @param {number} block its number @returns {Uint8Array} the known bytes */
   known(block) {
     const at = this.#at(block);
     return new Uint8Array(this.memory.bytes, this.words[at + FIRST], this.words[at + LENGTH]);
@@ -198,7 +198,7 @@ export class MoreBlocks {
  * @param {ReturnType<typeof MoreBlocks.memory>} memory
  * @param {number} words how many bytes these are to have
  * @param {number} bytes how many the rest
- * @returns {boolean} false if the machine hasn't got so much
+ * @returns {boolean} false if the machine doesn't have so much
  */
 function isReserved(memory, words, bytes) {
   try {

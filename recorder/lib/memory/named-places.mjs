@@ -1,6 +1,6 @@
-// What pilot runs have shown of a program's memory. The program makes it anew in each run, and which number a block has
-// depends on the seed. So memory is known by a name that is the same in all runs: which thread made it, where, and
-// how many were made there before. Of memory without a name, and of what was added to one that grows, nothing is known.
+// What pilot runs have shown about a program's memory. The program makes it anew in each run, and the number of a block
+// depends on the seed. So memory is known by a name that is the same in all runs: which thread made it, where, and how
+// many were made there before. Nothing is known about memory without a name, or about what was added to one that grows.
 
 import { FLAG } from "./log.mjs";
 import { KnownPlaces, PLACES } from "./known-places.mjs";
@@ -72,7 +72,7 @@ export class NamedPlaces extends KnownPlaces {
   /**
    * @param {number} block
    * @param {number} byte
-   * @returns {number} the number of the place; `PLACES` if nothing is known of it
+   * @returns {number} the number of the place; `PLACES` if nothing is known about it
    */
   placeOf(block, byte) {
     const at = BLOCKS + BLOCK_WORDS * block;

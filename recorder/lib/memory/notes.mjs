@@ -1,5 +1,5 @@
-// What an agent did that nobody sees, for which the log has no place: each agent writes it as JSON to shared memory of
-// its own, and the referee reads it.
+// What an agent did that nobody sees. The log has no place for it: each agent writes it as JSON to shared memory of its
+// own, and the referee reads it.
 
 import { uncurried } from "../primordials.mjs";
 
@@ -19,7 +19,7 @@ const encoder = new TextEncoder();
  * @property {number} [calls] of Atomics on the memory
  * @property {number} [accesses] ordinary reads and writes of it
  * @property {string} [first] where the first of these calls and accesses was made
- * @property {string} [waits] where the run ended, since the agent would have waited on the memory
+ * @property {string} [waits] where the run ended because the agent would have waited on the memory
  */
 
 const BYTES = 2 ** 15;

@@ -1,8 +1,8 @@
-// The child processes of a thread that live, in shared memory: they are ended even if the thread never goes on.
+// The living child processes of a thread, in shared memory: they are ended even if the thread never goes on.
 
 const { Int32Array, SharedArrayBuffer } = globalThis;
 
-/** More at once aren't known. */
+/** If there are more at once, these aren't known. */
 const MOST = 256;
 
 export class Pids {
@@ -26,7 +26,7 @@ export class Pids {
     this.#replace(pid, 0);
   }
 
-  /** @returns {number[]} all of them, which are forgotten */
+  /** @returns {number[]} all of them; they are forgotten then */
   take() {
     const taken = [...this.numbers].filter((pid) => pid !== 0);
     this.numbers.fill(0);

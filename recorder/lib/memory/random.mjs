@@ -44,7 +44,7 @@ export class Random {
   }
 
   /**
-   * Goes over to a row that belongs to the seed's, and is another one for each number.
+   * Changes to another row of the same seed, which differs for each number.
    * @param {number} number
    */
   branch(number) {

@@ -18,13 +18,13 @@ const { asIntN, asUintN } = BigInt;
  * @property {number} offset the byte at which its view begins
  * @property {number} length how many elements its view has
  * @property {number} index
- * @property {number} [bytes] how many its places have, for strategies, if it touches more than one element
+ * @property {number} [bytes] how many bytes its places have, for strategies, if it touches more than one element
  * @property {(number | bigint)[]} operands
  * @property {number | undefined} limit the timeout of a wait, or the count of a notify
  * @property {number} [milliseconds] the timeout of a wait that has one, with its fraction; it isn't recorded
  */
 
-/** What a call can answer besides a value, as a report spells it. A word's position is its number in a record. */
+/** What a call can return besides a value, as a report spells it. A word's position is its number in a record. */
 const WORDS = Object.freeze(["ok", "not-equal", "timed-out", "TypeError", "RangeError"]);
 
 const { load: LOAD } = CALL_NUMBERS;
@@ -51,7 +51,7 @@ const HAS_LIMIT = 8;
 const JOINED = 9;
 const MOST_OPERANDS = 2;
 
-/** Where the last so many calls each come again within so few, they are a spin. */
+/** If the last so many calls each come again within so few, they are a spin. */
 export const SPIN_CALLS = 300;
 const SPIN_LENGTH = 6;
 
@@ -59,7 +59,7 @@ const ANSWER_VALUE = 2;
 const INDEX = 3;
 const LIMIT = 4;
 
-/** How many whole numbers of 32 bits say which call it is, and what it came to. */
+/** How many whole numbers of 32 bits say which call it is, and what it returned. */
 export const FINGERPRINT = 11;
 
 /** @param {number} value @returns {boolean} whether it is a whole number of 32 bits */
@@ -178,10 +178,11 @@ export class Records {
   }
 
   /**
-   * Writes down which call it is, and what it came to. Calls with equal fingerprints have the same texts.
+   * Writes down which call it is, and what it returned. Calls with equal fingerprints have the same texts.
    * @param {number} position
    * @param {Int32Array} into
-   * @returns {boolean} false for a BigInt and for a number that isn't whole or has more than 32 bits: then it hasn't
+   * @returns {boolean} false for a BigInt and for a number that isn't whole or has more than 32 bits: then there is no
+   * fingerprint
    */
   takeFingerprint(position, into) {
     const { words, numbers } = this;
@@ -206,7 +207,7 @@ export class Records {
     return true;
   }
 
-  /** @param {Records} into which as many are copied as it has room for */
+  /** @param {Records} into which as many are copied as fit */
   copyTo({ bigs, numbers, words }) {
     bigs.set(this.bigs.subarray(0, bigs.length));
     numbers.set(this.numbers.subarray(0, numbers.length));

@@ -18,12 +18,12 @@ const BYTES = 2 ** 20;
 /** The number of a position that isn't known, or that there is no room for. */
 export const UNKNOWN = 0;
 
-// Before the text stand how many of its bytes are used, and the position that the agent has marked.
+// Before the text come how many of its bytes are used, and the position that the agent has marked.
 const USED = 0;
 const MARKED = 1;
 const WORDS = 2;
 
-// A line's number in that of a position; below it stands its column.
+// A position's number has the line's above the column's.
 const COLUMNS = 2 ** 24;
 
 export class Sources {

@@ -25,8 +25,8 @@ export function viewKey({ kind, block, offset, length }) {
 }
 
 /**
- * A name by the view's kind and place: its kind, its block where there are several, its first byte where that isn't
- * the block's, and its length where it ends before the block does.
+ * A name by the view's kind and place: its kind, its block if there are several, its first byte if that isn't the
+ * block's, and its length if it ends before the block does.
  * @param {number[]} lengths of the blocks
  * @param {Range} view
  * @returns {string}
@@ -66,7 +66,10 @@ export function placedCallText({ kind, block, offset, length, index }, call) {
   return callText(`${viewKey(element)}`, call, 0);
 }
 
-/** @param {number | bigint} operand @returns {number} how long its text is: that of a short whole number is counted */
+/**
+ * @param {number | bigint} operand
+ * @returns {number} how long its text is: the digits of a short whole number are counted
+ */
 function operandLength(operand) {
   if (typeof operand === "bigint" || (operand | 0) !== operand) return operandText(operand).length;
   let length = operand < 0 ? 2 : 1;

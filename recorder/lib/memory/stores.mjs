@@ -1,9 +1,9 @@
 // Ordinary writes as a script has them: stores by the agent that wrote, before its next call. They are taken when the
 // agent makes that call, and only what has changed is taken.
 //
-// A few elements stand as they were written; many stand as the largest whole aligned elements. If more are taken
-// than a script can ever have, those of bytes that no call touches are thinned out: what the calls return doesn't rest
-// on them. If a call touches such a byte after all, what was last written there is taken up again.
+// A few elements are stored as they were written, many as the largest whole aligned elements. If there are more stores
+// than a script can ever have, those of bytes that no call touches are left out: what the calls return doesn't depend
+// on them. If a call touches such a byte after all, what was last written there is stored again.
 
 import { KINDS, SIZES } from "../../script/kinds.mjs";
 import { SCRIPT_LIMITS } from "../../script/limits.mjs";
@@ -11,10 +11,10 @@ import { WORD } from "./layout.mjs";
 
 const { Int32Array, Uint8Array, SharedArrayBuffer } = globalThis;
 
-// More don't come into a script, even where each of its calls is such a store of eight bytes that were written singly.
+// No script can have more of them, even if each of its calls is such a store of eight bytes that were written singly.
 const ROOM = SCRIPT_LIMITS.agents * SCRIPT_LIMITS.calls * 8;
 
-// Up to so many bytes that were written together stand as the elements that were written.
+// Up to so many bytes that were written together are stored as the elements that were written.
 const FEW_BYTES = 64;
 
 /** How many words a store has. */
@@ -40,14 +40,14 @@ const INT32 = KINDS.indexOf("Int32");
 const UNSIGNED = Object.freeze({ 1: UINT8, 2: KINDS.indexOf("Uint16"), 4: KINDS.indexOf("Uint32"),
   8: KINDS.indexOf("BigUint64") });
 
-/** The kind of a store that writes the bytes of an element of each kind. A float stands by its bytes. */
+/** The kind of a store that writes the bytes of an element of each kind. A float is stored by its bytes. */
 export const STORED = Object.freeze(KINDS.map((name, kind) => {
   return name.startsWith("Float") || name === "Uint8Clamped" ? UNSIGNED[SIZES[kind]] : kind;
 }));
 
 /**
  * @typedef {object} Store
- * @property {number} position in the log: it is done before the event that stands there
+ * @property {number} position in the log: it is done before the event there
  * @property {number} agent
  * @property {number} block
  * @property {number} byte
@@ -76,7 +76,7 @@ export class Stores {
     this.bytes = new Uint8Array(memory.entries);
     /** For each byte, the run in which a call touched it. */
     this.touched = new Int32Array(memory.touched);
-    /** For each byte of a thinned list, where a store that was left out would stand, and whose; else 0. */
+    /** For each byte of a thinned list, the position of a store that was left out, and whose it is; else 0. */
     this.dropped = new Int32Array(memory.dropped);
     this.words = words;
     this.buffers = buffers;
@@ -107,7 +107,7 @@ export class Stores {
    * @param {number} block
    * @param {number} from
    * @param {number} to
-   * @param {number} kind of the view that it was written by, or a greater number where that is no typed array
+   * @param {number} kind of the view that it was written by, or a greater number if that is no typed array
    * @returns {boolean} whether it has changed anything
    */
   takeWritten(agent, position, block, from, to, kind) {
@@ -129,7 +129,7 @@ export class Stores {
 
   /**
    * Takes the same of an access to a block that no script can have as it is. What is longer than a block of a script,
-   * or comes when the stores are lost, is known afterwards, and has no stores.
+   * or is written when the stores are lost, is known afterwards, but has no stores.
    * @param {number} agent
    * @param {number} position
    * @param {number} block
@@ -145,7 +145,7 @@ export class Stores {
   }
 
   /**
-   * Takes all that has changed in a block, in words where they are whole.
+   * Takes all that has changed in a block: whole words, and else bytes.
    * @param {number} agent
    * @param {number} position
    * @param {number} block
@@ -165,7 +165,7 @@ export class Stores {
    */
   touch(block, from, to) {
     const { touched, dropped, words } = this;
-    // Of other blocks either all stores are there, or they are lost.
+    // For other blocks, either all stores are there or they are lost.
     if (block >= this.firsts.length) return;
     for (let byte = from; byte < to; byte += 1) {
       const place = this.firsts[block] + byte;
@@ -182,7 +182,7 @@ export class Stores {
     return this.words[WORD.IS_THINNED] === ALL;
   }
 
-  /** @returns {boolean} whether some are lost that calls may rest on */
+  /** @returns {boolean} whether some are lost that calls may depend on */
   isLost() {
     return this.words[WORD.IS_THINNED] === LOST;
   }
@@ -197,13 +197,13 @@ export class Stores {
     return this.words[WORD.STORES];
   }
 
-  /** @param {Int32Array} into which as many are copied as it has room for */
+  /** @param {Int32Array} into which as many are copied as fit */
   copyTo(into) {
     into.set(this.entries.subarray(0, into.length));
   }
 
   /**
-   * Takes one element, where it has changed.
+   * Takes one element, if it has changed.
    * @param {number} agent
    * @param {number} position
    * @param {number} block
@@ -249,7 +249,7 @@ export class Stores {
 
   /** @param {number} agent @param {number} position @param {number} block @param {number} from @param {number} to */
   #drop(agent, position, block, from, to) {
-    // Of other blocks nobody knows which bytes calls touch.
+    // For other blocks nobody knows which bytes calls touch.
     if (block >= this.firsts.length) this.words[WORD.IS_THINNED] = LOST;
     for (let byte = from; byte < to; byte += 1) this.dropped[this.firsts[block] + byte] = ((position << 4) | agent) + 1;
   }

@@ -1,6 +1,6 @@
-// The tasks that the event loops of a program's threads take up: timers, immediates, and results of slow functions. They
-// are none of the accesses of a run, so they stand in a list of their own beside its log, in shared memory. They are
-// noted in runs that note their lines of code.
+// The tasks that the event loops of a program's threads take up: timers, immediates, and results of slow functions.
+// They are no accesses of a run, so they have a list of their own beside its log, in shared memory. They are noted in
+// runs that note their lines of code.
 
 import { uncurried } from "../primordials.mjs";
 
