@@ -1,5 +1,5 @@
-// Functions of the language as they were before any of the agents' code was loaded. Agents may replace what hangs on
-// Array.prototype, Reflect or Map.prototype; what runs beside them calls these.
+// Functions of the language as they were before any of the agents' code was loaded. Agents may replace the functions of
+// Array.prototype, Reflect or Map.prototype. Code that runs beside them calls these.
 
 const { prototype: functions } = Function;
 const { bind, call } = functions;
@@ -20,7 +20,7 @@ export const { isArray } = Array;
 export const hasOwn = uncurried(Object.prototype.hasOwnProperty);
 
 /**
- * What the getter of a property answers, as a function of the receiver.
+ * What the getter of a property returns, as a function of the receiver.
  * @param {object} owner
  * @param {string | symbol} name
  * @returns {(receiver: unknown) => any}
@@ -37,7 +37,7 @@ export const slotOf = (owner, name) => {
 export const TypedArray = /** @type {Constructor} */ (getPrototypeOf(Int8Array));
 const { prototype: typedArrays } = TypedArray;
 
-// Of a typed array, by the engine's own slots: they throw for what is none, except `tagOf`, which is undefined then.
+// Of a typed array, by the engine's own slots: they throw for anything else, except `tagOf`, which is undefined then.
 export const bufferOf = slotOf(typedArrays, "buffer");
 export const offsetOf = slotOf(typedArrays, "byteOffset");
 export const lengthOf = slotOf(typedArrays, "length");

@@ -13,7 +13,7 @@ import { Difference } from "./difference.mjs";
 /**
  * @typedef {object} Check
  * @property {boolean} checked whether the simulator has replayed the run, and judged whether it has unordered accesses,
- * and came to the same; or has done so before with a run that is the same byte for byte
+ * with the same result; or has done so before with a run that is the same byte for byte
  * @property {string} [unchecked] why it hasn't
  */
 
@@ -22,7 +22,7 @@ import { Difference } from "./difference.mjs";
 const FOUND_UNORDERED = 5;
 
 /**
- * Asks the simulator. That it stops in the middle is no answer.
+ * Asks the simulator. If it stops in the middle, that is no answer.
  * @param {Simulator} simulator
  * @param {import("../simulator/module.mjs").Job} job
  * @param {string} input

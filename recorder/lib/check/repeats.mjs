@@ -1,5 +1,5 @@
-// Runs that the module of the simulator has replayed and judged with success. The module's answer depends on the bytes
-// that it gets alone. So a run that is the same as one of them, byte for byte, isn't replayed once more.
+// Runs that the module of the simulator has replayed and judged with success. The module's answer depends only on the
+// bytes that it gets. So a run that is the same as one of them, byte for byte, isn't replayed once more.
 
 /** @typedef {import("../run/outcome.mjs").One} One */
 

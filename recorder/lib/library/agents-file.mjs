@@ -1,5 +1,5 @@
-// Whether a file can be a module of agents at all. Its text is looked at before it is loaded, since to load a program is
-// to run it.
+// Whether a file can be a module of agents at all. Its text is looked at before it is loaded, since loading a program
+// runs it.
 
 import { readFileSync } from "node:fs";
 import { fileURLToPath } from "node:url";
@@ -19,7 +19,7 @@ export function needsAgents(url, name) {
   try {
     text = readFileSync(fileURLToPath(url), "utf8");
   } catch {
-    // That it can't be read is reported by what loads it.
+    // If it can't be read, the code that loads it reports that.
     return;
   }
   if (HAS_DEFAULT.test(text)) return;

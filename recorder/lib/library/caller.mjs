@@ -1,4 +1,4 @@
-// Where the code stands that has called a function of the library.
+// Where the code is that has called a function of the library.
 
 import { dirname, isAbsolute } from "node:path";
 import { fileURLToPath } from "node:url";
@@ -14,12 +14,12 @@ const TYPED_IN = /^(\[eval|\[stdin|REPL\d)/;
 /**
  * The folder of the file that has called a function.
  * @param {Function} called
- * @returns {string | undefined} undefined where the innermost code that isn't node's or the library's is of no file
+ * @returns {string | undefined} undefined if the innermost code that isn't node's or the library's is in no file
  */
 export const folderOfCaller = (called) => folderOf(frameOfCaller(called));
 
 /**
- * Where the code stands that has called a function.
+ * Where the code is that has called a function.
  * @param {Function} called
  * @returns {{ folder: () => string | undefined, place: string | undefined }} its folder; its file, line and column
  */

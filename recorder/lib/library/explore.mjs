@@ -28,7 +28,7 @@ export function explore(options) {
 /**
  * The runs of some options, for a caller whose folder is known otherwise.
  * @param {ExploreOptions} options
- * @param {() => string | undefined} callersFolder from which a relative path is taken, if that is known
+ * @param {() => string | undefined} callersFolder from which a relative path is taken, if it is known
  * @returns {Runs}
  */
 export function runsOf(options, callersFolder) {

@@ -18,7 +18,7 @@ import { moduleUrlOf } from "./module-url.mjs";
  * @typedef {object} RunOptions what each run may have
  * @property {string[]} [args] for the agents, or for the program
  * @property {"mixed" | "uniform" | "partial-order" | `switch:${number}`} [strategy] who moves next; else "mixed"
- * @property {boolean} [everywhere] whether agents are switched before each call, also where none can meet another
+ * @property {boolean} [everywhere] whether agents are switched before each call, also where no agents can meet
  * @property {number | "never"} [timeouts] from 0 to 1: in how many of the draws the early end of a timed wait is
  * offered while something else can move; "never": no timed wait ends by itself; else 0.05
  * @property {number} [maxMoves] at most 100,000
@@ -42,8 +42,8 @@ import { moduleUrlOf } from "./module-url.mjs";
  * else "fail"
  * @property {"run" | "real"} [clock] the time that clocks give agents: the run's own or the machine's; else "run"
  * @property {WithBuffers} [init] fills the buffers before the run
- * @property {WithBuffers} [check] is called after a run that finished; what it throws fails the run, as does `false`
- * or an error that it answers
+ * @property {WithBuffers} [check] is called after a run that finished; what it throws fails the run, and so does
+ * `false` or an error that it returns
  */
 
 /**
@@ -52,7 +52,7 @@ import { moduleUrlOf } from "./module-url.mjs";
  * @property {undefined} [module]
  * @property {"fail" | "allow"} [stuck] whether a run that is stuck fails; else "fail"
  * @property {boolean} [web] whether the program is one for browsers; else it is one of node
- * @property {"all" | "none"} [programOutput] of which runs it is shown what the program prints; else of the first one
+ * @property {"all" | "none"} [programOutput] for which runs it is shown what the program prints; else for the first one
  * @property {"ordinary" | "relaxed"} [wasmAccesses] what plain aligned accesses of WebAssembly to shared memory are: C's
  * `volatile` is relaxed; else "ordinary"
  */
@@ -89,7 +89,7 @@ import { moduleUrlOf } from "./module-url.mjs";
 /**
  * @param {unknown} options
  * @param {import("../options/table.mjs").Taker} taker
- * @param {() => string | undefined} callersFolder from which a relative path is taken, where that is known
+ * @param {() => string | undefined} callersFolder from which a relative path is taken, if it is known
  * @returns {any} what is taken of each
  */
 function checkedBy(options, taker, callersFolder) {
@@ -162,7 +162,7 @@ export function exploreOptions(options, callersFolder) {
 }
 
 /**
- * The options of a trial, of which only its own two were looked at.
+ * The options of a trial. Only the two that are its own were looked at.
  * @template {OfTrial} Options
  * @param {Options} options
  * @returns {Options}

@@ -9,7 +9,7 @@ import { needsAgents } from "./agents-file.mjs";
 /**
  * The URL of a module.
  * @param {string | URL} module a URL, or the path of a file
- * @param {string} [folder] from which a relative path is taken; the working directory where it isn't given
+ * @param {string} [folder] from which a relative path is taken; the working directory if it isn't given
  * @returns {string}
  */
 export function moduleUrl(module, folder = process.cwd()) {
@@ -27,7 +27,7 @@ function isFile(url) {
 }
 
 /**
- * A URL's path, where it has one.
+ * A URL's path, if it has one.
  * @param {string} url
  */
 function pathOf(url) {
@@ -42,9 +42,9 @@ function pathOf(url) {
  * The URL of a module that somebody's code names.
  * @param {"module" | "program"} name of the option that names it
  * @param {string | URL} module a URL; an absolute path; or a path from the folder of that code
- * @param {() => string | undefined} folderOf that folder, where it is known
+ * @param {() => string | undefined} folderOf that folder, if it is known
  * @returns {string}
- * @throws {Refused} where there is no such file, or it isn't known which is meant
+ * @throws {Refused} if there is no such file, or it isn't known which is meant
  */
 export function moduleUrlOf(name, module, folderOf) {
   const isRelative = typeof module === "string" && !module.startsWith("file:") && !isAbsolute(module);

@@ -13,7 +13,7 @@ import { checkedOptions } from "./library-options.mjs";
 
 /**
  * @typedef {object} Shortening what a failing run that was to be shortened has besides
- * @property {import("../run/outcome.mjs").Outcome & Check} [original] the run as it was found by its seed, where the
+ * @property {import("../run/outcome.mjs").Outcome & Check} [original] the run as it was found by its seed, if the
  * outcome is that of a shorter one
  * @property {import("../shorter/shorten.mjs").Shortened} [shortened]
  */
@@ -23,7 +23,7 @@ import { checkedOptions } from "./library-options.mjs";
  * isn't asked. A relative path of the module is taken from the file whose code calls this function.
  * @param {RecordOptions} options
  * @returns {Promise<Outcome>} with all members; that of the shortest run if it was to be shortened; fails with Refused
- * for options that can't be, with a Difference where the simulator says something else, and with NoSabsim if the native
+ * for options that can't be, with a Difference if the simulator says something else, and with NoSabsim if the native
  * program is chosen and isn't there
  */
 export async function record(options) {

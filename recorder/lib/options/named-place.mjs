@@ -6,7 +6,7 @@ import { Refused } from "./refused.mjs";
 
 /** @typedef {{ kind: number, block: number, offset: number, length: number }} Place of a name: a view */
 
-/** A name is of an element or an array that the buffers don't have. */
+/** A name stands for an element or an array that the buffers don't have. */
 export class NoSuchPlace extends Refused {}
 
 const MEMBERS = ["kind", "buffer", "offset", "length"];

@@ -119,7 +119,7 @@ export class Names {
   /**
    * The element of a call, by its name.
    * @param {import("../memory/records.mjs").Call} call
-   * @returns {Named | undefined} undefined also where its view hasn't that element: it throws by that view alone
+   * @returns {Named | undefined} undefined also if its view doesn't have that element: it throws by that view alone
    */
   ofCall({ kind, block, offset, length, index }) {
     if (this.list.length === 0 || index < 0 || index >= length) return undefined;

@@ -1,7 +1,7 @@
-// Which known name somebody meant who has written one that isn't known.
+// Which known name was meant by one that isn't known.
 
 /**
- * A name without what is easily mistaken: its capitals, and what stands between its words.
+ * A name without what is easily mistaken: its capitals, and what is between its words.
  * @param {string} name
  */
 const plainOf = (name) => name.toLowerCase().replaceAll(/[^a-z0-9]/g, "");
@@ -49,7 +49,7 @@ function farness(plain, known) {
  * The known name that is nearest to another one.
  * @param {string} name
  * @param {string[]} known
- * @returns {string | undefined} undefined where none is near
+ * @returns {string | undefined} undefined if none is near
  */
 export function nearest(name, known) {
   const plain = plainOf(name);
@@ -59,8 +59,9 @@ export function nearest(name, known) {
 }
 
 /**
- * The known name that a name becomes if one slip in it is mended: its capitals, what stands between its words, or one letter that isn't
- * the first. So it is much nearer than `nearest` asks for: what has the name may be something of its own.
+ * The known name that a name becomes if one slip in it is mended: its capitals, what is between its words, or one
+ * letter that isn't the first. So it is much nearer than `nearest` asks for: else a name may well mean something of its
+ * own.
  * @param {string} name
  * @param {string[]} known
  * @returns {string | undefined}
@@ -74,7 +75,7 @@ export function slipOf(name, known) {
 }
 
 /**
- * What is said of a name that there isn't: the nearest one, or else all that there are.
+ * What is said about a name that isn't known: the nearest one, or else all that there are.
  * @param {string} name
  * @param {string[]} known
  * @returns {string}

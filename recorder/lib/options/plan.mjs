@@ -1,5 +1,5 @@
-// What a run is made of: how many agents, which buffers, who can block. It comes from the options, and where they
-// leave something open from the export `setup` of the agents' module.
+// What a run is made of: how many agents, which buffers, who can block. It comes from the options, and what they leave
+// open comes from the export `setup` of the agents' module.
 
 import { SCRIPT_LIMITS } from "../../script/limits.mjs";
 import { isWithin } from "./named-place.mjs";
@@ -68,7 +68,7 @@ function canBlockOf(noBlock, agents) {
 }
 
 /**
- * The plan of some options and a module's `setup`. What the options give goes before what the setup gives.
+ * The plan of some options and a module's `setup`. If both the options and the setup give something, the options count.
  * @param {{ agents?: number, buffers?: number[], noBlock?: number[] }} options
  * @param {unknown} setup
  * @returns {Plan}

@@ -1,2 +1,2 @@
-/** What was asked for can't be: a sentence says why. The command line answers it with status 2. */
+/** What was asked for can't be: a sentence says why. The command line ends with status 2 then. */
 export class Refused extends Error {}

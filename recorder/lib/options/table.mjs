@@ -1,5 +1,5 @@
-// All options, a row for each: what it may be, what serves where it isn't given, who takes it, whether summaries can be
-// joined only where it is the same, whether a replay depends on it, and the line of help. The command line, the library
+// All options, a row for each: what it may be, what serves if it isn't given, who takes it, whether summaries can be
+// joined only if it is the same, whether a replay depends on it, and the line of help. The command line, the library
 // and the summary go by it.
 
 import { DEFAULT_SECONDS, MOST_JOBS, SCRIPT_LIMITS } from "../../script/limits.mjs";
@@ -14,12 +14,12 @@ import {
  * @typedef {object} Option
  * @property {import("./kinds.mjs").Kind} kind
  * @property {Taker[]} of who takes it
- * @property {unknown} [ifNone] what serves where it isn't given
- * @property {boolean} [isShared] whether summaries can be joined only where it is the same
+ * @property {unknown} [ifNone] what serves if it isn't given
+ * @property {boolean} [isShared] whether summaries can be joined only if it is the same
  * @property {boolean} [isReplayed] whether a run by a kept script depends on it
- * @property {string} [word] its name on the command line, where that is another one
+ * @property {string} [word] its name on the command line, if that is another one
  * @property {string} [letter] a short name on the command line
- * @property {string[]} [help] what stands behind its name on the command line, and what it says
+ * @property {string[]} [help] what comes behind its name on the command line, and what it says
  */
 
 const MOST_SECONDS = 3_600;
@@ -39,7 +39,7 @@ const rule = (kind, ifNone, help) => ({ kind, of: ALL, ifNone, isShared: true, h
 /** @type {typeof rule} of each run, and of one by a kept script too */
 const replayed = (kind, ifNone, help) => ({ ...rule(kind, ifNone, help), isReplayed: true });
 
-/** @type {(words: string[], help: string[]) => Option} it is one of some words, the first where none is given */
+/** @type {(words: string[], help: string[]) => Option} it is one of some words, the first if none is given */
 const word = (words, help) => replayed(choice(words), words[0], help);
 
 /** @type {Readonly<Record<string, Option>>} by their names */
@@ -132,7 +132,7 @@ export const OPTIONS = Object.freeze({
 /** @param {Taker} taker @returns {[string, Option][]} its options, by their names */
 export const optionsOf = (taker) => Object.entries(OPTIONS).filter(([, { of }]) => of.includes(taker));
 
-/** @param {Taker} taker @returns {Record<string, any>} what serves where it isn't given, by the options' names */
+/** @param {Taker} taker @returns {Record<string, any>} what serves if it isn't given, by the options' names */
 export function defaultsOf(taker) {
   const given = optionsOf(taker).filter(([, { ifNone }]) => ifNone !== undefined);
   return Object.fromEntries(given.map(([name, { ifNone }]) => [name, ifNone]));

@@ -14,7 +14,7 @@ import { Simulator } from "../../wasm/simulator.mjs";
 
 const FOLDER = new URL("../../wasm/", import.meta.url);
 
-// Of the digest of the module's file.
+// How many digits of the digest of the module's file are used.
 const DIGITS_SHOWN = 12;
 
 /** One agent stores, and another waits in vain. */
@@ -64,7 +64,7 @@ export class ModuleSimulator {
     return `module ${module.slice(0, DIGITS_SHOWN)}`;
   }
 
-  /** Has the engine compile what a check needs, while nothing else is to be done. */
+  /** Makes the engine compile what a check needs, while nothing else is to be done. */
   prepare() {
     try {
       for (const job of /** @type {const} */ (["replay", "judge"])) this.run({ job }, SMALL_SCRIPT);

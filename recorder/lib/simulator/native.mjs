@@ -1,4 +1,4 @@
-// The native program, asked as the module is: for each job it is started once.
+// The native program, which takes the same jobs as the module: it is started once for each job.
 
 import { spawnSync } from "node:child_process";
 import { accessSync, constants, statSync } from "node:fs";
@@ -35,7 +35,7 @@ export class NativeSimulator {
       const { status, output } = this.#ended(["--version"], "");
       return `program ${status === 0 && output !== "" ? output.split("\n", 1)[0] : this.path}`;
     } catch {
-      // That it can't be run is an error when it is to check something.
+      // If it can't be run, that is an error when it is to check something.
       return `program ${this.path}`;
     }
   }

@@ -1,4 +1,4 @@
-// What a test says of a run that failed: the seed and how it ended, how it came to that, and where its files lie.
+// What a test says about a run that failed: the seed and how it ended, how it came to that, and where its files are.
 
 import { endingText } from "../../page/endings.mjs";
 import { digits } from "../run/words.mjs";
@@ -10,7 +10,7 @@ import { lastActs } from "./last-acts.mjs";
  * @param {number} about.passed how many runs of lower seeds didn't fail
  * @param {import("../simulator/chosen.mjs").Simulator} about.simulator
  * @param {string} about.module the URL of the agents' module
- * @param {string[]} about.kept what lies where, and what doesn't
+ * @param {string[]} about.kept which files are where, and which aren't kept
  * @returns {string}
  */
 export function failureText({ outcome, passed, simulator, module, kept }) {

@@ -1,5 +1,4 @@
-// The folder in which the failing run of a test is kept that names none: the same one each time, so that folders don't
-// pile up.
+// The folder for the failing run of a test that names no folder: the same one each time, so that folders don't pile up.
 
 import { createHash } from "node:crypto";
 import { lstatSync, mkdirSync, rmSync } from "node:fs";

@@ -18,7 +18,7 @@ const TITLE_OF_RACE = `${TITLE.slice(0, -1)}; > marks two accesses that nothing 
 const MOST_ACTS = 16;
 const MOST_CHARACTERS = 160;
 
-// In place of the number of a move, where an ordinary access isn't in the script.
+// In place of the number of a move, if an ordinary access isn't in the script.
 const NO_MOVE = "-";
 
 /**
@@ -86,7 +86,7 @@ function actsOf(lines, data) {
 }
 
 /**
- * The last acts, and those that are marked, with two dots where others are left out.
+ * The last acts, and those that are marked, with two dots for those that are left out.
  * @param {Act[]} acts
  * @returns {Omit<Act, "at">[]}
  */

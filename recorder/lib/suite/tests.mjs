@@ -11,7 +11,7 @@ import { tried } from "./trial.mjs";
  * A test of node:test that runs agents under the schedules of many seeds, up to the first run that fails.
  * @param {string} name
  * @param {TrialOptions} options
- * @returns {Promise<void>} as `test` of node:test answers it
+ * @returns {Promise<void>} as `test` of node:test returns it
  */
 export function testAgents(name, options) {
   return tested(name, options, callerOf(testAgents));
@@ -20,7 +20,7 @@ export function testAgents(name, options) {
 /**
  * Runs agents under the schedules of many seeds, up to the first run that fails, as a part of any test.
  * @param {TrialOptions} options
- * @returns {Promise<void>} fails with an AssertionError where a run fails
+ * @returns {Promise<void>} fails with an AssertionError if a run fails
  */
 export async function assertAgents(options) {
   await tried(options, callerOf(assertAgents));
@@ -30,7 +30,7 @@ export async function assertAgents(options) {
  * A test of node:test that runs a whole program under the schedules of many seeds, up to the first run that fails.
  * @param {string} name
  * @param {ProgramTrialOptions} options
- * @returns {Promise<void>} as `test` of node:test answers it
+ * @returns {Promise<void>} as `test` of node:test returns it
  */
 export function testProgram(name, options) {
   return tested(name, options, callerOf(testProgram));
@@ -39,7 +39,7 @@ export function testProgram(name, options) {
 /**
  * Runs a whole program under the schedules of many seeds, up to the first run that fails, as a part of any test.
  * @param {ProgramTrialOptions} options
- * @returns {Promise<void>} fails with an AssertionError where a run fails
+ * @returns {Promise<void>} fails with an AssertionError if a run fails
  */
 export async function assertProgram(options) {
   await tried(options, callerOf(assertProgram));

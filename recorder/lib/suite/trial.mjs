@@ -1,4 +1,4 @@
-// A trial of a module of agents, or of a program, in somebody's test suite: it fails as an assertion does where a run
+// A trial of a module of agents, or of a program, in somebody's test suite: it fails as an assertion does if a run
 // fails.
 
 import { AssertionError } from "node:assert";
@@ -35,7 +35,7 @@ class AgentsFailed extends AssertionError {
   /** @param {string} message @param {string | undefined} place where the trial is asked for */
   constructor(message, place) {
     super({ message });
-    // There are no two values that differ, and where the recorder has thrown this is nobody's affair.
+    // There are no two values that differ, and nobody needs to know where the recorder has thrown this.
     for (const name of Object.keys(this)) Object.defineProperty(this, name, { enumerable: false });
     const at = place === undefined ? "" : `\n\n    at ${place}`;
     this.stack = `AssertionError [ERR_ASSERTION]: ${message}${at}`;
@@ -86,7 +86,7 @@ function atCaller(problem, place) {
  * without that.
  * @param {TrialOptions | ProgramTrialOptions} given
  * @param {Caller} caller
- * @returns {Promise<string>} what is to be said where none failed; fails with an AssertionError where one did
+ * @returns {Promise<string>} what is to be said if none failed; fails with an AssertionError if one did
  */
 export async function tried(given, caller) {
   try {
@@ -159,7 +159,7 @@ function testOf({ name, place = "" }) {
  * @param {Runs["options"]} options of the runs
  * @param {() => string} folder where
  * @param {import("../simulator/chosen.mjs").Simulator} simulator
- * @returns {string[]} what lies where, and what doesn't
+ * @returns {string[]} which files are where, and which aren't kept
  */
 function keptLines({ failing, outcome }, options, folder, simulator) {
   try {
