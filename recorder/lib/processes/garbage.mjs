@@ -1,6 +1,6 @@
-// Garbage. Each thread has a heap of its own, and the engine lets lie there what has outlived a first while, up to some
+// Garbage. Each thread has a heap of its own. The engine doesn't collect what has outlived a first while, up to some
 // hundred megabytes. So that memory doesn't grow with the seeds, a process that is the recorder's own collects it
-// itself, in each of its threads, whenever that has done something often enough.
+// itself. It does so in each of its threads, whenever that has done something often enough.
 //
 // No flag of the engine differs from its default while a worker begins. Node has its own code compiled ahead, for the
 // default flags alone: with others each worker would compile it anew.
@@ -9,30 +9,31 @@ import { setFlagsFromString } from "node:v8";
 import { Script, createContext } from "node:vm";
 import { getEnvironmentData, setEnvironmentData } from "node:worker_threads";
 
-// It takes some milliseconds, so it is done seldom.
+// Collecting takes some milliseconds, so it is done seldom.
 const OFTEN_ENOUGH = 2_048;
 
 /** What shows the engine's own way to collect to all code of contexts that begin from now on, and what ends that. */
 const SHOWN = "--expose-gc";
 const HIDDEN = "--no-expose-gc";
 
-/** The room for young objects grows no more, until a worker begins. By itself it grows to 16 MB twice. */
+/** The room for young objects doesn't grow any more, until a worker begins. By itself it grows to 16 MB twice. */
 const NO_GROWTH = "--semi-space-growth-factor=1";
 const ASKED = /--expose[-_]gc/;
 
 /** The same in a worker: 2 MB twice, and as much for large objects. */
 const WORKER_LIMITS = Object.freeze({ maxYoungGenerationSizeMb: 6 });
 
-/** Under this key the threads of a process find whether it is the recorder's own. */
+/** Under this key the threads of a process find whether the process is the recorder's own. */
 const KEY = "sabsim: garbage is collected";
 
 /** @type {{ gc?: () => void }} */
 const realm = /** @type {any} */ (globalThis);
 
-/** @type {(() => void) | undefined} undefined: nobody has shown it yet */
+/** @type {(() => void) | undefined} undefined: no thread has shown it yet */
 let collect = realm.gc;
 
-// A worker that begins while another thread shows it finds it too, though nobody has asked for it. It can't be deleted.
+// A worker that begins while another thread shows it finds it too, though no code there has asked for it. It can't be
+// deleted.
 const isAsked = ASKED.test(`${process.execArgv.join(" ")} ${process.env.NODE_OPTIONS ?? ""}`);
 if (collect !== undefined && !isAsked) realm.gc = undefined;
 
@@ -62,7 +63,7 @@ function collector() {
   try {
     return apply(runInContext, new Script("globalThis.gc"), [createContext()]);
   } catch {
-    // Agents have broken what node needs for it. Then it is left to the engine.
+    // Agents have broken what node needs for it. Then collecting is left to the engine.
     return () => {};
   } finally {
     setFlagsFromString(HIDDEN);

@@ -1,5 +1,5 @@
 // How the process of a job is ended. It leads a group of processes: those that its agents or its checks have started
-// end with it. It isn't asked to end by itself, since it would await each thread that native code holds.
+// end with it. It isn't asked to end by itself, since it would then wait for each thread that native code holds.
 
 /**
  * Ends a process, and all of its group.

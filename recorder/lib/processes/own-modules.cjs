@@ -8,8 +8,8 @@ const { fileURLToPath } = require("node:url");
 const { compileFunction } = require("node:vm");
 
 /**
- * What begins a line of a module that imports or exports: what is imported, and whence; or the name, or several names,
- * of what is exported; or neither, where it has another form.
+ * The beginning of a line of a module that imports or exports. It has what is imported and from where; or the name, or
+ * several names, of what is exported; or neither, if the line has another form.
  */
 const STATEMENT = new RegExp([
   /^import (\{[^}]*\}|\w+) from "([^"]*)";$/,
@@ -36,7 +36,7 @@ const OWN = /^\..*\.mjs$/;
 /**
  * How a function's body gets what a module exports.
  * @param {string} url of the module that imports it
- * @param {string} from what stands in the import
+ * @param {string} from what the import has
  * @param {URL[]} imported to which the module is added, if it is the recorder's own
  * @returns {string}
  */
@@ -53,7 +53,7 @@ function ownerOf(url, from, imported) {
  * @param {string} url
  * @param {string} text
  * @returns {{ code: string, imported: URL[] }}
- * @throws {Error} where it imports or exports in another form, as `export let`
+ * @throws {Error} if it imports or exports in another form, such as `export let`
  */
 function bodyOf(url, text) {
   /** @type {string[]} */
@@ -87,7 +87,7 @@ function moduleAt(url) {
 }
 
 /**
- * A module, behind all that it imports.
+ * A module, after all that it imports.
  * @param {URL} url
  * @returns {OwnModule[]}
  */
@@ -109,8 +109,8 @@ function ownModules(url) {
 const made = new Map();
 
 /**
- * The same as `ownModules`, compiled here: in a thread that gets them the engine needn't do so. It does if a flag of the
- * engine differs by then. If a module is evaluated here too, it isn't compiled again.
+ * The same as `ownModules`, compiled here: in a thread that gets them the engine needn't compile them, unless a flag of
+ * the engine differs by then. If a module is evaluated here too, it isn't compiled again.
  * @param {URL} url
  * @returns {OwnModule[]}
  */
@@ -125,7 +125,7 @@ function compiledModules(url) {
 }
 
 /**
- * Evaluates modules in their order. One that is behind an `await import(..)` is read when that is evaluated.
+ * Evaluates modules in their order. A module in an `await import(..)` is read when that is evaluated.
  * @param {OwnModule[]} list
  * @param {Record<string, Record<string, any>>} modules what some of them export, which are there already
  * @returns {Record<string, any>} what the last one exports; nothing, if there is none

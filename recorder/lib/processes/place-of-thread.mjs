@@ -1,11 +1,11 @@
-// Where the code of a worker is that goes on without an end: the inspector of this process pauses it for a moment.
+// Where the code of a worker is that goes on without end: the inspector of this process pauses it for a moment.
 
 import { createRequire } from "node:module";
 
 /** @typedef {{ file: string, line: number, column: number }} Frame of a worker's code, line and column from 1 */
 /** @typedef {import("node:inspector").Session} Session */
 
-// How long it is awaited that the worker pauses. Code of the engine's own can't be paused.
+// How long the worker may take to pause. Code of the engine's own can't be paused.
 const MILLISECONDS = 5_000;
 
 /** @returns {Session | undefined} undefined if this node has no inspector */

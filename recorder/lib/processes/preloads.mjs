@@ -1,4 +1,4 @@
-// Whether code was there before the recorder. It may have put aside constructors and an `Atomics` that aren't watched.
+// Whether code was loaded before the recorder. It may have kept constructors and an `Atomics` that aren't watched.
 
 // What loads code before the program; several may stand in one word, as in NODE_OPTIONS.
 const LOADING = /(^|\s)(-r|--require|--import|--loader|--experimental-loader)(=|\s|$)/;

@@ -4,8 +4,8 @@ import { MessageChannel, Worker, receiveMessageOnPort } from "node:worker_thread
 import { workerLimits } from "./garbage.mjs";
 import { compiledModules } from "./own-modules.cjs";
 
-// How long an end is awaited. A call of native code, as one that waits for another program, can't be broken off: the
-// thread stays until that call returns.
+// How long to wait for an end. A call of native code, such as one that waits for another program, can't be broken off:
+// the thread stays until that call returns.
 const STOP_MILLISECONDS = 1_000;
 
 /**
@@ -45,7 +45,7 @@ export class Thread {
     this.inbox = [];
     /** @type {((item: Item) => void) | undefined} */
     this.waiting = undefined;
-    /** @type {unknown} what it threw, where that has ended it */
+    /** @type {unknown} what it threw, if that has ended it */
     this.error = undefined;
     /** @type {string | undefined} why it has ended, if it has */
     this.ended = undefined;
@@ -72,7 +72,7 @@ export class Thread {
   }
 
   /**
-   * Has a worker evaluate what a module of the recorder imports, before it is given the module itself.
+   * Makes a worker evaluate what a module of the recorder imports, before it is given the module itself.
    * @param {URL} root
    */
   giveAhead(root) {
@@ -103,7 +103,7 @@ export class Thread {
   }
 
   /**
-   * The next message; one of `ended` where there is none any more.
+   * The next message; one of `ended` if there is none any more.
    * @returns {Promise<Item>}
    */
   next() {
@@ -118,7 +118,7 @@ export class Thread {
   /**
    * Ends the worker. Nothing more is reported of it. A worker that native code holds is left alone after a while, and
    * ends later.
-   * @param {number} [milliseconds] how long its end is awaited at most
+   * @param {number} [milliseconds] how long to wait for its end at most
    * @returns {Promise<boolean>} whether it has ended
    */
   async stop(milliseconds = STOP_MILLISECONDS) {
