@@ -1,4 +1,4 @@
-// What a trace doesn't have of the ordinary accesses: by which array the code made each, and what it read. The page of
+// What a trace doesn't say about ordinary accesses: by which array the code made each, and what it read. The page of
 // a run shows it.
 
 import { KINDS, SIZES } from "../../script/kinds.mjs";

@@ -1,6 +1,6 @@
 // The bytes that a run's events are about, in ranges that are divided wherever an event's bytes begin or end. So each
-// event is about all bytes of a range or none of them, and the ranges have numbers without gaps, however large the
-// blocks are. Those of an event have numbers that follow each other.
+// event is about all bytes of a range or none of them. The ranges have numbers without gaps, however large the blocks
+// are. The ranges of an event have numbers that follow each other.
 
 import { FLAG } from "../memory/log.mjs";
 
@@ -8,7 +8,7 @@ import { FLAG } from "../memory/log.mjs";
 
 const EFFECTS = FLAG.READS | FLAG.WRITES | FLAG.WAITERS;
 
-/** More than any byte of a block has as its position. */
+/** More than the position of any byte of a block. */
 const MOST_BYTES = 2 ** 32;
 
 export class ByteRanges {
@@ -32,7 +32,11 @@ export class ByteRanges {
     return this.bounds.length;
   }
 
-  /** @param {number} block @param {number} byte with which an event begins, or behind its end @returns {number} */
+  /**
+   * @param {number} block
+   * @param {number} byte at which an event begins, or that comes after its end
+   * @returns {number}
+   */
   at(block, byte) {
     const { bounds } = this;
     const bound = block * MOST_BYTES + byte;

@@ -1,4 +1,4 @@
-// What a failing run failed by, in a few lines: so that runs that fail alike are counted together.
+// What made a failing run fail, in a few lines, so that runs that fail alike are counted together.
 
 /**
  * @typedef {object} Failure

@@ -39,14 +39,14 @@ function accessOf(flags) {
  * @typedef {object} RaceContext what is needed to report races
  * @property {import("./transcript.mjs").Run} run
  * @property {import("../../script/text.mjs").Transcript} transcript
- * @property {string[][]} sources the positions of each agent's code by their numbers; empty where none were taken
+ * @property {string[][]} sources the positions of each agent's code by their numbers; empty if none were taken
  * @property {import("./source-names.mjs").SourceNames} sourceNames
  */
 
 // More of one run aren't listed, but counted.
 const MOST_LISTED = 1_000;
 
-/** What is reported about accesses; what is asked for again and again is made out once. */
+/** What is reported about accesses. What is asked for again and again is found once. */
 class RaceTexts {
   /** @param {RaceContext} context */
   constructor({ run, transcript, sources, sourceNames }) {
@@ -59,7 +59,7 @@ class RaceTexts {
   }
 
   /**
-   * What a race calls an access: its line of code, or what it did.
+   * The name of an access in a race: its line of code, or what it did.
    * @param {number} event
    * @param {number} byte
    */
@@ -121,7 +121,7 @@ class RaceTexts {
 
 /**
  * The races of a run: each pair of lines of code once, and at most a thousand of them; the last one's text says how
- * many there are besides.
+ * many more there are.
  * @param {RaceContext} context
  * @returns {RaceReport[]} in the order of their later accesses
  */

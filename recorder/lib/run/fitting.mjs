@@ -1,5 +1,5 @@
-// Which ordinary writes stand in a run's script: all of them as they were written, where they fit; else as the largest
-// whole aligned elements; else only those of bytes that some call touches, which is what the answers rest on.
+// Which ordinary writes a run's script has: all of them as they were written, if they fit; else as the largest whole
+// aligned elements; else only those of bytes that some call touches, since the answers depend on these.
 
 import { KINDS, SIZES } from "../../script/kinds.mjs";
 import { SCRIPT_LIMITS } from "../../script/limits.mjs";
@@ -16,7 +16,7 @@ import { UNSEEN, transcriptOf } from "./transcript.mjs";
 /**
  * @typedef {object} Fitted
  * @property {Transcript} transcript
- * @property {string} [script] none where it doesn't fit
+ * @property {string} [script] none if it doesn't fit
  * @property {"all" | "touched"} [holds] which ordinary writes it has
  * @property {string[]} [bytes] of each block at the end, in hexadecimal digits, as the script leaves them
  * @property {string} [noScript] why there is no script
@@ -65,7 +65,7 @@ function isTouched(touched, store) {
 }
 
 /**
- * Stores that were taken at once by one agent, as few as there can be: the largest whole aligned elements.
+ * Stores that were taken at once from one agent, as few as possible: the largest whole aligned elements.
  * @param {Store[]} stores
  * @returns {Store[]}
  */
@@ -114,7 +114,7 @@ function addJoined(all, stores) {
 const isWhole = (places, at, size) => places[at] % size === 0 && places[at + size - 1] === places[at] + size - 1;
 
 /**
- * The bytes that some stores write; what they write there stands in `written`.
+ * The bytes that some stores write; what they write there is in `written`.
  * @param {Store[]} stores of one block
  * @returns {Int32Array} in rising order, each once
  */
@@ -160,7 +160,7 @@ function countsOf(log, agents) {
 
 /**
  * @param {ReturnType<typeof countsOf>} counts
- * @returns {string | undefined} why the calls alone can't stand in a script; undefined: they may
+ * @returns {string | undefined} why a script can't have even the calls alone; undefined: it may
  */
 function reasonAgainstCalls(counts) {
   if (counts.helpers > 0 && counts.calls.length > SCRIPT_LIMITS.agents) return TOO_MANY;
@@ -169,7 +169,7 @@ function reasonAgainstCalls(counts) {
 }
 
 /**
- * Why so many stores can't stand in a script with an agent's own calls; undefined where they may.
+ * Why a script can't have so many stores with an agent's own calls; undefined if it may.
  * @param {ReturnType<typeof countsOf>} counts
  * @param {Store[]} stores
  */
@@ -184,7 +184,7 @@ function reasonAgainst(counts, stores) {
 }
 
 /**
- * A run's transcript and its script, or why it can't be one. Where names alone stand against it, it goes without them.
+ * A run's transcript and its script, or why it can't be one. If only names prevent that, the script has no names.
  * @param {import("./transcript.mjs").Run} run
  * @param {Store[]} own
  * @param {Store[]} initial
@@ -211,8 +211,8 @@ function spelled(transcript) {
 }
 
 /**
- * The bytes at the end as a script leaves them: those that a call touches are the run's; another one is what the last
- * store has left there.
+ * The bytes at the end as a script leaves them: bytes that a call touches are the run's; any other byte is what the
+ * last store has left there.
  * @param {string[]} final
  * @param {Uint8Array[]} touched
  * @param {Store[]} stores

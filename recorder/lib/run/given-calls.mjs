@@ -1,4 +1,4 @@
-// Calls of what the library was given: functions that fill the buffers before a run, or look at them after it.
+// Calls of functions that the library was given. They fill the buffers before a run, or look at them after it.
 
 import { foundBy, leftOpen } from "../agent/answer.mjs";
 
@@ -14,7 +14,7 @@ import { foundBy, leftOpen } from "../agent/answer.mjs";
 export function problemIn(call, buffers, about) {
   try {
     const answer = call?.([...buffers], about);
-    // That it is a promise is reported; what comes of it is nobody's.
+    // It is reported that the result is a promise; nobody needs what becomes of it.
     Promise.resolve(answer).catch(() => {});
     return leftOpen(answer, "it") ?? foundBy(answer) ?? "";
   } catch (thrown) {

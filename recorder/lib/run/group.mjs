@@ -35,16 +35,16 @@ import { within } from "./within.mjs";
  * @property {"fail" | "allow"} [stuck] whether a run of a program that is stuck fails
  * @property {boolean} [isProgram] whether the module is a program that starts its threads itself
  * @property {boolean} [web] whether the program is one for browsers
- * @property {"all" | "none"} [programOutput] of which runs it is shown what a program prints; else of the first one
+ * @property {"all" | "none"} [programOutput] for which runs it is shown what a program prints; else for the first one
  * @property {"ordinary" | "relaxed"} [wasmAccesses] what plain aligned accesses of WebAssembly to shared memory are
  * @property {string[]} args for the agents
  * @property {number} [agents] how many
  * @property {number[]} [buffers] their bytes
  * @property {number[]} [noBlock] agents that can't block
  * @property {string} [strategy] how it is drawn who moves next, as `waysOf` takes it
- * @property {boolean} [everywhere] whether agents are switched before each call, also where none can meet another
+ * @property {boolean} [everywhere] whether agents are switched before each call, also where no agents can meet
  * @property {number | "never"} [timeouts] in how many draws the end of a timed wait is offered while something else can
- * move; never: it isn't, and not where nothing else can move either
+ * move; never: it isn't, even if nothing else can move
  * @property {number} maxMoves
  * @property {number} seconds for how long an agent may make no call
  * @property {boolean} fresh
@@ -57,10 +57,10 @@ import { within } from "./within.mjs";
  * @property {boolean} [wantsMeetings] whether the lines are wanted that came one after the other at a place
  * @property {boolean} [isBrief] whether outcomes of runs that pass have no bytes and answers
  * @property {OfBuffers} [init] fills the buffers before each run, in place of the module's
- * @property {OfBuffers} [check] throws where the buffers aren't right after a run that finished, in place of the
+ * @property {OfBuffers} [check] throws if the buffers aren't right after a run that finished, in place of the
  * module's
  * @property {number} [loadSeconds] how long the module may take to be loaded
- * @property {number} [logEvents] how many events the log has room for; as `Log.memory` has it where it isn't given
+ * @property {number} [logEvents] how many events the log has room for; as `Log.memory` has it if it isn't given
  */
 
 /**
@@ -165,7 +165,7 @@ export class Group {
   }
 
   /**
-   * Has the referee do something, and does what it asks for meanwhile.
+   * Asks the referee to do something, and does what the referee asks for meanwhile.
    * @param {import("./referee-thread.mjs").Work} work
    * @param {(outcome: Outcome, judgement: Judgement | undefined, aside: Aside) => void} onOutcome
    * @param {(outcome: Outcome) => void} [onFailing] as above
@@ -255,7 +255,7 @@ export class Group {
   }
 
   /**
-   * Has the pilots made. Meanwhile the workers load the module that the agents have afterwards.
+   * Asks for the pilots. Meanwhile the workers load the module that the agents have afterwards.
    * @param {() => void} meanwhile
    */
   async #learn(meanwhile) {
@@ -305,7 +305,7 @@ export class Group {
   }
 
   /**
-   * What the referee goes by.
+   * What the referee needs to make runs.
    * @param {{ hasInit: boolean, hasCheck: boolean }} module
    */
   refereeOptions({ hasInit, hasCheck }) {

@@ -1,5 +1,5 @@
 // Which helper of a script makes each wait of Atomics.waitAsync. A helper serves one thread, and makes one wait at a
-// time. So a thread has as many helpers as it has such waits that are pending at once.
+// time. So a thread has as many helpers as such waits that are pending at once.
 
 import { ENDS, helpersView } from "../../script/helpers.mjs";
 import { KINDS, SIZES } from "../../script/kinds.mjs";

@@ -1,5 +1,5 @@
-// A run whose memory stands in windows: its log, calls, stores and bytes are about the blocks of the script in place of
-// the program's buffers. All that makes scripts and traces takes it as any other run.
+// A run whose memory is shown in windows: its log, calls, stores and bytes are about the blocks of the script in place
+// of the program's buffers. All code that makes scripts and traces takes it as any other run.
 
 import { KINDS, SIZES } from "../../script/kinds.mjs";
 import { HELD, MESSAGES } from "../memory/blocks.mjs";
@@ -52,7 +52,7 @@ function callOutside({ flags, method, agent, call }, records) {
 
 /**
  * The windows that a run needs: what it touches. A call outside of its view needs the whole view, since it throws by
- * its length. What a buffer had in it before it was shared needs a first page to stand in: all is ordered with it.
+ * the view's length. What a buffer had in it before it was shared needs a first page: all is ordered with it.
  * @param {Run} run whose blocks are the program's
  * @returns {Windows | undefined} undefined: no script has room for all
  */
@@ -81,7 +81,7 @@ class Placing {
   }
 
   /**
-   * A call gets a view of a whole block, except where it throws by its view's length.
+   * A call gets a view of a whole block, unless it throws by its view's length.
    * @param {Call} call
    * @returns {Placed}
    */
@@ -140,7 +140,9 @@ class PlacedRecords {
     return this.records.doneAt(position);
   }
 
-  /** @returns {boolean} that it hasn't taken one: the same call may be at another place in the next run */
+  /**
+   * @returns {boolean} whether it has taken one: it hasn't, since the same call may be at another place in the next run
+   */
   takeFingerprint() {
     return false;
   }
@@ -189,7 +191,7 @@ function runIn(windows, run, names) {
  * @param {Window} window
  * @param {number} kind of the elements that are stored; what isn't a whole one is stored as bytes
  * @param {import("../memory/more-blocks.mjs").Start} start of its buffer
- * @returns {Store[]} none where all is zero
+ * @returns {Store[]} none if all is zero
  */
 function startOf({ from, to, block, byte }, kind, { bytes, agent, position }) {
   /** @type {Store[]} */
@@ -224,7 +226,7 @@ function storesIn(kinds, windows, stores, { more }) {
       const first = starts.flatMap(({ window, kind, start }) => {
         return start === undefined ? [] : startOf(window, kind, start);
       });
-      // What a buffer had in it where nobody touches it stands nowhere.
+      // No script shows what a buffer had in it where no agent touches it.
       const touched = stores.list().filter(({ block, byte }) => windows.at(block, byte) !== undefined);
       const own = touched.map((store) => ({ ...store, ...windows.placeOf(store.block, store.byte) }));
       return [...first, ...own].sort((one, other) => one.position - other.position);
@@ -254,7 +256,7 @@ export function inWindows(windows, made, blocks, called) {
   const run = runIn(windows, made.run, windowNames(kinds, called));
   const stores = storesIn(kinds, windows, made.stores, blocks);
   return {
-    // What its buffers had in them at first stands there as ordinary writes.
+    // What its buffers had in them at first is shown as ordinary writes.
     run: { ...run, isOrdinary: run.isOrdinary || stores.list().length > 0 },
     stores,
     bytes: bytesIn(windows, blocks),

@@ -9,7 +9,7 @@ const UINT8 = KINDS.indexOf("Uint8");
  * Takes over what the buffers were filled with.
  * @param {import("../memory/memory.mjs").Memory} memory whose known bytes are all zero
  * @param {number} agent
- * @returns {import("../memory/stores.mjs").Store[]} words where they are whole, and else bytes; none where all is zero
+ * @returns {import("../memory/stores.mjs").Store[]} whole words, and else bytes; none if all is zero
  */
 export function initialStores(memory, agent) {
   /** @type {import("../memory/stores.mjs").Store[]} */

@@ -1,4 +1,4 @@
-// Calls as scripts and reports have them, remembered from run to run: the same call that came to the same has the same
+// Calls as scripts and reports have them, remembered from run to run: the same call with the same result has the same
 // texts. Most programs make few different ones.
 
 import { flat } from "../../script/flat.mjs";
@@ -11,8 +11,7 @@ import { FINGERPRINT } from "../memory/records.mjs";
 /**
  * @typedef {object} KnownCall
  * @property {Done} done
- * @property {SpelledView} [view] that a script with the call needs; undefined: it has a name, and so stands in each
- * script
+ * @property {SpelledView} [view] that a script with the call needs; undefined: it has a name, and so each script has it
  */
 
 // When there are more, all are forgotten.

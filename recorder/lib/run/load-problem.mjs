@@ -8,7 +8,7 @@ const NOT_LOADED_AS_IT_IS = /ERR_UNKNOWN_FILE_EXTENSION|ERR_UNSUPPORTED_TYPESCRI
 const COMPILE = "it is TypeScript, which this node doesn't load: compile it first, and give the .js file. Source maps "
   + "are followed, so lines are those of the .ts file";
 
-// What only code has that starts threads, or that is one.
+// What only code has that starts threads, or that runs in one.
 const OF_PROGRAMS = /\bnew Worker\(|\b(?:workerData|parentPort|isMainThread)\b/;
 const PROGRAM = "It looks like a program, or like the file of its Worker. A module of agents starts no threads: it only "
   + "exports what one thread does, as `export default function agent({ buffers, agent }) { .. }`";
@@ -25,7 +25,7 @@ function looksLikeProgram(url) {
 /**
  * @param {string} module the URL of the agents' module
  * @param {string} problem what its worker reports, in words
- * @returns {string} a sentence, with what helps behind it
+ * @returns {string} a sentence, and then what helps
  */
 export function loadProblem(module, problem) {
   const cant = `${module} can't be loaded`;

@@ -10,7 +10,7 @@ import { placeNumber, PLACES } from "../memory/known-places.mjs";
 // A pair's number: that of the earlier position, and below it that of the later one.
 const POSITIONS = 2 ** 24;
 
-/** Where an access stands in the code, where that isn't known. */
+/** In place of an access's position in the code, if that isn't known. */
 const UNKNOWN = "?";
 
 /** What the log has in place of the number of a position, if an agent noted none. */

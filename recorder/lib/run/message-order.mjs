@@ -1,12 +1,12 @@
 // Which places agents use only in an order that their messages give: what one has done before it sends a message comes
-// before all that another one does after it has received it. No draw decides who is first there.
+// before all that another one does after it has received that. There no draw decides which is first.
 
 import { PLACES } from "../memory/known-places.mjs";
 
 export class MessageOrder {
   /** @param {number} agents how many */
   constructor(agents) {
-    /** For each agent, how far it has come, and how far each other one had come in what it knows. */
+    /** For each agent, how far it has come, and how far it knows each other one to have come. */
     this.clocks = Array.from({ length: agents }, () => new Uint32Array(agents));
     /** @type {Map<number, Uint32Array>} by messages: how far all had come when it was sent */
     this.sent = new Map();

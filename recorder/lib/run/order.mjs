@@ -4,7 +4,7 @@
 
 /**
  * Whether a failing run comes before another. One that fails only after the early end of a timed wait comes behind all
- * others: it needs a time to pass that hardly ever does. Else the lower seed comes first.
+ * others: it needs a time to pass that hardly ever passes. Else the lower seed comes first.
  * @param {Failing} one
  * @param {Failing} other
  * @returns {boolean}

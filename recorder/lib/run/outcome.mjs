@@ -7,7 +7,7 @@
  * @property {number} seed
  * @property {Ending} ending
  * @property {boolean} fails whether it is a failing run, by its ending and by what is allowed
- * @property {string} detail why it ended so; empty where all agents finished
+ * @property {string} detail why it ended so; empty if all agents finished
  * @property {number} moves
  * @property {number} calls of Atomics that were begun
  * @property {number} ordinary how many ordinary reads and writes were seen
@@ -23,9 +23,9 @@
  * @property {string} [noScript] why there is no script
  * @property {import("./in-windows.mjs").NamedWindow[]} [windows] of a program whose memory is more than a script can
  * have: which bytes of its buffers stand where in the script's blocks and in the trace
- * @property {import("./failure.mjs").Failure} [failure] what a run that fails failed by, in short; a race is in `races`
+ * @property {import("./failure.mjs").Failure} [failure] what made the run fail, in short; a race is in `races`
  * @property {import("./standing.mjs").Standing[]} [standing] what each agent is at in a deadlock, or at a limit
- * @property {string} [report] what sabsim must answer
+ * @property {string} [report] what sabsim must report
  * @property {string} [trace] each event as an object of JSON, a line each
  * @property {import("./accesses.mjs").Accesses} [accesses] by which arrays the trace's ordinary accesses were made, and
  * what they read
@@ -33,7 +33,7 @@
  * @property {import("./source-names.mjs").SourceText[]} [sources] the code of each file that the trace names
  * @property {Task[]} [tasks] of a program that has its trace: what its event loops have taken up besides messages
  * @property {string[]} [threads] of a program: what each thread is, its file and where it was started; empty: the first
- * @property {number[]} [row] which agent moved with each draw, in order, where that is asked for
+ * @property {number[]} [row] which agent moved with each draw, in order, if that is asked for
  * @property {string} [onlyIf] of a failing run in which a timed wait has ended early: what time must pass for that
  * @property {import("./timed-ends.mjs").OnlyByTime[]} [onlyByTime] waits that have ended only because their time was up
  * @property {import("./timed-ends.mjs").Place[]} [served] places at which agents of the run wait, and which other
@@ -51,7 +51,7 @@
  */
 
 /**
- * @typedef {object} Covering what an outcome has besides, where coverage is looked for
+ * @typedef {object} Covering what an outcome has besides, if coverage is looked for
  * @property {string[]} [meetings] pairs of lines that came one after the other at a place, by different agents; those
  * that this group's runs before haven't shown
  * @property {number} [unplaced] of how many accesses the line isn't known
@@ -78,7 +78,7 @@
  * @property {{ agent: number, block: number, byte: number }[]} waiting who waits where in a deadlock, in order of
  * arrival
  * @property {import("../board/row.mjs").Stray} [stray] how it has strayed from the row that it was to go by exactly
- * @property {Again} [again] what a program's run came to in fresh threads, if it was made once more there
+ * @property {Again} [again] the result of a program's run in fresh threads, if it was made once more there
  */
 
 /**
@@ -91,7 +91,7 @@
 
 /**
  * @typedef {object} Judgement whether the recorder has found unordered accesses in a run, and in which events it has
- * looked; beside an outcome that has a script, where ordinary accesses are watched
+ * looked; beside an outcome that has a script, if ordinary accesses are watched
  * @property {boolean} racy whether it has found any
  * @property {Int32Array} events those of the run's log
  * @property {boolean} isInScript whether the script has all of them, and no others

@@ -57,7 +57,7 @@ export class Pilots {
     this.writers = new Uint16Array(PLACES);
     /** @type {number[]} the places that any agent uses: few of all that there are */
     this.used = [];
-    /** Of places where agents meet, though by these bits they don't: whose calls matter there, as bits. */
+    /** For places where agents meet, though by these bits they don't: whose calls matter there, as bits. */
     this.marked = new Uint16Array(PLACES);
     this.order = new MessageOrder(agents);
   }
@@ -69,7 +69,7 @@ export class Pilots {
   add(log) {
     this.order.begin(this.used);
     for (let event = 0; event < log.length; event += 1) this.#count(log, event);
-    // A program's agents often use a place in order, and only of some the calls stand beside what others do.
+    // A program's agents often use a place in order. Only the calls of some come beside what others do.
     const beside = Array.from({ length: this.agents }, (_, agent) => new Beside(this.isProgram ? 1 << agent : ALL));
     for (let event = 0; event < log.length; event += 1) this.#mark(log, event, beside[log.agentAt(event)]);
   }
@@ -169,7 +169,7 @@ export class Pilots {
   /** @param {number} place @returns {number} the agents whose calls there need no draw, as bits */
   #alone(place) {
     const alone = this.#isShared(place) ? 0 : this.users[place] & ~this.marked[place];
-    // What is known of a place is that of one agent, or of all.
+    // What is known about a place holds for one agent, or for all.
     return isOne(alone) || this.marked[place] === 0 ? alone : 0;
   }
 

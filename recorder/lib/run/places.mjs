@@ -1,4 +1,4 @@
-// What was accessed, and when, as people read it.
+// What was accessed, and when, in words.
 
 import { CALLS, KINDS, SIZES } from "../../script/kinds.mjs";
 import { FLAG, NO_CALL } from "../memory/log.mjs";

@@ -10,7 +10,7 @@
 /**
  * The names of blocks, by the places where their memory was made.
  * @param {string[]} places file, line and column; empty: it isn't known
- * @returns {string[]} file and line, with a number where several were made at one line
+ * @returns {string[]} file and line, with a number if several were made at one line
  */
 export function blockNames(places) {
   const lines = places.map((place) => place.replace(/:\d+$/, ""));

@@ -7,8 +7,9 @@
 // order; an atomic write before an atomic read of the same bytes that reads from it; the leaving of a critical section
 // of a place's waiters before each later entering; and what follows by going from one to the next.
 //
-// An agent's clock says for each agent up to which of its times all that it did happens before what comes next. An
-// agent's own time goes on when it lets others know: with an atomic write, and with the end of a critical section.
+// An agent's clock has a time for each agent. All that this agent did up to that time happens before what comes next.
+// An agent's own time goes on when others can learn what it did: with an atomic write, and with the end of a critical
+// section.
 
 import { SCRIPT_LIMITS } from "../../script/limits.mjs";
 import { FLAG } from "../memory/log.mjs";
@@ -47,7 +48,7 @@ const SORT = 3;
 const SOURCE = 4;
 const NEXT = 5;
 
-// In place of an access: none is alike, and nothing more is wanted.
+// In place of an access: no access is alike, or no more races are wanted.
 const NONE = -1;
 const ENOUGH = -2;
 
@@ -55,7 +56,7 @@ const WRITES = 1;
 const READS = 2;
 
 /**
- * An access's sort: what it does, and its size where it is atomic, which fixes its bytes; else 0.
+ * An access's sort: what it does, and its size if it is atomic, which fixes its bytes; else 0.
  * @param {number} flags
  * @param {number} size
  */
@@ -69,7 +70,7 @@ export class Judge {
     /** For each byte, in which run it was accessed last, and the accesses that are remembered. */
     this.runs = new Int32Array(PLACES);
     this.heads = new Int32Array(PLACES);
-    /** For each byte, the clock that its last writer left where it was atomic, and its size; else -1. */
+    /** For each byte, the clock that its last writer left if the write was atomic, and its size; else -1. */
     this.written = new Int32Array(PLACES);
     this.sizes = new Uint8Array(PLACES);
     this.accesses = new Numbers();
@@ -322,7 +323,7 @@ class Lines {
     this.views = new Map();
   }
 
-  /** @param {number} event @returns {number} the same where agent, line and what is done are the same */
+  /** @param {number} event @returns {number} the same if agent, line and what is done are the same */
   of(event) {
     const { log } = this;
     const source = log.sourceAt(event);

@@ -1,5 +1,5 @@
-// The thread of a group's referee. None of the agents' code is in it. So when a group ends whose referee has done its
-// work, the next group of the process can have the thread.
+// The thread of a group's referee. None of the agents' code is in it. So the next group of the process can have the
+// thread, when a group ends whose referee has done its work.
 
 import { begunThread, keepThread, keptThread } from "../processes/thread.mjs";
 import { within } from "./within.mjs";
@@ -13,7 +13,7 @@ const REFEREE_MODULE = new URL("./referee.mjs", import.meta.url);
 const MOST_SECONDS = 1;
 
 export class RefereeThread {
-  /** Whether it has got what the group's runs go by. */
+  /** Whether it has got what it needs to make the group's runs. */
   #isGiven = false;
 
   /** How many messages are still to come before it can be another group's, besides the one that it has finished. */
@@ -32,7 +32,7 @@ export class RefereeThread {
     if (kept === undefined) this.thread.give(REFEREE_MODULE);
   }
 
-  /** @param {object} given what the group's runs go by */
+  /** @param {object} given what it needs to make the group's runs */
   give(given) {
     this.#isGiven = true;
     // It can't be another group's before it has done some work of this one.

@@ -1,4 +1,4 @@
-// The referee's thread. It has a run made for each seed that it gets, and sends its outcome. If lines of code are
+// The referee's thread. It makes a run for each seed that it gets, and sends its outcome. If lines of code are
 // wanted, the run is made once more by the same seed, and then each access notes its line.
 
 import { workerData } from "node:worker_threads";
@@ -157,7 +157,8 @@ class Referee {
   }
 
   /**
-   * Whether a program's run may have gone as it did for what earlier runs have left in the globals of its threads.
+   * Whether a program's run may have gone as it did because of what earlier runs have left in the globals of its
+   * threads.
    * @param {Wanted} wanted
    * @param {Made} found
    */
@@ -264,7 +265,7 @@ function nameIn(outcome, { names }) {
 /** @param {Made} found @returns {import("./outcome.mjs").Aside} */
 const asideOf = ({ waiting, stray }) => ({ waiting, stray });
 
-/** Awaits what it goes by, and then its work: one group after the other. */
+/** Waits for what it needs to make runs, and then for its work: one group after the other. */
 export function main() {
   const { port } = workerData;
   port.once("message", async (/** @type {Omit<import("./run-maker.mjs").Given, "port">} */ given) => {

@@ -1,5 +1,5 @@
-// Makes the runs of a group, by a seed or by a row. It clears what an earlier run left, has `init` called, waits for
-// the end, looks for unordered accesses, and has `check` called.
+// Makes the runs of a group, by a seed or by a row. It clears what an earlier run left, calls for `init`, waits for the
+// end, looks for unordered accesses, and calls for `check`.
 
 import { Board } from "../board/board.mjs";
 import { strayText } from "../board/row.mjs";
@@ -185,7 +185,7 @@ export class RunMaker {
   }
 
   /**
-   * Has workers started anew, and waits until they are there.
+   * Asks for new workers, and waits until they are there.
    * @param {number[]} gone
    */
   async replace(gone) {
@@ -233,7 +233,7 @@ export class RunMaker {
   }
 
   /**
-   * Has the module's `init` or `check` run, or the library's.
+   * Asks for the module's `init` or `check` to be run, or the library's.
    * @param {"init" | "check"} name
    * @returns {Promise<string>} what went wrong in it, as "threw ..", or nothing
    */
@@ -270,7 +270,7 @@ export class RunMaker {
     return this.agents.filter((agent) => !this.board.turn.isBack(agent, GRACE_MILLISECONDS));
   }
 
-  /** @param {object} message @returns {Promise<any>} what another thread answers to a message */
+  /** @param {object} message @returns {Promise<any>} what another thread replies to a message */
   #answered(message) {
     return new Promise((done) => {
       this.port.once("message", done);
@@ -280,8 +280,7 @@ export class RunMaker {
 }
 
 /**
- * How a run ends in which agents did what nobody saw. What an agent threw stands behind that; another ending isn't
- * known.
+ * How a run ends in which agents did what nobody saw. What an agent threw comes after that; another ending isn't known.
  * @param {string} unseen
  * @param {Made} found
  * @returns {Made}

@@ -38,7 +38,9 @@ export class RunReporter {
     this.states = new FinalStates(plan.names);
     /** @type {{ found: Made, written: Written | undefined } | undefined} what was asked for last */
     this.last = undefined;
-    /** Whether each ordinary access is seen: code from before the recorder may make some that aren't watched. */
+    /**
+     * Whether each ordinary access is seen: code that was loaded before the recorder may make some that aren't watched.
+     */
     this.seesAll = options.ordinary === "watch" && !preloads();
   }
 
@@ -129,7 +131,7 @@ export class RunReporter {
 
   /**
    * Copies of what was written down of a run, if another thread can make its script and report of them. It can if the
-   * run has passed by itself: then nothing else of its outcome is read off its calls.
+   * run has passed by itself: then nothing else in its outcome is made from its calls.
    * @param {Outcome} outcome
    * @param {Made} found
    * @returns {import("./taken.mjs").Taken | undefined}
@@ -230,7 +232,7 @@ export class RunReporter {
   }
 
   /**
-   * Adds what a run failed by, and to the detail of a deadlock or a limit where agents wait, or ask for a call.
+   * Adds what made a run fail. To the detail of a deadlock or a limit it adds where agents wait, or ask for a call.
    * @param {Outcome} outcome
    * @param {Made} found
    * @param {import("../../script/text.mjs").Transcript} transcript

@@ -40,7 +40,7 @@ function movesOf(row) {
 }
 
 /**
- * Where a run first went another way than the one whose row it was to go by.
+ * Where a run first differs from the row that it was to go by.
  * @param {number[]} row that was wanted
  * @param {number[]} made the run's own
  * @returns {number | undefined} a position in the row that was wanted, or its length; undefined: they are the same

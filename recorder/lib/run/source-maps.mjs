@@ -1,5 +1,5 @@
-// Source maps: where a place in code that was compiled stands in the code that people wrote. A map stands in the
-// compiled file itself, or in a file beside it; both are read when a place is asked for, and never over a network.
+// Source maps: which place of the code that people wrote belongs to a place in compiled code. A map is in the compiled
+// file itself, or in a file beside it. Both are read when a place is asked for, and never over a network.
 
 import { readFileSync } from "node:fs";
 import { SourceMap } from "node:module";
@@ -31,7 +31,7 @@ function textOfData(url) {
 }
 
 /**
- * A map's members, with the URLs of its files in place of what they are called from the map.
+ * A map's members, with the URLs of its files in place of the names that the map has for them.
  * @param {any} payload
  * @param {string} base the URL of the map
  * @returns {any}
@@ -68,9 +68,9 @@ export class SourceMaps {
   }
 
   /**
-   * Where a place stands in the code that people wrote.
+   * The place in the code that people wrote.
    * @param {Place} place
-   * @returns {Place} the place itself, where no map says otherwise
+   * @returns {Place} the place itself, if no map says otherwise
    */
   original(place) {
     const mapped = this.#mappedOf(place.file);
@@ -102,7 +102,7 @@ export class SourceMaps {
 }
 
 /**
- * The map of a file. One that can't be read is none: places are reported as they are then.
+ * The map of a file. A map that can't be read counts as none: then places are reported as they are.
  * @param {string} file its URL
  * @returns {Mapped | undefined}
  */

@@ -15,7 +15,7 @@ export class SourceNames {
   constructor(module) {
     this.module = module;
     this.maps = new SourceMaps();
-    /** @type {Map<string, string>} the names that were made out so far */
+    /** @type {Map<string, string>} the names that were found so far */
     this.names = new Map();
     /** @type {Map<string, string>} the URLs of files, by their names */
     this.urls = new Map();
@@ -34,7 +34,7 @@ export class SourceNames {
     return name;
   }
 
-  /** @param {string} [source] as `nameOf` takes it @returns {string} its name, also where the place isn't known */
+  /** @param {string} [source] as `nameOf` takes it @returns {string} its name, also if the place isn't known */
   placeName = (source) => (source === undefined ? "a place that isn't known" : this.nameOf(source));
 
   /** @param {string} text @returns {string} a text in which places of the code are named so */
@@ -63,7 +63,7 @@ export class SourceNames {
     return `${this.#fileName(place.file, place.file)}:${place.line}:${place.column}`;
   }
 
-  /** @param {string} url @param {string} other what it is called where it is no file of this machine */
+  /** @param {string} url @param {string} other what it is called if it is no file of this machine */
   #fileName(url, other) {
     const isNear = url.startsWith("file:") && this.module.startsWith("file:");
     const name = isNear ? posix.relative(posix.dirname(fileURLToPath(this.module)), fileURLToPath(url)) : other;

@@ -1,5 +1,5 @@
-// What was written down of a run that passes, as a copy. Of it another thread makes the run's script and report, while
-// the agents make the next run.
+// A copy of what was written down about a run that passes. From it another thread makes the run's script and report,
+// while the agents make the next run.
 
 import { CopiedRuns } from "../memory/copied-runs.mjs";
 import { Log } from "../memory/log.mjs";
@@ -31,7 +31,7 @@ export class TextMaker {
   }
 
   /**
-   * Adds to an outcome what is read off a copy: its script and report, or why it has none, and its answers.
+   * Adds to an outcome what is made from a copy: its script and report, or why it has none, and its answers.
    * @param {Outcome} outcome
    * @param {Taken} taken
    * @returns {Int32Array} the events of the run; they hold until the copy is freed

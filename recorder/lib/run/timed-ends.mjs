@@ -1,5 +1,5 @@
-// What is reported of the ends of timed waits: that a run fails only after an early one; and which waits of a run ended
-// only because their time was up, as one does whose wake-up is lost.
+// What is reported about the ends of timed waits: that a run fails only after an early one; and which waits of a run
+// ended only because their time was up, as a wait does whose wake-up is lost.
 
 import { CALL_NUMBERS } from "../../script/kinds.mjs";
 import { FLAG } from "../memory/log.mjs";
@@ -36,7 +36,7 @@ export function earlyText({ milliseconds, other, isCall, more }) {
   return `only if ${duration} ${pass} before ${next}${further}`;
 }
 
-/** @param {Place} place @returns {string} by which it is known */
+/** @param {Place} place @returns {string} a key for it */
 export const placeKey = ({ block, byte }) => `${block} ${byte}`;
 
 /**

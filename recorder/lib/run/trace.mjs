@@ -15,7 +15,7 @@ function nameOf({ what, method }) {
   return what === WRITE ? "write" : "read";
 }
 
-// What comes again in many lines has its text made once, in one piece.
+// The text of what comes again in many lines is made once, in one piece.
 
 /** From an agent to the number of its call. */
 const AGENTS = Array.from({ length: SCRIPT_LIMITS.agents }, (_, agent) => flat(`,"agent":${agent},"call":`));
@@ -31,7 +31,7 @@ function deedText(event) {
     `"atomic":${(flags & FLAG.ATOMIC) !== 0},"waiters":${(flags & FLAG.WAITERS) !== 0},"source":`;
 }
 
-/** The last deeds that were spelled, each in a slot of its own or in place of another one. */
+/** The texts of the last events, each in a slot of its own or in place of another one. */
 class KnownDeeds {
   static SLOTS = 1_024;
   static WORDS = 4;
@@ -62,7 +62,7 @@ const DEEDS = new KnownDeeds();
 
 /**
  * The first line of a trace that may lack accesses of its run. It is no event. So `sabsim judge --trace` refuses such a
- * trace: that it finds no data race in it would say nothing of the run.
+ * trace: if it found no data race in it, that would say nothing about the run.
  */
 export const UNSEEN_LINE = `${JSON.stringify({
   unseen: "ordinary accesses may be missing here, so these events don't show whether any are unordered",

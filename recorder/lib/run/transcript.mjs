@@ -1,7 +1,7 @@
 // What was done in a run, as a script and its report have it: views, the calls of each agent, and moves. Ordinary
-// writes stand among the calls as stores. What agents call is counted apart: they are none of theirs. Ordinary reads
-// aren't among the calls. So a view without an element says that the run has ordinary accesses, or may have some. A wait
-// of Atomics.waitAsync is one of a helper, an agent of its own, to which its thread hands it over.
+// writes are stores among the calls. The calls that agents make are counted apart, since these stores are none of them.
+// Ordinary reads aren't among the calls. So a view without an element says that the run has ordinary accesses, or may
+// have some. A wait of Atomics.waitAsync is one of a helper, an agent of its own, to which its thread hands it over.
 
 import { BEGINS, ENDS } from "../../script/helpers.mjs";
 import { CONSTRUCTORS, KINDS, SIZES } from "../../script/kinds.mjs";
@@ -78,7 +78,7 @@ class Writer {
     }
     /** @type {Map<string, string[]>} the names of the views of stores, by whose they are: of each block's kinds */
     this.storeNames = new Map();
-    // All names are there, so that who reads the script knows them.
+    // All names are there, so that a reader of the script knows them.
     for (const view of names.list) this.addView(viewOf(view.name, view));
   }
 

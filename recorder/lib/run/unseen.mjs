@@ -67,7 +67,7 @@ export function unseenText(notes, unrecorded, nameOf) {
 }
 
 /**
- * What agents used or reached that isn't recorded, for a summary: whose it was, and how often, isn't in it.
+ * What agents used or reached that isn't recorded, for a summary. It doesn't say which agent, nor how often.
  * @param {AgentsNote[]} notes
  * @param {Naming} nameOf
  * @returns {string[]} each once

@@ -1,5 +1,5 @@
 // The names of the views by which a script shows windows. They say where the buffer was made, and at which of its bytes
-// the window begins: `ring_mjs_12`, `ring_mjs_12_n2_at4096`. A buffer of which that isn't known goes by its number.
+// the window begins: `ring_mjs_12`, `ring_mjs_12_n2_at4096`. A buffer for which that isn't known goes by its number.
 
 import { SIZES } from "../../script/kinds.mjs";
 import { MOST_CHARACTERS } from "../options/names.mjs";
@@ -12,7 +12,7 @@ const OF_OTHERS = /^(?:_|ordinary_|init_|waitAsync_)+/;
 
 /**
  * A name that no other view has.
- * @param {string} stem the end of which counts where it is too long
+ * @param {string} stem its end counts if it is too long
  * @param {string} end
  * @param {Set<string>} taken
  * @returns {string}

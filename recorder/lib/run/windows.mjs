@@ -1,7 +1,7 @@
 // The windows of a program's run: its buffers may be more, or larger, than a script and a trace can have, but a run
-// touches few pages of them. Pages that lie beside each other are a window, and windows are packed into the blocks of
-// the script one after another. If no block has room for all of these pages, they are cut between two that no access
-// crosses. Two bytes of the program never get the same byte there.
+// touches few pages of them. Pages beside each other are a window, and windows are packed into the blocks of the script
+// one after another. If no block has room for all of these pages, they are cut between two that no access crosses. Two
+// bytes of the program never get the same byte there.
 
 import { MESSAGES, MESSAGE_BYTES, MOST_BLOCKS, MOST_BYTES } from "../memory/blocks.mjs";
 
@@ -157,7 +157,7 @@ export class Windows {
   /**
    * @param {number} block of the script
    * @param {number} byte
-   * @returns {{ buffer: number, byte: number } | undefined} which byte of the program stands there
+   * @returns {{ buffer: number, byte: number } | undefined} which byte of the program is there
    */
   behind(block, byte) {
     const window = this.list.find((each) => {

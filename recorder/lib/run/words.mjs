@@ -1,6 +1,6 @@
-// Numbers, as a summary words them, and what several messages say.
+// Numbers, as a summary spells them, and what several messages say.
 
-/** Why a run of a program that gets real answers may be another one when it is made once more. */
+/** Why a run of a program that gets real answers may differ when it is made once more. */
 export const OTHER_INPUT = "its input may have come otherwise";
 
 /** How often such a run is made once more, until it goes the same way. */
@@ -18,7 +18,7 @@ export const digits = (count) => String(count).replaceAll(/\B(?=([0-9]{3})+$)/g,
 export const counted = (count, one, several = `${one}s`) => `${digits(count)} ${count === 1 ? one : several}`;
 
 /**
- * The first entries as lines, and how many there are besides.
+ * The first entries as lines, and how many more there are.
  * @template T
  * @param {T[]} entries
  * @param {number} most how many lines
