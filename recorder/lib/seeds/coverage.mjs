@@ -3,7 +3,7 @@
 
 /** @typedef {import("../run/outcome.mjs").Outcome} Outcome */
 
-/** So many seeds in a row without a new pair, and the runs cover what they will. */
+/** After so many seeds in a row without a new pair, the runs cover what they will. */
 const ENOUGH = 500;
 
 /**

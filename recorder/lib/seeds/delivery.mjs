@@ -27,9 +27,9 @@ export class Delivery {
     /** @type {{ failure: unknown } | undefined} why no more will come */
     this.failed = undefined;
     this.isOver = false;
-    /** For the one that takes. */
+    /** For the code that takes outcomes. */
     this.arrival = new Change();
-    /** For those that make the runs: one was taken. */
+    /** For the jobs, which make the runs: one was taken. */
     this.taking = new Change();
   }
 

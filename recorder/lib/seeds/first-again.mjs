@@ -48,7 +48,7 @@ const differenceText = (found) => (DIFFERENCES[found.differs] ?? DIFFERENCES.act
 /**
  * What is added to the text of a failing run that got real answers.
  * @param {import("../run/outcome.mjs").Outcome} outcome
- * @param {import("../run/outcome.mjs").Again} [made] what it came to in fresh threads
+ * @param {import("../run/outcome.mjs").Again} [made] its result in fresh threads
  * @returns {string} nothing if it is the same there
  */
 export function otherInputText(outcome, made) {
@@ -57,12 +57,12 @@ export function otherInputText(outcome, made) {
   return differs ? `made once more in fresh threads, the run went another way: ${OTHER_INPUT}` : "";
 }
 
-/** A failing run of a program isn't the same in fresh threads: it is no finding. */
+/** A failing run of a program isn't the same in fresh threads, so it is no finding. */
 export class KeepsGlobals extends Error {}
 
 /**
  * @param {Pick<Outcome, "seed" | "ending" | "detail" | "state">} outcome of a program's run that fails
- * @param {import("../run/outcome.mjs").Again} [made] what it came to in fresh threads
+ * @param {import("../run/outcome.mjs").Again} [made] its result in fresh threads
  * @returns {KeepsGlobals | undefined} undefined if it is the same there
  */
 export function keepsGlobals(outcome, made) {

@@ -1,6 +1,6 @@
 // One job: a group of workers, and the checks of its runs. The checks are made in this thread, while the group makes
-// the next runs in its own. In the library a job is one in this process: what it calls with the buffers can be the
-// caller's functions, and no process has to be started. It is used as a `RemoteJob` is.
+// the next runs in its own. In the library the job is in this process: so it can call the caller's functions with the
+// buffers, and no process has to be started. It is used as a `RemoteJob` is.
 
 import { checkedBy } from "../check/check.mjs";
 import { Repeats } from "../check/repeats.mjs";
@@ -14,7 +14,7 @@ import { KeepsGlobals, keepsGlobals, otherInputText } from "./first-again.mjs";
 /** @typedef {{ stray?: import("../board/row.mjs").Stray, acts?: string }} Besides `acts` is a digest of what was done */
 /** @typedef {Outcome & import("../check/check.mjs").Check & Besides} Checked */
 
-/** Why a failing run isn't checked whose job's process was ended before. */
+/** Why a failing run isn't checked if its job's process was ended before. */
 const NOT_CHECKED = "the process of its job ended before it was checked";
 
 /**
@@ -43,7 +43,7 @@ function lightened({ script, report, trace, accesses, sources, tasks, bytes, ans
 }
 
 /**
- * Opens a group. What whole programs need is loaded for them alone.
+ * Opens a group. What only whole programs need is loaded only for these.
  * @param {import("../run/group.mjs").GroupOptions} options
  * @param {() => void} meanwhile
  * @returns {Promise<Group>}
@@ -130,7 +130,7 @@ export class Job {
 
   /** Ends its workers. */
   async close() {
-    // A group that wasn't opened has ended all that it had started.
+    // A group that couldn't be opened has ended all that it had started.
     const group = await this.#group?.catch(() => undefined);
     await group?.close();
   }

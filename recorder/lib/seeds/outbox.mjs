@@ -1,6 +1,6 @@
-// Messages of a job's process to the first one. A message takes as long as some of the checks do. So outcomes that come
-// one soon after the other, as when checks are behind the runs, go together. They go as JSON text: the engine's own form
-// of messages takes at least twice as long.
+// Messages of a job's process to the first one. A message takes as long as some of the checks. So outcomes that come
+// soon after each other are sent together, such as when checks are behind the runs. They go as JSON text: the engine's
+// own form of messages takes at least twice as long.
 
 import timers from "node:timers";
 

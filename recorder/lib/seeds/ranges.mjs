@@ -1,7 +1,7 @@
 // Ranges of seeds: what a command line asks for, the shard of one machine, and the union of several.
 
 /**
- * @typedef {object} Range the seeds from the first to the last, both among them
+ * @typedef {object} Range the seeds from the first to the last, both included
  * @property {number} first
  * @property {number} last
  */
@@ -38,7 +38,7 @@ const sorted = (ranges) => [...ranges].sort((one, other) => one.first - other.fi
 /**
  * The seeds of some ranges, each once.
  * @param {Range[]} ranges
- * @returns {Range[]} in ascending order, and none ends where another one goes on
+ * @returns {Range[]} in ascending order, and none begins just after the end of another
  */
 export function united(ranges) {
   /** @type {Range[]} */

@@ -1,5 +1,5 @@
 // A job in a process of its own. All threads of a process share one lock of the engine's for Atomics.wait, so several
-// jobs in one process would stand in each other's way; and a process that agents hold or end isn't the recorder's.
+// jobs in one process would hold each other up. And if agents hold or end a process, it isn't the recorder's.
 
 import { Difference } from "../check/difference.mjs";
 import { Refused } from "../options/refused.mjs";
@@ -17,7 +17,7 @@ import { KeepsGlobals } from "./first-again.mjs";
  */
 
 /**
- * @typedef {object} Message what it answers: one of these
+ * @typedef {object} Message what it replies: one of these
  * @property {import("../shorter/shorten.mjs").Tried} [tried]
  * @property {Checked} [failing] the outcome of a run that fails, and that is about to be checked
  * @property {string} [passed] the next outcomes in order, as JSON text of a list

@@ -31,8 +31,8 @@ import { startJob } from "./start-job.cjs";
  * texts
  * @property {number} [ahead] how far a seed that is begun may be from the next one to be taken; as far as it likes, if
  * it isn't given
- * @property {boolean} [goesOn] whether the other jobs go on when the process of one has ended; and what has come by a
- * failure is handed out before that
+ * @property {boolean} [goesOn] whether the other jobs go on when the process of one has ended; and what has come until
+ * a failure is handed out before the failure
  */
 
 /** @typedef {import("../run/group.mjs").GroupOptions & OfRuns} RunsOptions */
@@ -139,7 +139,7 @@ export class Runs {
     return again && differenceBetween(first.outcome, again);
   }
 
-  /** @param {Outcome} outcome @returns {boolean} whether no other one comes behind it */
+  /** @param {Outcome} outcome @returns {boolean} whether it is the last one */
   isLast(outcome) {
     const { failFast, last } = this.options;
     return outcome.seed === last || (failFast === true && isFirstOfAll(outcome));
@@ -176,13 +176,13 @@ export class Runs {
     this.delivery.taking.signal();
   }
 
-  /** Ends all at once, though nobody may ask for more. */
+  /** Ends all at once, even if nobody asks for more outcomes. */
   #stop = () => {
     this.delivery.fail(this.signal?.reason);
     void this.close();
   };
 
-  /** Starts the jobs, and has them make the runs. */
+  /** Starts the jobs, and lets them make the runs. */
   #begin() {
     const { first, last, jobs = 1 } = this.options;
     const needed = Math.min(jobs, Math.ceil((last - first + 1) / this.queue.batch));
@@ -190,11 +190,11 @@ export class Runs {
     const opened = Promise.all(this.jobs.map((job) => this.#opened(job)));
     this.#working = this.jobs.map((job) => this.#work(job, opened));
     void this.#finish();
-    // That it is aborted, or that the first job isn't opened, is reported by others.
+    // Other code reports that it is aborted, or that the first job isn't opened.
     if (this.options.jobs === undefined) this.#grow(opened).catch(() => {});
   }
 
-  /** Ends the delivery as the jobs ended: with the first failure, or with all that is known of lost jobs. */
+  /** Ends the delivery as the jobs ended: with the first failure, or with all that is known about lost jobs. */
   async #finish() {
     let settled = 0;
     /** @type {PromiseSettledResult<void>[]} */

@@ -1,4 +1,4 @@
-// Starts the process of a job, which awaits then what it is to do. This is a CommonJS module, since such a one is loaded
+// Starts the process of a job, which then waits for its work. This is a CommonJS module, since such a one is loaded
 // sooner.
 "use strict";
 
@@ -14,7 +14,7 @@ const REFEREE = new URL("../run/referee.mjs", own).href;
 const AGENTS = [new URL("../agent/worker.mjs", own).href, String(FIRST_AGENTS)];
 const THREADS = [new URL("../program/worker.mjs", own).href, String(FIRST_THREADS), ...GRAPH_FLAGS];
 
-// A program that stands in the words of node's command line itself, and what it is.
+// The words by which node's command line itself has the program, and those that say what kind it is.
 const EVALUATED = /^(-[ep]+|--eval|--print|--input-type)$/;
 
 // How this one process is debugged.
@@ -22,8 +22,8 @@ const DEBUGGING = /^--(inspect|debug-port)/;
 const PORT = /^--(inspect|debug)-port$/;
 
 /**
- * The words of node's own command line that the process of a job gets too: what they load before the program, as by
- * --require or --import, is there for agents of each job then.
+ * The words of node's own command line that the process of a job gets too. So what they load before the program, as by
+ * --require or --import, is there for the agents of each job.
  * @param {string[]} words that this process got
  * @returns {string[]} those that the process of a job gets
  */
