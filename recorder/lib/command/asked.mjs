@@ -1,4 +1,4 @@
-// What a command line has asked for, as a summary reports it: so that summaries can be joined where it is the same.
+// What a command line has asked for, as a summary reports it. Summaries can be joined if it is the same.
 
 import { createHash } from "node:crypto";
 import { readFileSync } from "node:fs";
@@ -41,7 +41,7 @@ function digestOf(module, url) {
   }
 }
 
-// What isn't an option's name with lines between its words.
+// What isn't an option's name with hyphens between its words.
 const NAMES = new Map([
   ["args", "what stands behind --"], ["preloads", "whether node's own words load code before the recorder"],
 ]);

@@ -18,7 +18,7 @@ export class Interruption {
     this.controller = new AbortController();
     /** @param {NodeJS.Signals} signal */
     this.stop = (signal) => {
-      // A second one ends the process at once.
+      // A second signal ends the process at once.
       this.#forget();
       this.controller.abort(new Interrupted(signal));
     };
@@ -32,7 +32,7 @@ export class Interruption {
 
   /**
    * From now on signals do what they do by themselves.
-   * @returns {Promise<void>} fails where one has come before
+   * @returns {Promise<void>} fails if one has come before
    */
   async end() {
     // One that came while nothing else was done is reported now.

@@ -73,7 +73,7 @@ const isInterrupted = (problem) => problem instanceof Interrupted;
  */
 export async function main(words, child) {
   const job = child && new RemoteJob(child);
-  // Where nobody reads what went wrong, the status reports it.
+  // If nobody reads what went wrong, the status reports it.
   process.stderr.on("error", () => {});
   const { failed, problems } = await run(words, job);
   const interrupted = problems.find(isInterrupted);

@@ -11,7 +11,7 @@ import { Summary } from "./summary.mjs";
 
 /**
  * @typedef {object} Part
- * @property {string} name of its file, and of its line where that isn't the only one
+ * @property {string} name of its file, and of its line if that isn't the only one
  * @property {WholeSummary} summary
  */
 
@@ -43,7 +43,7 @@ function textOf(file, name) {
   }
 }
 
-/** @param {string} text @returns {unknown} undefined where it is no JSON */
+/** @param {string} text @returns {unknown} undefined if it is no JSON */
 function parsed(text) {
   try {
     return JSON.parse(text);
@@ -60,10 +60,10 @@ function part(name, value) {
 }
 
 /**
- * Joins summaries. That of all shards is that of one run.
+ * Joins summaries. The joined summary of all shards is the same as that of a command line with all seeds.
  * @param {Part[]} parts one at least
  * @returns {WholeSummary}
- * @throws {Refused} where they don't fit together
+ * @throws {Refused} if they don't fit together
  */
 export function merged(parts) {
   needsFitting(parts);
@@ -86,7 +86,7 @@ const firstSeed = ({ seeds: [first] }) => first?.first ?? 0;
 
 /**
  * @param {Part[]} parts
- * @throws {Refused} where one was asked for something else, or two have the same seed
+ * @throws {Refused} if one was asked for something else, or two have the same seed
  */
 function needsFitting(parts) {
   const [first, ...others] = parts;
@@ -97,7 +97,7 @@ function needsFitting(parts) {
   const ranges = parts.flatMap(({ name, summary }) => summary.seeds.map((range) => ({ name, ...range })));
   ranges.sort((one, other) => one.first - other.first);
   ranges.forEach((range, at) => {
-    // Those before it end one behind the other, so the one just before it is the last that may have its seeds.
+    // Those before it end one after the other, so only the one just before it may have some of its seeds.
     const before = ranges[at - 1];
     if (before === undefined || before.last < range.first) return;
     throw new Refused(`${before.name} and ${range.name} don't fit together: both have seed ${range.first}`);

@@ -9,7 +9,7 @@ import { counted } from "../run/words.mjs";
 import { countOf, shardOf } from "../seeds/ranges.mjs";
 import { runFrom } from "./whole-program.mjs";
 
-// How many characters a line of help has at most, and where what it says begins.
+// How many characters a line of help has at most, and at which character its explanation begins.
 const WIDTH = 120;
 const INDENT = 18;
 
@@ -30,7 +30,7 @@ const helpOf = ([name, { help: [argument, text] = [], letter }]) => {
   const words = `  ${letter === undefined ? "" : `-${letter}, `}--${wordOf(name)} ${argument}`.trimEnd();
   const margin = " ".repeat(INDENT);
   const lines = wrapped(text ?? "").join(`\n${margin}`);
-  // What is said of a long option begins on a line of its own.
+  // The explanation of a long option begins on a line of its own.
   return words.length < INDENT ? words.padEnd(INDENT) + lines : `${words}\n${margin}${lines}`;
 };
 
@@ -53,7 +53,7 @@ const SHAPE = Object.fromEntries(ROWS.map(([name, { kind: { text, multiple = fal
 
 const SEEDS_UNTIL_COVERED = Object.freeze({ first: 1, last: 1_000_000 });
 
-/** What words that are no options any more are, or what there is in their place. */
+/** For words that are no options any more: what they are, or what there is in their place. */
 const INSTEAD = new Map([["switch", "use --strategy switch:P"], ["v", "is -V meant?"]]);
 
 /**
@@ -106,7 +106,7 @@ function shardFrom(asked, shard) {
 /**
  * The kept script by whose row the agents are to run.
  * @param {Record<string, any>} given
- * @returns {{ file: string, seed: number | undefined, given: Record<string, any> } | undefined} its seed where that is
+ * @returns {{ file: string, seed: number | undefined, given: Record<string, any> } | undefined} its seed if that is
  * given
  */
 function replayOf(given) {

@@ -10,7 +10,7 @@ export function print(text) {
     const failed = (error) => fail(new NotPrinted(`standard output can't be written: ${error.message}`));
     process.stdout.once("error", failed);
     process.stdout.write(text, (error) => {
-      // Where it failed, an event reports it.
+      // If it failed, an event reports it.
       if (error) return;
       process.stdout.off("error", failed);
       done();

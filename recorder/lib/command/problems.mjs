@@ -15,7 +15,7 @@ const EXPECTED = [Refused, Difference, NoSabsim, LostJob, KeepsGlobals, NoLonger
 /** @param {unknown} problem @returns {boolean} whether its message says all of it */
 export const isExpected = (problem) => EXPECTED.some((kind) => problem instanceof kind);
 
-/** @param {unknown} problem @returns {string} a sentence; of a defect all that is known */
+/** @param {unknown} problem @returns {string} a sentence; for a defect, all that is known */
 export function messageOf(problem) {
   if (!(problem instanceof Error)) return String(problem);
   return isExpected(problem) ? problem.message : problem.stack ?? String(problem);

@@ -18,7 +18,7 @@ import { Replaying, textOf } from "./replaying.mjs";
 
 export class ProgramReplay extends Replaying {
   /**
-   * @param {import("./options.mjs").Options} options of which those that are given go before those of the kept run
+   * @param {import("./options.mjs").Options} options those that are given count, and else those of the kept run
    * @param {NonNullable<import("./options.mjs").Options["replay"]>} wanted
    */
   constructor(options, { file, seed, given }) {
@@ -36,7 +36,7 @@ export class ProgramReplay extends Replaying {
     this.keepsAs(new RegExp(`\\.${PROGRAM_ENDING.replace(".", "\\.")}$`));
   }
 
-  /** @returns {Promise<Checked>} of a run that gets real answers the first one that goes the same way, or the last */
+  /** @returns {Promise<Checked>} for a run that gets real answers, the first one that goes the same way, or the last */
   async made() {
     const { module, row, seed } = this;
     const options = { module, wanted: { row, isExact: true, wantsRow: true, isShown: true } };
@@ -64,7 +64,7 @@ export class ProgramReplay extends Replaying {
   /**
    * @param {Checked} outcome
    * @param {import("../keeping/keep.mjs").Keeper} keeper
-   * @returns {import("./summary.mjs").Ending} where its files lie
+   * @returns {import("./summary.mjs").Ending} where its files are
    */
   kept(outcome, keeper) {
     const options = { ...this.options, module: this.module };

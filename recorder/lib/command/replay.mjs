@@ -68,7 +68,7 @@ export class Replay extends Replaying {
   /**
    * @param {import("../seeds/job.mjs").Checked} outcome
    * @param {import("../keeping/keep.mjs").Keeper} keeper
-   * @returns {import("./summary.mjs").Ending} where its files lie
+   * @returns {import("./summary.mjs").Ending} where its files are
    */
   kept(outcome, keeper) {
     const { module, options, simulator } = this;
@@ -82,8 +82,8 @@ export class Replay extends Replaying {
     const { script: { draws }, module, place, seed } = this;
     const wanted = { row: draws.map(({ agent }) => agent), isExact: true, calls: callNumbers(this.script) };
     try {
-      // A debugger would stop in each further run of the agents. So there are no pilots, from which nothing is to be
-      // learnt, since the row says who moves; and the lines of code are noted at once.
+      // A debugger would stop in each further run of the agents. So there are no pilots: the row says who moves, so
+      // they would show nothing of use. And the lines of code are noted at once.
       return await this.one(seed, { module, ...place, everywhere: true, wanted });
     } catch (problem) {
       throw problem instanceof NoSuchPlace ? new Refused(this.#otherText(problem)) : problem;
@@ -102,7 +102,7 @@ export class Replay extends Replaying {
     return `${file} is a script of another module: ${why}. Replay it with the module that it was kept from`;
   }
 
-  /** @returns {string[]} what is said of moves that have no effect */
+  /** @returns {string[]} what is said about moves that have no effect */
   #idleLines() {
     const { length } = this.idle;
     if (length === 0) return [];

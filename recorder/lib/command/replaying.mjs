@@ -1,4 +1,4 @@
-// What replays of agents and of programs have in common: the run is made in this process, kept where that is asked for,
+// What replays of agents and of programs have in common: the run is made in this process, kept if that is asked for,
 // and it is printed how it ended.
 
 import { readFileSync } from "node:fs";
@@ -33,7 +33,7 @@ function isDebugged() {
   try {
     return createRequire(import.meta.url)("node:inspector").url() !== undefined;
   } catch {
-    // A node without one can't be debugged.
+    // A node without an inspector can't be debugged.
     return false;
   }
 }
@@ -60,7 +60,7 @@ export class Replaying {
   }
 
   /**
-   * Makes the run, keeps it where that is asked for, and prints how it ended.
+   * Makes the run, keeps it if that is asked for, and prints how it ended.
    * @returns {Promise<{ failed: boolean, problems: unknown[] }>} whether it failed
    * @throws {NoLongerTheSame}
    */
@@ -80,7 +80,7 @@ export class Replaying {
     return { failed: outcome.fails, problems: [] };
   }
 
-  /** @returns {Promise<import("../seeds/job.mjs").Checked>} what came of the run */
+  /** @returns {Promise<import("../seeds/job.mjs").Checked>} the run's outcome */
   async made() {
     throw new Error("nothing is replayed");
   }
@@ -102,7 +102,7 @@ export class Replaying {
   /**
    * @param {import("../seeds/job.mjs").Checked} outcome
    * @param {Keeper} keeper
-   * @returns {import("./summary.mjs").Ending} where its files lie
+   * @returns {import("./summary.mjs").Ending} where its files are
    */
   kept(outcome, keeper) {
     keeper.keepFirst(outcome);

@@ -20,7 +20,7 @@ import { Summary } from "./summary.mjs";
 
 /** @typedef {import("../seeds/job.mjs").Checked} Outcome */
 
-/** @param {number} seed of the first failing run, where none is kept */
+/** @param {number} seed of the first failing run, if none is kept */
 const notKeptText = (seed) => `not kept: the run of seed ${seed}; --out DIR keeps it, with a page that shows it`;
 
 export class Session {
@@ -59,8 +59,8 @@ export class Session {
   }
 
   /**
-   * Makes the runs, keeps what is to be kept, and prints the summary, also where not all runs could be made.
-   * @returns {Promise<{ failed: boolean, problems: unknown[] }>} whether a run failed; what went wrong besides
+   * Makes the runs, keeps what is to be kept, and prints the summary, also if not all runs could be made.
+   * @returns {Promise<{ failed: boolean, problems: unknown[] }>} whether a run failed; what else went wrong
    */
   async run() {
     /** @type {unknown[]} */
@@ -113,7 +113,7 @@ export class Session {
   }
 
   /**
-   * Adds what came of a run to the summary, and keeps it if it is to be kept.
+   * Adds a run's outcome to the summary, and keeps the run if it is to be kept.
    * @param {Outcome} outcome
    * @returns {boolean} whether it is the last one
    */
@@ -128,18 +128,18 @@ export class Session {
 
   /** Prepares the pictures of the run that is kept, while its job works. */
   async #prepare() {
-    // What the job is to do goes first.
+    // The work of the job comes first.
     await turn();
     this.simulator.prepare();
   }
 
   /** The first failing run. */
   #failing() {
-    // All that is reported of it is known here, where it was made.
+    // All that is reported about the run is known here, where it was made.
     return /** @type {Outcome | undefined} */ (this.summary.failing);
   }
 
-  /** The failing run that is kept, where it is to be shortened. */
+  /** The failing run that is kept, if it is to be shortened. */
   #toShorten() {
     const failing = this.#failing();
     if (!this.options.shorten || failing === undefined || failing.seed !== this.keeper?.seed) return undefined;

@@ -1,4 +1,4 @@
-// What is reported of the shortening of the run that is kept.
+// What is reported about the shortening of the run that is kept.
 
 import { counted, digits } from "../run/words.mjs";
 
@@ -12,8 +12,8 @@ import { counted, digits } from "../run/words.mjs";
  * @property {Change} calls of Atomics that were begun, in the same two runs
  * @property {string | null} stopped why it was ended before all was tried
  * @property {string | null} unchanged why the run is kept as it was found; null: the shortest is kept
- * @property {boolean} checked whether sabsim says the same of the shortest run
- * @property {string[]} detail of the shortest run, where it isn't that of the run as it was found
+ * @property {boolean} checked whether sabsim says the same about the shortest run
+ * @property {string[]} detail of the shortest run, if it isn't that of the run as it was found
  * @property {string | null} onlyIf what time must pass in the shortest run for the early end of a timed wait
  */
 

@@ -26,10 +26,10 @@
 /** @template T @typedef {Listed<T & { early: number }>} FailingListed with how many runs need an early end */
 
 /**
- * @typedef {object} SummaryData what a summary says of many runs: an object of JSON, whose members docs/FORMATS.md
+ * @typedef {object} SummaryData what a summary says about many runs: an object of JSON, whose members docs/FORMATS.md
  * explains
  * @property {Stop | null} stopped
- * @property {import("../seeds/ranges.mjs").Range[]} missing seeds that were asked for, and of which nothing is known
+ * @property {import("../seeds/ranges.mjs").Range[]} missing seeds that were asked for, and about which nothing is known
  * @property {number} runs
  * @property {number} failed
  * @property {Record<"failing" | "passing", { ending: string, runs: number, first: number }[]>} endings
@@ -39,7 +39,7 @@
  * @property {import("./only-by-time.mjs").OnlyByTimeData} onlyByTime
  * @property {number} threw how many of the runs that ended as `failed` threw
  * @property {FailingListed<Failure>} failures those of all failing runs that have no ending `race`
- * @property {import("./shortened.mjs").Shortening | null} shortened what the shortening of that run came to
+ * @property {import("./shortened.mjs").Shortening | null} shortened the result of shortening that run
  * @property {{ allowed: boolean, runs: number, pairs: FailingListed<{ lines: string[] }> }} races
  * @property {{ allowed: boolean, runs: number, used: Listed<{ what: string }> }} unrecorded shared memory and threads
  * that aren't recorded, and that agents used
@@ -62,12 +62,12 @@
  * @typedef {object} CheckedBy
  * @property {boolean} asked whether runs were to be checked by it
  * @property {string[]} versions of the module and of the programs that were asked, as `module 87759d9a6ee9`
- * @property {number} checked how many runs it says the same of
+ * @property {number} checked about how many runs it says the same
  * @property {boolean} judges whether it has judged too which of these have unordered accesses
  */
 
 /**
- * How all ended.
+ * How all the runs ended.
  * @typedef {Partial<Pick<SummaryData, "stopped" | "missing" | "kept" | "notKept" | "problems">>} Ending
  */
 

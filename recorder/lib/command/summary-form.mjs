@@ -6,10 +6,10 @@
  * }} WholeSummary what is reported about many runs, and what was asked for
  */
 
-/** The number of this form: another one has another. */
+/** The number of this form: another form has another number. */
 export const FORM = 3;
 
-/** @typedef {(value: unknown, place: string) => string | undefined} Check it answers where a value isn't right */
+/** @typedef {(value: unknown, place: string) => string | undefined} Check it returns where a value isn't right */
 
 /** @type {(holds: (value: any) => boolean) => Check} */
 const that = (holds) => (value, place) => (holds(value) ? undefined : place);
@@ -109,7 +109,7 @@ const MEMBERS = object({
 /**
  * Why a value is no summary.
  * @param {unknown} value of JSON
- * @returns {string | undefined} undefined where it is one
+ * @returns {string | undefined} undefined if it is one
  */
 export function whyNoSummary(value) {
   const { summary: form } = /** @type {{ summary?: unknown }} */ (value ?? {});

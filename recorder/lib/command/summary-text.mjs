@@ -32,7 +32,7 @@ export function summaryText(summary) {
   return [...lines, ...notKept].map((line) => `${line}\n`).join("");
 }
 
-/** @param {import("../seeds/ranges.mjs").Range} range of seeds of which nothing is known @returns {string} */
+/** @param {import("../seeds/ranges.mjs").Range} range of seeds about which nothing is known @returns {string} */
 export const missingText = (range) => `no summary has the ${rangeText(range)}`;
 
 /** @param {SummaryData} summary */
@@ -105,7 +105,7 @@ function unrecordedLines({ unrecorded: { allowed, runs, used } }) {
   return [`agents used what isn't recorded${allowed ? ", which is allowed" : ""}: ${counted(runs, "run")}`, ...usedLines(used)];
 }
 
-/** @param {SummaryData} summary @returns {string[]} what the machine has answered to */
+/** @param {SummaryData} summary @returns {string[]} what programs used that the machine answers */
 function realLines({ real: { runs, used } }) {
   if (runs === 0) return [];
   const title = `${counted(runs, "run")} used sockets, pipes or child processes, and repeat only as far as their input does`;
@@ -157,7 +157,7 @@ function checkLines({ runs, sabsim: { checked, judges, versions } }) {
   const some = `${digits(checked)} of ${counted(runs, "run")} ${checked === 1 ? "was" : "were"}`;
   const which = checked === runs ? "every run was" : some;
   const kinds = [...new Set(versions.map((version) => version.split(" ", 1)[0]))];
-  // How many runs are repeats of one that the module was asked about depends on the jobs, so there is no number.
+  // The text has no number of the runs that repeat one about which the module was asked: it depends on the jobs.
   const repeats = checked > 1 && kinds.includes("module") ? ", except exact repeats" : "";
   const how = `replayed ${judges ? "and judged " : ""}by sabsim (${kinds.join(" and ")})`;
   return [`${which} ${how}${repeats}: it agrees with the recorder`];
@@ -192,7 +192,7 @@ function accessLine({ runs, calls, accesses }) {
 const countedOf = (count, what, others) => (others === 0 ? counted(count, what) : `over ${counted(count, what)}`);
 
 /**
- * What is said of runs whose states, pairs or reasons there was no room for.
+ * What is said about runs whose states, pairs or reasons there was no room for.
  * @param {number} others how many runs they are counted in
  */
 const othersLines = (others) => (others === 0 ? [] : [indented(`and those of ${counted(others, "run")} besides`)]);

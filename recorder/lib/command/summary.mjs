@@ -1,6 +1,6 @@
-// What is reported about many runs. It doesn't depend on the order in which their outcomes come, nor on how they were
-// shared out. Of the runs little is kept, so that there can be any number of them; only the first failing one is kept
-// whole.
+// What is reported about many runs. It doesn't depend on the order in which their outcomes come, nor on how the seeds
+// were shared out. Little is kept of each run, so that there can be any number of them; only the first failing one is
+// kept whole.
 
 import { hasThrown } from "../../page/endings.mjs";
 import { comesBefore } from "../run/order.mjs";
@@ -30,8 +30,8 @@ import { Uses } from "./uses.mjs";
  * @property {"fail" | "allow"} [unrecorded]
  * @property {string} [checkedBy] which simulator checks runs; undefined: they aren't checked
  * @property {boolean} [preloads] whether node's own words load code before the recorder
- * @property {import("../seeds/coverage.mjs").Coverage} [coverage] which pairs of lines the runs have shown, where that
- * is looked for
+ * @property {import("../seeds/coverage.mjs").Coverage} [coverage] which pairs of lines the runs have shown, if that is
+ * looked for
  */
 
 // In the order in which they are reported.
@@ -45,7 +45,7 @@ const CHANGES_ALONE =
 /** What no run of a mode has seen. */
 const UNSEEN = { watch: [], store: [CHANGES_ALONE], refuse: [CHANGES_ALONE] };
 
-/** What a run may not have seen besides, where other code was there before the recorder. */
+/** What else a run may not have seen, if other code was loaded before the recorder. */
 const UNSEEN_BEFORE =
   "what is done by typed arrays and Atomics that code of node's own words, as --require, has put aside was not seen";
 
@@ -90,7 +90,7 @@ export class Summary {
     this.remembers = undefined;
     /** @type {Failing | undefined} the first failing run */
     this.failing = undefined;
-    /** @type {import("../seeds/job.mjs").ShortenedByJob | undefined} what its shortening came to */
+    /** @type {import("../seeds/job.mjs").ShortenedByJob | undefined} the result of its shortening */
     this.shortened = undefined;
   }
 
@@ -190,7 +190,7 @@ export class Summary {
     };
   }
 
-  /** @param {Stop} [stopped] where not all runs were made @returns {string} lines, each with its end */
+  /** @param {Stop} [stopped] if not all runs were made @returns {string} lines, each with its end */
   text(stopped) {
     return summaryText(this.data({ stopped }));
   }

@@ -1,6 +1,6 @@
-// Runs that have something in common, counted: how often it was so, and in which run first. However many keys there
-// are, a certain number of them is kept: those that come first by their spelling. So which ones are kept doesn't depend
-// on the order in which runs come, nor on how they are shared out, and each that is kept has all its runs counted.
+// Counts runs that have something in common: how many they are, and which is the first. However many keys there are, a
+// certain number of them is kept: those that come first by their spelling. So the kept keys don't depend on the order
+// in which runs come, nor on how these are shared out. All runs of a kept key are counted.
 
 import { comesBefore } from "../run/order.mjs";
 
@@ -11,7 +11,7 @@ import { comesBefore } from "../run/order.mjs";
  * @property {number} runs how many they are
  * @property {number} early how many of them fail only after the early end of a timed wait
  * @property {number} first the least seed of the others, or of all if there are no others
- * @property {T} about what else the summary says of the first of them
+ * @property {T} about what else the summary says about the first of them
  */
 
 /** @template T @typedef {Omit<Entry<T>, "early"> & { early?: number }} Joined of other tallies; `early` is 0 if it isn't given */
@@ -41,7 +41,7 @@ export class Tally {
   /**
    * @param {string} key
    * @param {number} seed of the run
-   * @param {T} [about] what else the summary says of the run; that of the first one is kept
+   * @param {T} [about] what else the summary says about the run; it is kept for the first run
    * @param {boolean} [isEarly] whether the run fails only after the early end of a timed wait
    */
   add(key, seed, about, isEarly = false) {
@@ -56,7 +56,8 @@ export class Tally {
    */
   join(entries, others = 0) {
     for (const entry of entries) this.#put({ early: 0, ...entry });
-    // One that left keys out has kept as many as are kept here: none that stays here has runs among those.
+    // A tally that left keys out has kept as many as are kept here. So no key that stays here has runs among those that
+    // were left out.
     this.counted += others;
   }
 
@@ -72,7 +73,7 @@ export class Tally {
     return [...this.entries.values()].reduce((left, { runs }) => left - runs, this.counted);
   }
 
-  /** @returns {Entry<T>[]} those of most runs first; behind them those whose runs all need an early end */
+  /** @returns {Entry<T>[]} those of most runs first; after them those whose runs all need an early end */
   sorted() {
     this.#cut();
     return [...this.entries.values()].sort((one, other) => {

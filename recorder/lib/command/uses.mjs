@@ -1,4 +1,4 @@
-// What runs have used of one kind: in how many runs there was something, and what.
+// What runs have used of one kind: what it was, and how many runs have used something.
 
 import { listedOf, of } from "./summary-data.mjs";
 import { Tally } from "./tally.mjs";

@@ -9,7 +9,7 @@ import { wordOf } from "../options/table.mjs";
  * The file that is run, and whether it is a program.
  * @param {Record<string, any>} given what the options say
  * @param {string[]} positionals the words that are no options
- * @returns {{ module: string | undefined, isProgram: boolean }} no file where a kept run says which program it is of
+ * @returns {{ module: string | undefined, isProgram: boolean }} no file if a kept run says which program it is of
  * @throws {Refused}
  */
 export function runFrom(given, positionals) {
