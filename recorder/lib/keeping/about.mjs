@@ -46,14 +46,14 @@ export function modulePath(url) {
 }
 
 /**
- * The options of a run that aren't as they are by themselves, as words of the command line.
+ * The options of a run that don't have their defaults, as words of the command line.
  * @param {object} options
  * @returns {string} empty: none
  */
 export function optionsText(options) {
   const given = /** @type {Record<string, unknown>} */ (options);
   const names = Object.entries(OPTIONS).filter(([name, { of, isShared, ifNone }]) => {
-    // What is run isn't how it is run.
+    // This option says what is run, not how.
     if (name === "program") return false;
     return isShared && (of.includes("record") || name === "fresh") && ![undefined, ifNone].includes(given[name]);
   });

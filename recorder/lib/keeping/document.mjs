@@ -1,5 +1,5 @@
-// A page of one file: its code, its looks, its data, and the simulator where it has one. A policy allows the browser
-// just these, by their digests.
+// A page of one file: its code, its looks, its data, and the simulator if it has one. A policy allows the browser only
+// these, by their digests.
 
 import { createHash } from "node:crypto";
 import { existsSync, readFileSync } from "node:fs";
@@ -64,7 +64,7 @@ export function documentOf(name, title, data, simulator) {
       `style-src ${digestOf(style)}; img-src data:`,
     title: escaped(title),
     style,
-    // So no text of the data ends the element that it stands in.
+    // So no text of the data ends the element that it is in.
     data: JSON.stringify(data).replaceAll("<", "\\u003c"),
     simulator: simulator === undefined ? "" : `<script type="text/plain" id="simulator">${simulator.module}</script>\n`,
     code,

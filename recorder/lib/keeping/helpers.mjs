@@ -20,8 +20,8 @@ export function helperNames(views, threads, module) {
 }
 
 /**
- * The events of a trace as the script has them: those that hand waits over too, and each with the agent that it is of
- * there, and which of that one's calls it is (`inScript`).
+ * The events of a trace as the script has them: with those that hand waits over too; each with its agent there, and
+ * with the number of that agent's call (`inScript`).
  * @param {any[]} events
  * @param {Entry[]} entries of the script's report: those that act, wait and leave
  * @returns {any[]} the events themselves if the script has no helpers

@@ -10,7 +10,7 @@ import { isInstalled } from "./program.mjs";
 
 const PROGRAM = join(fileURLToPath(new URL("../../", import.meta.url)), "record.mjs");
 
-/** How this program is started: by its name where it is installed, else by its file. */
+/** How this program is started: by its name if it is installed, else by its file. */
 function programWords() {
   return isInstalled() ? "npx sabsim-record" : `node ${quoted(shortPath(PROGRAM))}`;
 }
@@ -18,7 +18,7 @@ function programWords() {
 /**
  * @param {{ module: string, args: string[], [option: string]: unknown }} options of the run
  * @returns {Omit<import("../../page/run-data.mjs").Command, "script">} to which `--replay FILE` is added, before what
- * stands behind `--`
+ * comes behind `--`
  */
 export function replayCommand(options) {
   const { module, args } = options;

@@ -14,14 +14,14 @@ import { comesBefore } from "../run/order.mjs";
  * @property {string[]} [notes] what their readers must know; an older recorder has none
  */
 
-/** What the name of the file ends with, behind that of the run, by which a kept run of a program is made again. */
+/** The ending of the file by which a kept run of a program is made again: its name begins with the run's. */
 export const PROGRAM_ENDING = "program.json";
 
 /** A file couldn't be written. */
 export class NotKept extends Error {}
 
 /**
- * Why files of a run that is to be kept aren't there.
+ * Why a run that is to be kept has not all of its files.
  * @param {import("../run/outcome.mjs").Outcome} outcome
  * @returns {string[]} a sentence each
  */
@@ -34,7 +34,8 @@ export function missingFiles({ seed, script, noScript, trace, noTrace }) {
 }
 
 /**
- * Makes a folder, and those above it. Node's own way never ends where a folder is there and takes none, as /proc.
+ * Makes a folder, and those above it. Node's own way never ends if the folder above exists and no folder can be made in
+ * it, as in /proc.
  * @param {string} path
  * @throws {Error} if it can't be made
  */
@@ -54,7 +55,7 @@ const messageOf = (error) => /** @type {Error} */ (error).message;
 
 export class Keeper {
   /**
-   * Makes the folder where it isn't there, and tries whether a file can be written.
+   * Makes the folder if it isn't there, and tries whether a file can be written.
    * @param {string} folder
    * @param {string} option that names it
    * @param {string} [name] what the names of its files begin with; undefined: the word seed and the run's seed
@@ -62,7 +63,7 @@ export class Keeper {
   constructor(folder, option = "--out", name = undefined) {
     this.folder = folder;
     this.name = name;
-    /** @type {string[]} the files that lie there by this keeper */
+    /** @type {string[]} the files that this keeper has written there */
     this.names = [];
     /** @type {number | undefined} the seed of the failing run that is kept */
     this.seed = undefined;
@@ -77,13 +78,13 @@ export class Keeper {
   }
 
   /**
-   * Keeps a failing run, unless one that comes before it is kept, or nothing is reported of this one. The files of one
-   * that comes behind it go when all those of this one are there.
+   * Keeps a failing run, unless one that comes before it is kept, or nothing is reported about this one. If one that
+   * comes after it was kept, its files go when all those of this one are there.
    * @param {import("../run/outcome.mjs").Outcome} outcome
    */
   keepFirst({ seed, onlyIf, script, report, trace, threads }) {
     const texts = { json: script, report, "trace.jsonl": trace };
-    // Of a program's run what makes it again is kept later.
+    // For a program's run, the file that makes it again is kept later.
     const isEmpty = threads === undefined && Object.values(texts).every((text) => text === undefined);
     const own = { seed, onlyIf };
     if (isEmpty || (this.first !== undefined && comesBefore(this.first, own))) return;
@@ -115,14 +116,14 @@ export class Keeper {
     return `${this.name ?? `seed-${seed}`}.${ending}`;
   }
 
-  /** @param {string[]} notes on the files @returns {Kept | null} where the files lie; null: there are none */
+  /** @param {string[]} notes on the files @returns {Kept | null} where the files are; null: there are none */
   kept(notes) {
     const { folder, names } = this;
     return names.length === 0 ? null : { folder, path: resolve(folder), files: names, notes };
   }
 
   /**
-   * Keeps what is reported of a run, in files of their own.
+   * Keeps what is reported about a run, each text in a file of its own.
    * @param {number} seed
    * @param {Record<string, string | undefined>} texts by the endings of their names; undefined: there is none
    */
@@ -133,7 +134,7 @@ export class Keeper {
   }
 
   /**
-   * Keeps a text under a name. It is written to another name first, so that no half of it is ever seen.
+   * Keeps a text under a name. It is written to a file of another name first, so that nobody ever sees half of it.
    * @param {string} name of a file in the folder
    * @param {string} text
    */
@@ -151,7 +152,7 @@ export class Keeper {
     if (!this.names.includes(name)) this.names = [...this.names, name];
   }
 
-  /** @param {string[]} names of files by this keeper */
+  /** @param {string[]} names of files of this keeper */
   #remove(names) {
     for (const name of names) {
       const path = join(this.folder, name);
@@ -165,8 +166,8 @@ export class Keeper {
   }
 
   /**
-   * Writes a new file. Its name can't be known before, and what already has that name isn't written to, so no link that
-   * somebody has put there leads out of the folder.
+   * Writes a new file. Its name can't be known before, and a file that already has that name isn't written to. So no
+   * link that somebody has put there leads out of the folder.
    * @param {string} name
    * @param {string} [text]
    * @returns {string} its path

@@ -17,7 +17,7 @@ import { PROGRAM_ENDING } from "./keep.mjs";
  * @property {string} program the path of its main module
  * @property {string[]} args
  * @property {number} seed
- * @property {Record<string, unknown>} options of the run that aren't as they are by themselves
+ * @property {Record<string, unknown>} options of the run that don't have their defaults
  * @property {number[]} row
  * @property {string | undefined} script the path of the run's script, if the row is still the one that it belongs to
  * @property {Windows | undefined} windows of that script, if its blocks aren't the program's
@@ -29,7 +29,7 @@ import { PROGRAM_ENDING } from "./keep.mjs";
 /** @param {number[]} row */
 const digestOf = (row) => createHash("sha256").update(row.join()).digest("hex").slice(0, 16);
 
-/** The options on which a run depends, besides what is run. */
+/** The options on which a run depends, except what is run. */
 const RULES = optionsOf("record").filter(([name, { isShared }]) => isShared && name !== "program");
 
 /**
@@ -37,7 +37,7 @@ const RULES = optionsOf("record").filter(([name, { isShared }]) => isShared && n
  * @param {import("./keep.mjs").Keeper} keeper
  * @param {Outcome} outcome of the run that is kept
  * @param {GroupOptions} options of the run
- * @returns {string[]} why that isn't kept, if so
+ * @returns {string[]} why that isn't kept, if it isn't
  */
 export function keepProgram(keeper, { seed, row, script, windows }, options) {
   if (!options.isProgram || row === undefined) return [];

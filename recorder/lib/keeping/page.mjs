@@ -1,6 +1,6 @@
 // The page of a run, `seed-N.html`: one file for a browser, which needs no other and no network. Its code and its looks
-// stand in the folder `page`; here they are joined with what sabsim prints of the run, its trace and the agents' code,
-// and with the simulator, where its module is there.
+// are in the folder `page`. Here they are joined with what sabsim prints about the run, its trace and the agents' code,
+// and with the simulator, if its module is there.
 
 import { endingText } from "../../page/endings.mjs";
 import { builtSimulator, documentOf } from "./document.mjs";
@@ -11,7 +11,7 @@ import { placedIn, windowTexts } from "./windows.mjs";
 /** @typedef {import("../run/outcome.mjs").Outcome} Outcome */
 /** @typedef {import("../../page/run-data.mjs").RunData} RunData */
 
-// Of a trace of more events the ordinary accesses are left out, except those that race.
+// If a trace has more events, its ordinary accesses are left out, except those that race.
 const MOST_EVENTS = 20_000;
 
 /**
@@ -29,7 +29,7 @@ const keyOf = ({ agent, block, byte, size, atomic, call, source, read, write, ac
   [agent, block, byte, size, atomic, call, source, access].join(" ");
 
 /**
- * What a side of a race calls an access.
+ * The name that a side of a race has for an access.
  * @param {boolean} read
  * @param {boolean} write
  */
@@ -39,7 +39,7 @@ function accessOf(read, write) {
 }
 
 /**
- * The events of each race: of each side the first access that is like it.
+ * The events of each race: for each side the first access that is like it.
  * @param {Outcome} outcome
  * @param {any[]} events
  * @returns {any[][]}
@@ -137,7 +137,7 @@ export function pageOf(data, simulator) {
  * @param {string} facts what `sabsim replay --format json` writes about it
  * @param {string} module the URL of the agents' module
  * @param {Pick<RunData, "about" | "command">} made how the run was made
- * @throws {SyntaxError} where the facts are no JSON
+ * @throws {SyntaxError} if the facts are no JSON
  */
 export function pageText(outcome, facts, module, made) {
   return pageOf({ ...pageData(outcome, facts, module), ...made }, builtSimulator());

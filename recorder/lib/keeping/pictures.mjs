@@ -16,13 +16,13 @@ import { wordsText } from "./words.mjs";
  * @property {string} ending of its file's name
  * @property {"explained" | "svg" | "json"} format of the replay that it is made from
  * @property {(output: string, outcome: Outcome, module: string, about: About) => string} made
- * @property {boolean} [isOfPrograms] whether it is made of runs of programs alone
+ * @property {boolean} [isOfPrograms] whether it is made only of runs of programs
  */
 
 /**
  * @typedef {object} How a run was made
  * @property {string} module the URL of the agents' module
- * @property {string} options of the command line that aren't as they are by themselves; empty: none
+ * @property {string} options of the command line that don't have their defaults; empty: none
  * @property {Omit<import("../../page/run-data.mjs").Command, "script">} [command] that makes the run again, by its
  * script or by its row; undefined: none does
  */

@@ -1,4 +1,4 @@
-// Which bytes of a program's buffers stand where in the script of a run, if its memory is more than a script can have.
+// Where bytes of a program's buffers are in the script of a run, if its memory is more than a script can have.
 
 /** @typedef {NonNullable<import("../run/outcome.mjs").Outcome["windows"]>[number]} NamedWindow */
 
@@ -7,7 +7,7 @@ const bytesText = (from, to) => (to - from === 1 ? `byte ${from}` : `bytes ${fro
 
 /**
  * @param {NamedWindow[]} windows
- * @returns {{ where: string, what: string }[]} where each stands in the script, and which bytes of the program it is
+ * @returns {{ where: string, what: string }[]} where each is in the script, and which bytes of the program it is
  */
 export const windowTexts = (windows) => windows.map(({ buffer, name, from, to, block, byte }) => ({
   where: `${bytesText(byte, byte + to - from)} of block ${block}`,
@@ -18,7 +18,7 @@ export const windowTexts = (windows) => windows.map(({ buffer, name, from, to, b
  * @template {{ block: number, byte: number }} T
  * @param {NamedWindow[] | undefined} windows undefined: the script's blocks are the program's
  * @param {T} at some bytes of the program
- * @returns {T} the same where they stand in the script
+ * @returns {T} the same, at their place in the script
  */
 export function placedIn(windows, at) {
   const window = windows?.find(({ buffer, from, to }) => buffer === at.block && from <= at.byte && at.byte < to);

@@ -1,4 +1,4 @@
-// A program's run in words: its threads, its memory if that stands in windows, and then each step with its line of
+// A program's run in words: its threads, its memory if that is shown in windows, and then each step with its line of
 // code. A message is sent and received.
 
 import { Views } from "../../page/elements.mjs";
@@ -6,11 +6,11 @@ import { endingText } from "../../page/endings.mjs";
 import { Stepper } from "../../page/steps.mjs";
 import { pageData } from "./page.mjs";
 
-/** In place of the number of a move, where a step isn't in the script. */
+/** In place of the number of a move, if a step isn't in the script. */
 const NO_MOVE = "-";
 
 /**
- * @param {string} facts what `sabsim replay --format json` prints of the run
+ * @param {string} facts what `sabsim replay --format json` prints about the run
  * @param {import("../run/outcome.mjs").Outcome} outcome that has a script
  * @param {string} module the URL of the program's main module
  * @returns {string} lines
