@@ -8,7 +8,7 @@
 const NUMBERS = /-?\d+(\.\d+)?/g;
 
 /**
- * What was found, whatever numbers it was found with: the first line, and the place in the code where a stack has one.
+ * What was found, whatever numbers it was found with: the first line, and the place in the code if a stack has one.
  * @param {string} detail
  */
 function findingOf(detail) {

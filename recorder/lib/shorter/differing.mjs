@@ -5,7 +5,7 @@ import { isLook, moverOf } from "../board/row.mjs";
 /** @typedef {import("./kept-script.mjs").KeptScript} KeptScript */
 /** @typedef {import("./kept-script.mjs").Step} Step */
 
-/** The code no longer does what stands in a kept script. */
+/** The code no longer does what a kept script has. */
 export class NoLongerTheSame extends Error {
   /** @param {string} how */
   constructor(how) {
@@ -55,7 +55,7 @@ const nameOf = (step) => step && `${step.agent} ${step.isOwn} ${step.key}`;
  * The first step in which a run differs from a script.
  * @param {KeptScript} kept
  * @param {KeptScript} now
- * @returns {string | undefined} how it differs; undefined where both are the same
+ * @returns {string | undefined} how it differs; undefined if both are the same
  */
 export function differenceText(kept, now) {
   const { length } = kept.steps;
@@ -113,7 +113,7 @@ function nowText(reason, agent, wanted) {
   return isLook(wanted) ? "it gets none" : "it has nothing to do, or waits";
 }
 
-/** @param {number[]} able who could move in place of what was wanted */
+/** @param {number[]} able which agents could move instead */
 function ableText(able) {
   if (able.length === 0) return "";
   return `; ${able.length === 1 ? "agent" : "agents"} ${able.join(", ")} could move`;

@@ -1,5 +1,5 @@
 // The moves of a script that have no effect, as the simulator reports them: those of agents whose calls have all
-// returned, or that wait, and ends of waits that there aren't.
+// returned, or that wait; and ends of a wait's time for agents that don't wait.
 
 /** @typedef {{ at: number, why: string }} IdleMove its position in the schedule, and the report's word for why */
 
@@ -8,7 +8,7 @@ const STUCK = /^(\d+) \d+ \d+ stuck (\S+)$/gm;
 /**
  * @param {import("../simulator/chosen.mjs").Simulator} simulator
  * @param {string} script
- * @returns {IdleMove[]} none of what is no script
+ * @returns {IdleMove[]} none if it is no script
  */
 export function idleMoves(simulator, script) {
   const { status, output } = simulator.run({ job: "replay" }, script);

@@ -1,10 +1,10 @@
 // Equivalent rows with fewer changes of agents. Two draws of different agents can change places if they touch no common
-// byte, or only load. So an agent goes on as long as nothing that comes before its next call is left.
+// byte, or only load. So an agent goes on as long as nothing is left that must come before its next call.
 
 /** @typedef {import("./kept-script.mjs").KeptScript} KeptScript */
 /** @typedef {import("./kept-script.mjs").Draw} Draw */
 
-/** What came last of those that touch a byte. */
+/** The last draws that touch a byte. */
 class Byte {
   constructor() {
     this.change = -1;
@@ -56,7 +56,7 @@ const isFree = (before, done) => before !== undefined && before.every((other) =>
 /**
  * A row of a script's draws in an equivalent order, in which each agent goes on as long as it can.
  * @param {KeptScript} kept
- * @param {number} first the agent that begins where it can
+ * @param {number} first the agent that begins if it can
  * @returns {number[]}
  */
 export function inOneGo(kept, first) {

@@ -1,9 +1,9 @@
 // A script that the recorder has kept, or that somebody has written, read back: the row of draws of its run, and what
 // was done in it.
 //
-// An access or a notify is three moves in a row, and one draw. So is a wait that doesn't wait; one that waits is two
-// moves, and two more where it is woken or its time is up, which is another draw. Stores by the views of ordinary
-// writes and of `init` are no draws. A wait of a helper is one of the thread that has called waitAsync.
+// An access or a notify is three moves in a row, and one draw. So is a wait that doesn't wait. One that waits is two
+// moves, and two more if it is woken or its time is up, which is another draw. Stores by the views of ordinary writes
+// and of `init` are no draws. A wait of a helper is one of the thread that has called waitAsync.
 
 import { handOverOf, helpersIn } from "../../script/helpers.mjs";
 import { CALLS, KINDS, SIZES } from "../../script/kinds.mjs";
@@ -53,7 +53,7 @@ class Unlike extends Error {}
 
 /**
  * @param {boolean} holds
- * @param {string} why it is no script of the recorder's where that doesn't hold
+ * @param {string} why it is no script of the recorder's if that doesn't hold
  * @returns {asserts holds}
  */
 function need(holds, why) {
@@ -164,7 +164,7 @@ class Reader {
     this.canBlock = script.agents.slice(0, own).map((/** @type {any} */ { block }) => block);
     need(this.canBlock.every((block) => typeof block === "boolean"), "an agent doesn't say whether it can block");
     /**
-     * Of each agent: how many calls have begun, how many of these are its own, the last one where it waits, and its
+     * Of each agent: how many calls have begun, how many of these are its own, the last one if it waits, and its
      * last draw.
      * @type {{ begun: number, own: number, waits: Step | undefined, last: Draw | undefined }[]}
      */
@@ -261,7 +261,7 @@ export function keptScript(text, name, idle = [], windows = undefined) {
 }
 
 /**
- * The number of the call that is made by each draw; 0 where the agent goes on from a wait.
+ * The number of the call that is made by each draw; 0 if the agent goes on from a wait.
  * @param {KeptScript} kept
  * @returns {Int32Array}
  */

@@ -72,8 +72,8 @@ function isShorter(one, other) {
 }
 
 /**
- * Why a failing run isn't shortened, if so. How far a run gets that meets a limit says little; and where a worker dies
- * in each run that is tried, it takes too long.
+ * Why a failing run isn't shortened, if so. If a run meets a limit, it says little how far it gets. If a worker dies in
+ * each run that is tried, it takes too long.
  * @param {RunSummary} summary
  * @returns {string | undefined}
  */
@@ -135,7 +135,7 @@ class Search {
   }
 
   /**
-   * Leaves out many stretches that stand together, then ever fewer.
+   * Leaves out many stretches in a row, then ever fewer.
    * @param {boolean} isBackward whether the last ones are left out first
    */
   async #dropChunks(isBackward) {
@@ -174,7 +174,7 @@ class Search {
   }
 
   /**
-   * Tries a row, and goes on from it where its run is shorter, and fails in the same way.
+   * Tries a row, and goes on from it if its run is shorter and fails in the same way.
    * @param {Stretch[]} stretches
    */
   async #isBetter(stretches) {

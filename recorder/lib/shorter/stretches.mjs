@@ -30,15 +30,15 @@ export const changesOf = (row) => Math.max(0, stretchesOf(row.map(moverOf)).leng
  */
 export const without = (stretches, at, count) => [...stretches.slice(0, at), ...stretches.slice(at + count)];
 
-// An agent that isn't held up makes fewer calls, so where two of its stretches are joined it may need fewer draws.
+// An agent that isn't held up makes fewer calls, so it may need fewer draws if two of its stretches are joined.
 const MOST_FEWER = 3;
 
 /**
- * Rows in which two stretches of one agent are one: the next one of the agent comes right behind one, or that one comes
- * right before the next, both with up to three draws less, or all that the agent does comes at once.
+ * Rows in which two stretches of one agent are one: the agent's next stretch comes right after this one, or this one
+ * right before the next, both with up to three draws less; or all that the agent does comes at once.
  * @param {Stretch[]} stretches
  * @param {number} at the stretch that is joined with others
- * @returns {Stretch[][]} none where the agent has no later one
+ * @returns {Stretch[][]} none if the agent has no later one
  */
 export function joinedFrom(stretches, at) {
   const { agent, draws } = stretches[at];
