@@ -1,5 +1,5 @@
 // The BroadcastChannel of a program. Node's own one starts itself, and its messages would come by the real loop. So a
-// message goes by the hidden ports of threads, to each channel of the name that there is when it is sent.
+// message goes by the hidden ports of threads, to each channel of the name that exists when it is sent.
 
 import { uncurried } from "../primordials.mjs";
 import { TO_CHANNELS } from "./moves.mjs";
@@ -100,7 +100,7 @@ class BroadcastChannel extends EngineTarget {
     table.start(this.#id);
   }
 
-  /** @param {unknown} target on which a method is called: as in node it must be such a channel */
+  /** @param {unknown} target on which a method is called: as in node, it must be such a channel */
   static #needs(target) {
     if (#id in Object(target)) return;
     throw nodeError("ERR_INVALID_THIS", 'Value of "this" must be of type BroadcastChannel', {}, TypeError);

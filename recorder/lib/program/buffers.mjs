@@ -1,6 +1,7 @@
-// The shared buffers of a program's thread. One that no other thread can reach is nobody else's affair. When it is put
-// into a message it becomes a block, before the message is sent: what was done to it until then comes before all that
-// others do. What comes out of a message is another object on the same memory: which block that is, is found by writing.
+// The shared buffers of a program's thread. A buffer that no other thread can reach concerns no other thread. When it
+// is put into a message it becomes a block, before the message is sent: what was done to it until then comes before all
+// that others do. What comes out of a message is another object on the same memory. A test by writing finds which block
+// it is.
 
 import { learn } from "../agent/ordinary/context.mjs";
 import { HELD } from "../memory/blocks.mjs";
@@ -36,7 +37,7 @@ export const MOST_GROWTH = 2 ** 26;
  */
 
 /**
- * Whether two buffers have the same memory. Nobody else writes meanwhile.
+ * Whether two buffers have the same memory. No other thread writes meanwhile.
  * @param {SharedArrayBuffer} one
  * @param {SharedArrayBuffer} other
  */
@@ -199,7 +200,7 @@ export class Buffers {
     if (known.block >= 0) this.blocks.adopt(known.block, now);
   }
 
-  /** @param {number} agent that begins, and has to know the blocks that there are */
+  /** @param {number} agent that begins, and has to know all blocks */
   handTo(agent) {
     const { blocks, mesh } = this;
     mesh.take();
@@ -248,9 +249,12 @@ export class Buffers {
       + "that several threads reach");
   }
 
-  /** @param {string} what has no byte, and another thread could reach it @param {string} place where it was made */
+  /**
+   * @param {string} what has no bytes, though another thread could reach it
+   * @param {string} place where it was made
+   */
   #refuseEmpty(what, place) {
-    // Which memory a received buffer has is found by its first byte.
+    // The first byte of a received buffer shows which memory it has.
     this.shown.refuse(`gave another thread a ${what} has no byte yet${place === "" ? "" : `, made at ${place}`}, `
       + "which isn't simulated yet");
   }

@@ -1,4 +1,4 @@
-// The child processes of a thread: they are real ones. What they would print goes where the program's own output goes, and
+// The child processes of a thread: they are real ones. What they print goes where the program's own output goes, and
 // standard input is empty. None of them is left when the thread's part in a run is over.
 
 import timers from "node:timers";
@@ -23,7 +23,7 @@ export class Children {
   onBegin = () => {};
 
   /**
-   * @param {Pids} pids of those that live, for others to end
+   * @param {Pids} pids of those that live, so that other threads can end them
    * @param {() => boolean} isShown whether what the program prints is shown
    */
   constructor(pids, isShown) {
@@ -48,7 +48,7 @@ export class Children {
 
   /**
    * Ends all. Nothing of the program's code hears of it.
-   * @param {(areEnded: boolean) => void} then is called when all are gone, or may be not
+   * @param {(areEnded: boolean) => void} then is called when all are gone, or when that takes too long
    */
   end(then) {
     const all = [...this.#begun];

@@ -1,5 +1,5 @@
 // CommonJS modules in a thread that makes run after run: the cache is emptied for each, and `import()` in them leads to
-// the run's own graph. Which names a CommonJS module exports to ES modules is found by node's own lexer.
+// the run's own graph. Node's own lexer finds which names a CommonJS module exports to ES modules.
 
 import fs from "node:fs";
 import Module from "node:module";
@@ -61,7 +61,7 @@ export class CommonJS {
   /** Forgets all modules, for the next run. */
   begin() {
     for (const file of Object.keys(Modules._cache)) delete Modules._cache[file];
-    // Where files were found. They may be gone.
+    // Where files were found. The files may be gone.
     for (const request of Object.keys(Modules._pathCache)) delete Modules._pathCache[request];
     for (const name of GLOBALS) delete (/** @type {any} */ (globalThis))[name];
     /** @type {any} */ (process).mainModule = undefined;
@@ -78,7 +78,7 @@ export class CommonJS {
   }
 
   /**
-   * Runs the code of a worker that has `eval: true`. It is a function's body here, since what a script declares would
+   * Runs the code of a worker that has `eval: true`. Here it is a function's body, since what a script declares would
    * stay for the next run.
    * @param {string} code
    * @param {string} name

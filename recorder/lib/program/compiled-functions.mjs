@@ -1,6 +1,7 @@
-// The functions that CommonJS modules are. Each run gets other ones, but the engine compiles a text at most twice in a
+// CommonJS modules as functions. Each run gets other ones, but the engine compiles a text at most twice in a
 // thread: the first time as node does it, which also shows whether the text is a function's. When the text comes again,
-// it is compiled as a script with that function in it. The engine keeps a script's code, and what of it has run.
+// it is compiled as a script with that function in it. The engine keeps a script's code, with the functions in it that
+// have run.
 
 import vm from "node:vm";
 import { uncurried } from "../primordials.mjs";
@@ -12,7 +13,7 @@ const run = uncurried(Script.prototype.runInThisContext);
 
 /** @param {string} text @param {readonly string[]} names @param {Options} options @returns {any} */
 function scriptOf(text, names, options) {
-  // Only a text may begin like a command, and in the script it isn't the beginning.
+  // Only a text by itself may begin like a command (`#!`). In the script it isn't the beginning.
   const body = text.startsWith("#!") ? `//${text.slice(2)}` : text;
   return new Script(`(function (${names.join(", ")}) {\n${body}\n})`, { ...options, lineOffset: -1 });
 }

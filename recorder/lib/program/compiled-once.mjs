@@ -1,11 +1,11 @@
 // ES modules of vm that the engine compiles once in a thread, though each run makes them anew. The engine keeps what it has
 // compiled, and finds it again for a module with the same text and the same symbol. Node makes another symbol for each
-// module, by which it finds who imports. Here a module's URL has one. It leads to the module that was made last, and the
-// modules of earlier runs import nothing any more.
+// module, by which it finds which module imports. Here a module's URL has one symbol. It leads to the module that was
+// made last, and the modules of earlier runs import nothing any more.
 
 import vm from "node:vm";
 
-/** Both are node's, with more than is written down of them. */
+/** Both are node's, with members that it doesn't document. */
 export const { SourceTextModule, SyntheticModule } = /** @type {any} */ (vm);
 
 // A program may freeze what it finds, or replace it. Then its modules are compiled each time.
@@ -21,7 +21,7 @@ const symbols = new Map();
 let symbol;
 
 // Node's own constructor gives its compiler either a symbol or data that was cached. For a SourceTextModule it demands
-// data, so the symbol takes that place behind its look at it.
+// data. So a class between the two puts the symbol in that place, after node's look at it.
 const Base = Object.getPrototypeOf(SourceTextModule);
 const Known = class extends Base {
   constructor(/** @type {object} */ options) {

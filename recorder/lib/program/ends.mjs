@@ -1,5 +1,5 @@
-// How a program's thread ends: nothing keeps it alive, it exits, or it throws what nobody catches. The first thread's end
-// is the run's. Another one lets the thread know that has started it.
+// How a program's thread ends: nothing keeps it alive, it exits, or it throws what nobody catches. The first thread's
+// end is the run's. Any other thread reports its end to the thread that has started it.
 
 import process from "node:process";
 import { described } from "../agent/described.mjs";
@@ -21,12 +21,12 @@ const LISTENER_THREW = 7;
  * @property {import("./threads.mjs").Threads} threads
  * @property {() => string} here where the program's code is
  * @property {() => never} leave leaves all code of the program that runs now
- * @property {() => void} closeSockets has others see that the thread's sockets are closed
+ * @property {() => void} closeSockets makes others see that the thread's sockets are closed
  */
 
 /** @typedef {"uncaughtException" | "unhandledRejection"} Origin */
 
-/** @type {any} node's, with more than is written down of it */
+/** @type {any} node's, with members that it doesn't document */
 const own = process;
 /** @type {(name: string, ...given: unknown[]) => boolean} */
 const emit = own.emit.bind(own);
@@ -48,7 +48,7 @@ export class Ends {
     this.leaving = leaving;
   }
 
-  /** Takes what node gives to nobody else. */
+  /** Takes what node gives to nothing else. */
   guard() {
     // A rejection that nobody handles comes here too.
     process.on("uncaughtException", (thrown, origin) => {
@@ -59,7 +59,7 @@ export class Ends {
   /** @param {unknown} thrown @param {Origin} [origin] */
   uncaught(thrown, origin = "uncaughtException") {
     if (this.isOver) return;
-    // What was thrown has left contexts of async_hooks open. Node, too, leaves all of them where it catches something.
+    // What was thrown has left contexts of async_hooks open. Node, too, leaves all of them when it catches something.
     clearAsyncIdStack();
     let isListenedTo = false;
     try {
@@ -79,12 +79,12 @@ export class Ends {
     this.isEvaluated = true;
   }
 
-  /** The thread's part in the run is over amid its code. */
+  /** The thread's part in the run is over, while its code runs. */
   halt() {
     this.isOver = true;
   }
 
-  /** @returns {boolean} whether the thread takes up nothing more */
+  /** @returns {boolean} whether the thread begins nothing more */
   isDone() {
     return this.isOver;
   }
@@ -94,7 +94,7 @@ export class Ends {
     return [];
   }
 
-  /** Nothing is left to be done: the program may find something. */
+  /** Nothing is left to be done, but listeners may begin something. */
   beforeExit() {
     emit("beforeExit", Number(own.exitCode ?? 0));
   }

@@ -1,4 +1,4 @@
-// What `fs.promises.open` gives a program: the methods of node's FileHandle by the synchronous functions.
+// What `fs.promises.open` gives a program: the methods of node's FileHandle, made of the synchronous functions.
 
 import { EventEmitter } from "node:events";
 import fs from "node:fs";

@@ -12,9 +12,10 @@ import { nodeLoader } from "./node-loader.mjs";
 
 const Modules = /** @type {any} */ (Module);
 const required = Module.createRequire(import.meta.url);
-// Only node has it, and only with the flag, so its name is no literal for the checker of types.
+// Only node has it, and only with the flag. So its name isn't written as a literal, which the checker of types would
+// look for.
 const { decorateErrorStack, SideEffectFreeRegExpPrototypeSymbolReplace } = required(["internal", "util"].join("/"));
-// Node makes a context of its own when it first needs one, for the text of an error. From now on it has it.
+// Node makes a context of its own when it first needs one, for the text of an error. From now on it has one.
 SideEffectFreeRegExpPrototypeSymbolReplace(/a/, "", "");
 const engineSync = Modules.syncBuiltinESMExports;
 const { parse } = JSON;
@@ -22,7 +23,7 @@ const { parse } = JSON;
 const NO_EXPORT = /module '(.*)' does not provide an export named '(.+)'/;
 const NOT_DEFINED = /^(?:require|exports|module|__filename|__dirname) is not defined$/;
 
-/** Node's warning that vm's modules are an experiment is of the recorder's doing, so it isn't shown. */
+/** The recorder causes node's warning that vm's modules are an experiment, so it isn't shown. */
 function makeWithoutWarning() {
   const { emitWarning } = /** @type {any} */ (process);
   /** @type {any} */ (process).emitWarning = () => {};
@@ -64,12 +65,12 @@ export class Graph {
   #modules = new Map();
   /** @type {Map<string, Builtin>} */
   #builtins = new Map();
-  /** @type {Promise<unknown>} modules are linked one after the other, since those on the way aren't waited for */
+  /** @type {Promise<unknown>} modules are linked one by one, since one that is being linked isn't waited for */
   #linking = Promise.resolve();
   /** @type {Set<Promise<unknown>>} */
   #evaluating = new Set();
   #commonJS;
-  /** Whether the thread has loaded a builtin by which a program can have node's own loader load modules. */
+  /** Whether the thread has loaded a builtin by which a program can make node's own loader load modules. */
   #reachesLoader = false;
 
   /**
@@ -195,7 +196,7 @@ export class Graph {
     }
     if (known !== undefined) return known.module;
     const module = format === "builtin" ? await this.#builtinOf(url) : this.#made(url, format);
-    // Somebody else may have made it meanwhile.
+    // Another import may have made it meanwhile.
     if (!this.#modules.has(url)) this.#modules.set(url, { module, format });
     return this.#modules.get(url).module;
   }
@@ -308,7 +309,7 @@ export class Graph {
 const isKnownType = (type) => type === undefined || type === "json";
 
 /**
- * Has node itself refuse a module, which it does before it runs anything.
+ * Lets node itself refuse a module, which it does before it runs anything.
  * @param {string} url
  * @param {Record<string, string>} attributes
  */

@@ -1,6 +1,6 @@
-// A group of threads that run a program, and the thread of their referee. Some stand ready; a run that needs more gets
-// more. A thread that can't leave its code can't begin again: another one takes its place. If that comes again and again,
-// others have begun before.
+// A group of threads that run a program, and the thread of their referee. Some threads are ready; a run that needs more
+// gets more. A thread that can't leave its code can't begin again: another one takes its place. If that happens again
+// and again, others begin in advance.
 
 import { MessageChannel } from "node:worker_threads";
 import { SCRIPT_LIMITS } from "../../script/limits.mjs";
@@ -21,12 +21,12 @@ import { programMemory, programPlan } from "./program-memory.mjs";
 
 const PROGRAM_MODULE = new URL("./worker.mjs", import.meta.url);
 
-/** The time of a wait or a timer that is further away is never up early in the seeds that hurry. */
+/** The time of a wait or a timer that is further away is never up early in the hasty seeds. */
 const SOON_MILLISECONDS = 1_000;
 
 /**
- * A job's first failing run may cost all of its threads so often: it is made again in fresh ones, and for its lines of
- * code. If more are lost, further ones will be, and others begin before.
+ * A job's first failing run may cost all of its threads so often: it is made again in fresh threads, and for its lines
+ * of code. If more are lost, further ones will be, so others begin in advance.
  */
 const FEW_TIMES = 3;
 
@@ -94,7 +94,7 @@ export class ProgramGroup extends Group {
    * @param {Parameters<Group["run"]>[2]} [onFailing]
    */
   run(seeds, onOutcome, onFailing) {
-    // Of several jobs the one prints that makes the first run of all.
+    // Of several jobs, only the one prints that makes the first run of all.
     this.#loud ??= /** @type {{ first?: number }} */ (this.options).first ?? seeds[0]?.seed;
     const all = seeds.map((wanted) => {
       const learns = this.#needsPilots(wanted);
@@ -137,7 +137,7 @@ export class ProgramGroup extends Group {
     this.#controls[0].postMessage({ main: { program: module, args } });
   }
 
-  /** @param {number} agent whose thread is ended, and another one takes its place */
+  /** @param {number} agent whose thread is ended; another one takes its place */
   async replace(agent) {
     this.#replaced += 1;
     const [next] = await Promise.all([this.#taken(), this.agents[agent].stop()]);
@@ -154,7 +154,7 @@ export class ProgramGroup extends Group {
   /** Nothing shows how many will be needed. */
   beginAhead() {}
 
-  /** @param {number} agent whose thread has been ended: so are the child processes that it has left */
+  /** @param {number} agent whose thread has been ended: the child processes that it has left are ended too */
   #endChildren(agent) {
     const { pids = [] } = /** @type {ReturnType<typeof programMemory>} */ (this.memory ?? {});
     for (const pid of pids[agent] === undefined ? [] : new Pids(pids[agent]).take()) {

@@ -1,6 +1,6 @@
-// Shared buffers that grow. To grow one, and to ask for its length, are moves of the run: what a thread has done before it
-// made the buffer longer comes before what is done by one that finds it longer. A call of `grow` that changes nothing,
-// as one that is refused, only reads the length (ECMA-262, SharedArrayBuffer.prototype.grow).
+// Shared buffers that grow. Growing one, and asking for its length, are moves of the run. What a thread has done before
+// it made the buffer longer comes before what is done by one that finds it longer. A call of `grow` that changes
+// nothing, such as one that is refused, only reads the length (ECMA-262, SharedArrayBuffer.prototype.grow).
 
 import { replace, replaceGetter } from "../agent/ordinary/patch.mjs";
 import { apply, mostLengthOf, sharedLengthOf } from "../primordials.mjs";
@@ -17,7 +17,7 @@ function isNoLength(length) {
   return index < 0 || index > MAX_SAFE_INTEGER;
 }
 
-/** @param {any} buffer @param {unknown} length @returns {boolean} whether it gets longer by that */
+/** @param {any} buffer @param {unknown} length @returns {boolean} whether that makes it longer */
 const getsLonger = (buffer, length) => {
   const index = trunc(Number(length));
   return index > sharedLengthOf(buffer) && index <= mostLengthOf(buffer);

@@ -68,7 +68,7 @@ export function installCloning(buffers) {
  */
 
 /**
- * Gives the thread's code what it is, and the classes by which it gets to others.
+ * Gives the thread's code what the thread is, and the classes by which it reaches other threads.
  * @param {Place} place
  * @param {Record<string, unknown>} classes of `worker_threads`
  */

@@ -11,8 +11,8 @@ export const { clearAsyncIdStack } = internal("async_hooks");
 /** The classes of node's own timers and immediates. */
 export const { Timeout, Immediate } = internal("timers");
 
-/** What all child processes begin by; the functions are called as members of this. */
+/** All child processes begin by this; the functions are called as its members. */
 export const processes = internal("child_process");
 
-/** What a thread hands on of what it threw, and what the other one makes of that. */
+/** The form in which a thread hands on what it threw, and what the other thread makes of that. */
 export const { serializeError, deserializeError } = internal("error_serdes");

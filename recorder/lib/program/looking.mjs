@@ -12,8 +12,8 @@ const { clearTimeout: clear, setImmediate: turnLater, setTimeout: wake } = timer
 const OWN = [Timeout, Immediate, MessagePort, Promise, AsyncResource];
 
 /**
- * How a look ends: something has come; nothing has, and all is as it was; or something that was waited for is no
- * more, since what closes is open until the loop has turned.
+ * How a look ends: something has come; nothing has, and all is as it was; or something that was waited for has gone,
+ * since what closes is open until the loop has turned.
  * @typedef {"came" | "nothing" | "less"} Found
  */
 
@@ -35,7 +35,7 @@ export class Looking {
   /** @type {any} the timer that ends the look; undefined: something has come, or nothing is looked for */
   #guard = undefined;
 
-  // Only while a thread looks: it makes promises slower.
+  // Only while a thread looks, since it makes promises slower.
   #hook = createHook({ before: () => this.#before() });
 
   /** What is done while an answer is held back isn't done on its behalf. */
@@ -85,7 +85,7 @@ export class Looking {
 
 /**
  * @param {any} resource of what node calls
- * @returns {boolean} whether that is an answer: else it is a tick, or what was done on behalf of an answer
+ * @returns {boolean} whether that is an answer; if not, it is a tick, or what was done on behalf of an answer
  */
 function isAnswer(resource) {
   for (let at = 0; at < OWN.length; at += 1) {

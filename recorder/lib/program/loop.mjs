@@ -1,6 +1,6 @@
-// The event loop of a program's thread. Ticks and microtasks run while the thread keeps its turn. Then one task is taken
-// up: a message, a timer, an immediate, or an own one of the thread; the seed draws which. The thread's real loop turns
-// only while modules are read, and before the thread ends.
+// The event loop of a program's thread. Ticks and microtasks run while the thread keeps its turn. Then one task begins:
+// a message, a timer, an immediate, or one of the thread's own; the seed draws which. The thread's real loop turns only
+// while modules are read, and before the thread ends.
 
 import process from "node:process";
 import timers from "node:timers";
@@ -11,7 +11,7 @@ import { isForeign, pendingOf } from "./real-work.mjs";
 import { keeperText, taskText } from "./timer-texts.mjs";
 
 const { setImmediate: turnLater, clearImmediate: turnNever } = timers;
-/** @type {any} node's, with more than is written down of it */
+/** @type {any} node's, with members that it doesn't document */
 const own = process;
 /** @type {() => string[]} */
 const resources = own.getActiveResourcesInfo.bind(own);
@@ -27,7 +27,9 @@ const SOON_MILLISECONDS = 1_000;
 /** How likely it is that the time of the first timer comes, in runs in which short times are up early. */
 const HASTY = 0.5;
 
-/** What comes of a step: the thread goes on; its part is over; node reads something; it looks; or the real loop turns. */
+/**
+ * The result of a step: the thread goes on; its part is over; node reads something; it looks; or the real loop turns.
+ */
 const STEP = Object.freeze({ GOES_ON: 0, IS_OVER: 1, READS: 2, LOOKS: 3, TURNS: 4 });
 
 /** What is under way if an answer is held back. */
@@ -46,7 +48,7 @@ const HELD = Object.freeze({ isSome: true, byThemselves: false, texts: ["an answ
  * @property {() => never} leave leaves all code of the run
  * @property {() => void} goHome is called when the thread's part in the run is over, and none of its code goes on
  * @property {Set<{ refed: boolean, where: string }>} children workers that this thread has started
- * @property {import("../memory/task-notes.mjs").TaskNotes} notes of tasks that are taken up
+ * @property {import("../memory/task-notes.mjs").TaskNotes} notes of tasks that begin
  * @property {() => string | undefined} here where the program's code is
  * @property {import("./looking.mjs").Looking} looking
  * @property {boolean} hasPhases whether timers that are due come before all else in each turn of the loop, as in node
@@ -71,7 +73,7 @@ export class Loop {
   /** @type {Map<object, number>} how many messages of each port come before the next immediate */
   #before = new Map();
 
-  /** Whether the thread looks for real answers before it takes up a task: it hasn't done so in vain since it rested. */
+  /** Whether the thread looks for real answers before it begins a task: it hasn't done so in vain since it rested. */
   #mayLook = true;
 
   /** Whether the real loop has turned since the thread did something: node may do more then, as http2 when it begins. */
@@ -87,7 +89,7 @@ export class Loop {
   constructor(served) {
     this.served = served;
     this.#isTurning = served.hasPhases;
-    // Of its own: so a thread goes on alike where only others are drawn in another order.
+    // A row of its own: so a thread does the same if only others are drawn in another order.
     this.random = new Random(new Int32Array(4));
   }
 
@@ -96,12 +98,12 @@ export class Loop {
     this.#tasks.push({ text, act, place: this.#notes ? this.served.here() : undefined });
   }
 
-  /** Whether it is noted what the loop takes up. */
+  /** Whether it is noted what the loop begins. */
   get #notes() {
     return this.served.moves.board.words[WORD.NOTES_SOURCES] === 1;
   }
 
-  /** @param {string} text what is taken up now @param {string} [place] where it was made */
+  /** @param {string} text what begins now @param {string} [place] where it was made */
   #note(text, place = "") {
     const { notes, moves: { agent, player } } = this.served;
     if (this.#notes) notes.note({ event: player.table.log.length, agent, text, place });
@@ -131,7 +133,7 @@ export class Loop {
     this.#next = turnLater(this.#begins);
   }
 
-  /** The thread's part in the run is over amid its code. */
+  /** The thread's part in the run is over, while its code runs. */
   halt() {
     this.#isHalted = true;
     turnNever(this.#next);
@@ -212,7 +214,7 @@ export class Loop {
     moves.answered();
   };
 
-  /** What has come isn't due by the run's row: the thread goes on with what else it has to do until it is. */
+  /** What has come isn't due by the run's row. Until it is, the thread goes on with what else it has to do. */
   #hold() {
     this.#holds = true;
     let step;
@@ -232,7 +234,7 @@ export class Loop {
         again = !this.served.ends.isOver;
       }
     }
-    // Of code in a microtask the engine has left the microtask alone.
+    // If the code was in a microtask, the engine has left only that microtask.
     if (this.#isHalted) this.served.leave();
   }
 
@@ -300,7 +302,7 @@ export class Loop {
     return texts.concat(ports.keepers(), ends.keepers());
   }
 
-  /** Takes up one of the tasks that are there. */
+  /** Begins one of the tasks that are there. */
   #act() {
     const acts = this.#choices();
     if (acts.length === 0) return;
@@ -314,10 +316,10 @@ export class Loop {
   }
 
   /**
-   * What may be taken up now. In node the timers that are due come first in each turn of the loop, then messages and
-   * the like, then the immediates: a timer isn't between those, but may be between two messages. A message that is there
-   * when the loop looks comes before the immediates; one that comes later may. What waitAsync has promised by now is
-   * settled before the immediates.
+   * What may begin now. In node the timers that are due come first in each turn of the loop, then messages and the
+   * like, then the immediates. A timer doesn't come between two immediates, but may come between two messages. A
+   * message that is there when the loop looks comes before the immediates; one that comes later may. What waitAsync has
+   * promised by now is settled before the immediates.
    * @returns {(() => void)[]}
    */
   #choices() {
@@ -371,7 +373,7 @@ export class Loop {
     }
   }
 
-  /** Behind the last immediate of a round the loop turns. */
+  /** After the last immediate of a round the loop turns. */
   #runImmediate() {
     const { timers: armed } = this.served;
     const immediate = armed.nextImmediate();

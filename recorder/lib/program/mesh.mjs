@@ -89,7 +89,7 @@ export class Mesh {
       const peer = this.#peers[agent];
       if (peer === undefined) continue;
       for (let found = receive(peer); found !== undefined; found = receive(peer)) {
-        // What another run has left is nobody's.
+        // What another run has left belongs to no thread.
         if (found.message.run === this.words[WORD.RUN]) this.#takers[found.message.kind](found.message);
       }
     }

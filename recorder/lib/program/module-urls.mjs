@@ -35,7 +35,7 @@ const shown = (url) => (url.startsWith("file:") ? fileURLToPath(url) : url);
 /**
  * @param {string} specifier
  * @param {string} parent URL of the module that imports it
- * @returns {string} the URL, whether there is such a file or not, as import.meta.resolve returns it
+ * @returns {string} the URL as import.meta.resolve returns it, also if there is no such file
  */
 export const urlOf = (specifier, parent) => nodeLoader.resolve(`${specifier}`, parent);
 

@@ -1,6 +1,6 @@
 // The moves of a program's thread besides its calls of Atomics. A message is two acts on the waiters of a place of its
-// own, one where it is sent and one where it is received: notifies that wake nobody. An event loop that has nothing to
-// do waits; one that has something asks for the turn.
+// own, one when it is sent and one when it is received: notifies that wake nobody. An event loop that has nothing to do
+// waits; one that has something asks for the turn.
 
 import { CALL_NUMBERS, CONSTRUCTORS, KINDS, SIZES } from "../../script/kinds.mjs";
 import { LEAVE, TIME_UP } from "../board/journal.mjs";
@@ -18,7 +18,7 @@ const INT32 = KINDS.indexOf("Int32");
 /** @param {number} agent @returns {number} what a message to a port of a thread goes to, for strategies */
 export const toThread = (agent) => LOOP_PLACES + agent;
 
-/** @param {number} port that is under way itself @returns {number} what a message to it goes to */
+/** @param {number} port that is being sent itself @returns {number} what a message to it goes to */
 export const toPort = (port) => PORT_PLACES + (port % (MESSAGE_PLACES - PORT_PLACES));
 
 /** What a message to all channels of a name goes to: the event loop of any thread may have one. */
@@ -47,7 +47,7 @@ export class Moves {
    */
   send(called, to) {
     const { words } = this.board;
-    // Others may send some before it is this one's turn, so its number is known then.
+    // Other threads may send messages before it is this one's turn, so the number is known only then.
     const call = this.#edge(to === TO_CHANNELS ? LOOP_PLACES : to);
     if (to === TO_CHANNELS) call.bytes = 4 * (PORT_PLACES - LOOP_PLACES);
     this.count();
@@ -94,8 +94,8 @@ export class Moves {
   }
 
   /**
-   * Asks for the turn to begin a wait in which nobody sleeps. If the word is equal, and the wait's time isn't over, it
-   * joins the line.
+   * Asks for the turn to begin a wait in which no thread sleeps. If the word is equal, and the wait's time isn't over,
+   * it joins the line.
    * @param {Call} call
    * @param {object} view
    * @param {Function} called the function that the program's code has called
@@ -114,7 +114,7 @@ export class Moves {
   }
 
   /**
-   * A wait joins the line without a draw, whatever its word is now: that was equal when the wait began.
+   * A wait joins the line without a draw, whatever its word is now: it was equal when the wait began.
    * @param {Call} call
    * @returns {number} which of the thread's calls it is
    */
@@ -128,7 +128,7 @@ export class Moves {
   }
 
   /**
-   * A wait in which nobody sleeps is settled.
+   * A wait in which no thread sleeps is settled.
    * @param {number} made which of the thread's calls it is
    * @param {Call} call
    * @param {boolean} isTimeUp
@@ -139,7 +139,7 @@ export class Moves {
     this.#goesOn();
   }
 
-  /** Counts the ordinary accesses so far: another thread may end this one where it gives up its turn. */
+  /** Counts the ordinary accesses so far: another thread may end this one when it gives up its turn. */
   count() {
     const { board, agent, player: { part } } = this;
     board.journal.countOrdinary(agent, part.accesses.count);
@@ -155,7 +155,7 @@ export class Moves {
    * The event loop has something to do: others may move before.
    * @param {import("./real-work.mjs").Pending} pending what the machine may bring besides
    * @param {boolean} mayLook whether the thread may look for that before
-   * @returns {boolean} whether the thread goes on, perhaps by looking: else its run is over, or it was ended
+   * @returns {boolean} whether the thread goes on, perhaps by looking; if not, its run is over, or it was ended
    */
   offer({ isSome, byThemselves }, mayLook) {
     const { board: { answers, row }, agent } = this;
@@ -168,7 +168,7 @@ export class Moves {
    * The event loop waits until there is something to do.
    * @param {number | undefined} milliseconds until a timer is due; undefined: there is none
    * @param {import("./real-work.mjs").Pending} pending what the machine may bring besides
-   * @returns {boolean} whether the thread goes on, perhaps by looking: else its run is over, or it was ended
+   * @returns {boolean} whether the thread goes on, perhaps by looking; if not, its run is over, or it was ended
    */
   idle(milliseconds, { isSome, byThemselves }) {
     const { board, agent } = this;
@@ -180,7 +180,7 @@ export class Moves {
 
   /**
    * @param {import("./real-work.mjs").Pending} pending
-   * @returns {string[]} what keeps a thread alive and brings nothing, if nobody can move any more, in words
+   * @returns {string[]} what keeps a thread alive but brings nothing, if no thread can move any more, in words
    */
   silentTexts({ isSome, byThemselves, texts }) {
     if (!isSome) return [];
@@ -188,7 +188,9 @@ export class Moves {
     return [`${once.join(", ")} (nothing came for ${this.board.answers.long(byThemselves) / 1_000} s)`];
   }
 
-  /** @returns {boolean} whether a real answer may come to this thread now: else it is held back until the row has it */
+  /**
+   * @returns {boolean} whether a real answer may come to this thread now; if not, it is held back until the row has it
+   */
   isDue() {
     const { board: { answers, row }, agent } = this;
     if (row.isDue(agent)) return true;
@@ -209,14 +211,14 @@ export class Moves {
     return this.board.turn.park(this.agent);
   }
 
-  /** @param {import("./looking.mjs").Found} found what has come of looking */
+  /** @param {import("./looking.mjs").Found} found the result of looking */
   looked(found) {
     const { board, agent } = this;
     if (found === "less") board.row.takesBack();
     if (found === "nothing") board.missed(agent);
   }
 
-  /** The thread has looked in vain before a task. @returns {boolean} whether it takes that up now */
+  /** The thread has looked in vain before a task. @returns {boolean} whether it begins that now */
   takesUp() {
     const { board, board: { answers, row, strategy }, agent } = this;
     if (row.isForced()) return false;

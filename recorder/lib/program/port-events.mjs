@@ -1,5 +1,5 @@
-// What a program's code does with ports: node's own methods serve for ports that the run doesn't know, and for those of
-// the run there are these. A listener gets a message when the run delivers it.
+// What a program's code does with ports: ports that the run doesn't know have node's own methods, and those of the run
+// have these. A listener gets a message when the run delivers it.
 
 import threads from "node:worker_threads";
 import { apply, defineProperty, getOwnPropertyDescriptor, put } from "../primordials.mjs";
@@ -60,7 +60,7 @@ export class PortEvents {
    * @param {any} port
    * @param {string} type
    * @param {unknown} data
-   * @returns {boolean} whether anybody listened
+   * @returns {boolean} whether there was any listener
    */
   emit(port, type, data) {
     return this.#deliver(port, type, (isEvent) => {

@@ -1,6 +1,6 @@
 // The ports of a program's thread. They are node's own, and messages go by node's own channels, so that what can be
-// cloned and transferred is as in node. But a port is never started for node: a message waits in it until the run says
-// that it is delivered.
+// cloned and transferred is as in node. But a port is never started for node. A message waits in it until the run
+// delivers it.
 
 import { AsyncResource } from "node:async_hooks";
 import threads from "node:worker_threads";
@@ -24,7 +24,7 @@ export const KIND = Object.freeze({ MESSAGE: 0, CLOSE: 1, ONLINE: 2, ERROR: 3, E
 /** @typedef {import("node:worker_threads").MessagePort} Port */
 
 /**
- * @typedef {object} Envelope a message as it is under way
+ * @typedef {object} Envelope a message as it is sent
  * @property {any} value
  * @property {number} kind one of `KIND`
  * @property {number} number of the message in the run
@@ -42,7 +42,7 @@ export const KIND = Object.freeze({ MESSAGE: 0, CLOSE: 1, ONLINE: 2, ERROR: 3, E
  */
 
 /**
- * @typedef {object} Meta what a thread knows of a port
+ * @typedef {object} Meta what a thread knows about a port
  * @property {number} id
  * @property {Listener[]} listeners in the order in which they were added
  * @property {boolean} listens whether it has a listener of messages
@@ -202,7 +202,7 @@ export class Ports {
     this.world.table.start(this.known(port).id);
   }
 
-  /** @param {any} port that is closed by this thread: the other side gets to know it behind what was sent before */
+  /** @param {any} port that is closed by this thread: the other side learns that after what was sent before */
   close(port) {
     const meta = this.known(port);
     if (meta.closed) return;

@@ -17,7 +17,7 @@ function print(text) {
   try {
     writeSync(2, text);
   } catch {
-    // Nobody reads it, or not fast enough.
+    // It isn't read, or not fast enough.
   }
 }
 

@@ -1,5 +1,5 @@
-// `process.env` of a thread of a program. As in node its values are texts. Threads that share it by SHARE_ENV have a copy
-// each, and from then on what changes it ends the run: so the copies stay the same.
+// `process.env` of a thread of a program. As in node its values are texts. Threads that share it by SHARE_ENV have a
+// copy each. From then on any change of it ends the run, so the copies stay the same.
 
 import process from "node:process";
 import { hasOwn } from "../primordials.mjs";

@@ -15,7 +15,7 @@ import { PortTable } from "../board/port-table.mjs";
 /** How many calls a thread can make: more than a script can have, and no more than a run has moves for. */
 const MOST_CALLS = Math.ceil(SCRIPT_LIMITS.moves / MOVES[MAKE]) + 1;
 
-/** How long each block can be; the last one stands for messages. */
+/** How long each block can be; the last one is for messages. */
 const longest = () => [...Array.from({ length: MOST_BLOCKS }, () => MOST_BYTES), MESSAGE_BYTES];
 
 /**

@@ -7,13 +7,16 @@ import { READING } from "./reading.mjs";
 /** @type {() => any[]} */
 const activeHandles = /** @type {any} */ (process)._getActiveHandles.bind(process);
 
-/** What is there in a thread by itself, and isn't work that is under way. */
+/** What each thread has by itself, and isn't work that is under way. */
 const OURS = new Set(["Immediate", "MessagePort", "Timeout", ...READING]);
 
 /** What node calls the work whose answers the machine gives: open sockets, pipes and processes, and requests. */
 const REAL = /^(?:Connect|GetAddrInfo|GetNameInfo|Http2|JS|Libuv|Pipe|Process|Query|Send|Shutdown|TCP|TLS|UDP|Write)/;
 
-/** Of these, what another part of the run has to bring about. Else a child process does, or what a request goes to. */
+/**
+ * Of these, what another part of the run has to cause. The others come from a child process, or from what a request
+ * goes to.
+ */
 const FROM_OTHERS = /^(?:Http2|JS|PipeServer|TCP|TLS|UDP)/;
 
 /** @type {Readonly<Record<string, string>>} */
@@ -22,14 +25,14 @@ const TEXTS = Object.freeze({
   TCPServerWrap: "a listening socket", TCPSocketWrap: "a socket", TLSWrap: "a socket", UDPWrap: "a datagram socket",
 });
 
-/** Names of what leaves nothing in a thread when it was ended. */
+/** Names of what leaves nothing in a thread after it was ended. */
 const OF_CHILDREN = /^child_process\./;
 
 /**
  * @typedef {object} Pending what the machine may bring to a thread
  * @property {boolean} isSome
  * @property {boolean} byThemselves whether some of it comes though the thread and others do nothing more
- * @property {string[]} texts what it is waited for by, in words
+ * @property {string[]} texts what the thread waits for, in words
  */
 
 /** @type {Pending} */
@@ -38,13 +41,17 @@ const NOTHING = Object.freeze({ isSome: false, byThemselves: false, texts: [] })
 /** @param {string} name @returns {string} */
 const textOf = (name) => TEXTS[name] ?? `a request (${name})`;
 
-/** @param {string} name of a resource of node's @returns {boolean} whether nobody simulates it, and no machine answers */
+/**
+ * @param {string} name of a resource of node's
+ * @returns {boolean} whether it isn't simulated, and the machine doesn't answer it
+ */
 export const isForeign = (name) => !OURS.has(name) && !REAL.test(name);
 
 /**
  * What is under way in a thread.
  * @param {string[]} resources of node's that are active
- * @param {(what: string) => never} refuse is called with what nobody simulates, and the machine doesn't answer either
+ * @param {(what: string) => never} refuse is called with what isn't simulated, and what the machine doesn't answer
+ * either
  * @returns {Pending}
  */
 export function pendingOf(resources, refuse) {
@@ -83,7 +90,7 @@ export class RealWork {
     this.notes.write(this.#used);
   }
 
-  /** A child process begins. Where node hands out functions by other names, as promisify does, nothing is noted yet. */
+  /** A child process begins. If node calls functions by other names, as promisify does, nothing is noted yet. */
   begins() {
     if (!this.#used.some(({ what }) => OF_CHILDREN.test(what))) this.note("child_process.spawn");
   }

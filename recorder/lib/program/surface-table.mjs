@@ -1,6 +1,6 @@
-// Whatever node 20 has for a program, and what becomes of it in a run: `simulated` is replaced or done by a synchronous
-// twin, `harmless` stays node's own, `real` is answered by the machine and is noted by its name and line, `refused` ends
-// the run by them. One word stands for a whole module.
+// All that node 20 has for a program, and what becomes of it in a run: `simulated` is replaced or done by a synchronous
+// twin, `harmless` stays node's own, `real` is answered by the machine and is noted by its name and line, `refused`
+// ends the run with its name and line. One word stands for a whole module.
 
 /** @typedef {"simulated" | "harmless" | "real" | "refused"} Kind */
 /** @typedef {Kind | Partial<Record<Kind, string>>} Row of a module; the names of its exports by kind */
@@ -226,7 +226,7 @@ export const GLOBALS = Object.freeze({
 });
 
 /**
- * Methods that are refused though their objects aren't: what is done by a thread of its own, or by a real clock.
+ * Methods that are refused though their objects aren't: what they do takes a thread of its own, or a real clock.
  * @type {Readonly<Record<string, string>>}
  */
 export const METHODS = Object.freeze({

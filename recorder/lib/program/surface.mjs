@@ -1,5 +1,6 @@
-// What a program may use of node, by the table beside this file. What is refused is replaced: it keeps what `typeof`
-// and `instanceof` say, and reports its name when it is called. Modules of node that took it before keep their own.
+// What a program may use of node, by the table beside this file. What is refused is replaced: `typeof` and `instanceof`
+// say the same about it, and it reports its name when it is called. Modules of node that took the original before keep
+// it.
 
 import Module from "node:module";
 import { isCalledByAgents } from "../agent/frames.mjs";
@@ -10,7 +11,7 @@ import { apply, construct, defineProperty, getOwnPropertyDescriptor, ownKeys } f
 /** @typedef {import("./surface-table.mjs").Row} Row */
 /**
  * @typedef {object} Given
- * @property {(name: string) => void} refuse gets names as `net.Stream` and doesn't return
+ * @property {(name: string) => void} refuse gets names such as `net.Stream` and doesn't return
  * @property {(name: string) => void} [used] gets the name of what the machine answers, if the program calls it itself
  * @property {() => boolean} [isPlaying] until then nothing is refused
  * @property {(id: string) => void} [loads] gets each module that a program loads, the first time
@@ -58,8 +59,9 @@ const namesIn = (exports) => Object.getOwnPropertyNames(exports).filter((name) =
   !(typeof exports === "function" && OF_FUNCTIONS.includes(name)));
 
 /**
- * What this version of node has and the tables don't know. A number does nothing, so those of zlib aren't in them.
- * @returns {string[]} as `fs.readFile` and `fetch`
+ * What this version of node has and the tables don't know. A number does nothing, so the numbers of zlib aren't in
+ * them.
+ * @returns {string[]} such as `fs.readFile` and `fetch`
  */
 export function unknownNames() {
   const ids = [...Modules.builtinModules, ...Object.keys(SCHEME_MODULES)];
@@ -73,7 +75,7 @@ export function unknownNames() {
     return unknown.filter((name) => typeof exports[name] !== "number").map((name) => `${id}.${name}`);
   });
   const globals = Object.getOwnPropertyNames(globalThis).filter((name) => kindOfGlobal(name) === undefined);
-  // Of a program that `node --eval` runs, each module is a global.
+  // If `node --eval` runs the program, each module is a global.
   return [...exported, ...globals.filter((name) => rowOf(name) === undefined)];
 }
 
@@ -123,7 +125,10 @@ function standIn(real, check) {
 /** @type {Readonly<Record<"refused" | "real", (name: string, given: Given) => () => void>>} what is replaced, and how */
 const REPLACED = Object.freeze({ refused: refusing, real: noting });
 
-/** @param {string} name of a global. Some are read of a module when they are asked for first @param {() => void} check */
+/**
+ * @param {string} name of a global. Some are read from a module when they are first asked for
+ * @param {() => void} check
+ */
 function replaceGlobal(name, check) {
   const found = getOwnPropertyDescriptor(globalThis, name);
   if (found === undefined) return;

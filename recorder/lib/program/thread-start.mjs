@@ -1,5 +1,5 @@
-// How a thread of a program starts another one: that one gets what it has to run and the ports that go with it, and joins
-// the run.
+// How a thread of a program starts another one: the new thread gets what it has to run and the ports that go with it,
+// and joins the run.
 
 import { SCRIPT_LIMITS } from "../../script/limits.mjs";
 import { WORD } from "../memory/layout.mjs";
@@ -22,8 +22,8 @@ import { toThread } from "./moves.mjs";
 /**
  * Starts a thread.
  * @param {Starting} starting
- * @param {object} given what it is to run, to which it is added where it was started
- * @param {any[]} transferList what goes to it for good
+ * @param {object} given what it is to run; where it was started is added to it
+ * @param {any[]} transferList what it gets for good
  * @param {Function} called the function that the program's code has called
  * @returns {{ agent: number, port: any, where: string }} its number, the port to it, and where it was started
  */

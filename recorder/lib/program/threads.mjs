@@ -1,5 +1,5 @@
-// The threads of a program's run: one begins when another has started it, and ends by itself or by another one. With it
-// end those that it has started, and its ports are closed.
+// The threads of a program's run. A thread begins when another has started it, and ends by itself or by another one.
+// Then those that it has started end too, and its ports are closed.
 
 import { AGENT_WORD, PHASE, WORD, wordOf } from "../memory/layout.mjs";
 
@@ -56,7 +56,7 @@ export class Threads {
     }
   }
 
-  /** @param {number} agent that ends: the other side of each of its ports gets to know it, behind what was sent */
+  /** @param {number} agent that ends: the other side of each of its ports learns that, after what was sent */
   closePorts(agent) {
     const { table, moves, board } = this;
     board.waiters?.endOf(agent);

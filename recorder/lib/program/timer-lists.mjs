@@ -6,7 +6,7 @@ import { mapForEach } from "../primordials.mjs";
 
 /** @typedef {any} Item a timer: `_idleStart`, and the links `_idleNext` and `_idlePrev` */
 
-/** The name is node's, so that a timer that is printed looks alike. */
+/** The name is node's, so that a printed timer looks the same. */
 class TimersList {
   /** @param {number} expiry @param {number} msecs @param {number} id */
   constructor(expiry, msecs, id) {

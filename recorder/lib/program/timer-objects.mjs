@@ -38,7 +38,7 @@ export const runInScope = uncurried(AsyncResource.prototype.runInAsyncScope);
 /** A class between the two, for the names that an AsyncResource has. */
 class ScopedTimeout extends EngineTimeout {
   /**
-   * A constructor that the engine makes would ask its list of what it was given for an iterator.
+   * A constructor that the engine adds would ask the list of its arguments for an iterator.
    * @param {any[]} given five, as node's own takes them
    */
   constructor(...given) {

@@ -73,7 +73,7 @@ class Ends {
     if (this.#resolve) this.#settle(Promise.reject(new AbortError(reason)));
   }
 
-  /** @returns {Promise<void> | undefined} none where a time has ended already */
+  /** @returns {Promise<void> | undefined} none if a time has ended already */
   waitFor() {
     if (this.#ended > 0) return undefined;
     return new Promise((resolve) => {

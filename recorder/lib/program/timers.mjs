@@ -1,6 +1,6 @@
 // Timers and immediates of a thread whose time is the run's. The functions take the place of node's: they check what
 // they get as node does, and return objects as node's. Nothing runs by itself: the loop of the thread asks what is due,
-// and has one callback after the other run. Load this file before anything replaces node's own timers.
+// and runs one callback after the other. Load this file before anything replaces node's own timers.
 
 import timers from "node:timers";
 import util from "node:util";
@@ -52,7 +52,7 @@ export class Timers {
    * @param {object} given
    * @param {() => number} given.now the run's clock in milliseconds
    * @param {() => void} given.changed called when the earliest deadline or the number of immediates has changed
-   * @param {() => any} [given.here] where the code stands that makes a timer
+   * @param {() => any} [given.here] where the code is that makes a timer
    */
   constructor({ now, changed, here = () => undefined }) {
     this.#now = () => Math.floor(now());

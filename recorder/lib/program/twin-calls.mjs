@@ -5,7 +5,7 @@ import { apply, construct, copyProperty, defineProperty, ownKeys } from "../prim
 
 /**
  * @typedef {object} Given
- * @property {(name: string, act: () => void) => void} later has a task run by the thread's loop
+ * @property {(name: string, act: () => void) => void} later lets the thread's loop run a task
  * @property {() => boolean} [isPlaying] whether the program runs; until then all is node's own
  */
 /** @typedef {{ value?: any, problem?: any }} Outcome */
@@ -44,7 +44,7 @@ export function replaceCall(owner, name, stand) {
 const resultOf = (name) => `has the result of ${name}`;
 
 /**
- * Has a callback run later, in the surroundings (AsyncLocalStorage) of now.
+ * Lets a callback run later, in the surroundings (AsyncLocalStorage) of now.
  * @param {Given} given
  * @param {string} name
  * @param {Function} done

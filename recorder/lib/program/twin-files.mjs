@@ -109,7 +109,7 @@ function putPromises(given) {
     const onPath = promises[name];
     replaceCall(promises, name, (/** @type {any} */ file, /** @type {any[]} */ ...rest) => {
       if (file instanceof FileHandle) return file[/** @type {"readFile"} */ (name)](...rest);
-      // A descriptor's number is none of what these take.
+      // These don't take the number of a descriptor.
       if (typeof file === "number") return enginePromises[name](file, ...rest);
       if (isPlaying() && name === "writeFile" && isInPieces(rest[0])) return writePieces(promises, file, rest);
       return onPath(file, ...rest);

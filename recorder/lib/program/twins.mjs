@@ -1,4 +1,4 @@
-// What node does slowly, by threads of its own, is done at once here. A task of the run has the result later. So it
+// What node does slowly, by threads of its own, is done at once here. A task of the run has the result later. So a run
 // repeats. Load this file before anything replaces functions of these modules; numbers drawn at random come from what
 // `crypto` has when `putTwins` is called.
 
@@ -78,7 +78,7 @@ function putWebAssembly(given) {
 
 /**
  * Replaces the slow functions of `fs`, `fs/promises`, `zlib`, `crypto` and WebAssembly. Call it once in a thread, and
- * `syncBuiltinESMExports` behind it.
+ * `syncBuiltinESMExports` after it.
  * @param {Given} given
  */
 export function putTwins(given) {

@@ -15,7 +15,7 @@ const { setImmediate: turnLater } = timers;
 
 /**
  * @typedef {object} Unwound
- * @property {() => void} stop nothing of the thread is recorded from now on, or begins
+ * @property {() => void} stop nothing of the thread is recorded from now on, and nothing begins
  * @property {() => boolean} isSwept runs ticks and microtasks, and returns whether node has nothing else under way
  * @property {() => void} goHome the thread can begin again
  * @property {() => never} park the thread never goes on
@@ -25,7 +25,7 @@ export class Unwinding {
   /** @type {Session | undefined} by which the engine is asked to unwind */
   #session = undefined;
 
-  /** @type {(() => void) | undefined} ends that each promise's job is broken off; none, if the code isn't being left */
+  /** @type {(() => void) | undefined} stops breaking off each promise's job; none, if the code isn't being left */
   #release = undefined;
 
   /** @type {object | undefined} by which node's loop will sweep */
@@ -34,7 +34,8 @@ export class Unwinding {
   /** @param {Unwound} unwound */
   constructor(unwound) {
     this.unwound = unwound;
-    // What else node calls, as a tick, may run code of the program, and can't be dropped. So the thread sleeps for good.
+    // What else node calls, such as a tick, may run code of the program, and can't be dropped. So the thread sleeps for
+    // good.
     this.hook = createHook({ before: () => void (this.#isOwn(executionAsyncResource()) || unwound.park()) });
   }
 
@@ -74,7 +75,7 @@ export class Unwinding {
       this.#session.connect();
     }
     this.#session.post("Runtime.terminateExecution");
-    // The engine looks for what it is asked each time round.
+    // The engine looks each time round whether it was asked to unwind.
     for (;;);
   }
 }

@@ -1,6 +1,6 @@
-// Values in messages. What is sent has the engine's own arrays in place of those that are watched, and the shared buffers
-// in it can be reached by others from then on. What is received gets watched arrays. Getters are called first, once, as
-// structured clone calls them: so memory is found that one of them returns.
+// Values in messages. What is sent has the engine's own arrays in place of those that are watched, and other threads
+// can reach its shared buffers from then on. What is received gets watched arrays. Getters are called first, once, as
+// structured clone calls them. So memory that one of them returns is found.
 
 import { types } from "node:util";
 import { memoryNumber } from "../agent/ordinary/context.mjs";
@@ -56,7 +56,7 @@ function hasGetter(inner) {
 }
 
 /**
- * A value in which each getter has been called: in its place stands what it has returned.
+ * A value in which each getter has been called: what it has returned is in its place.
  * @param {unknown} value
  * @param {Map<object, object>} made the copies of objects, so that each has one
  * @returns {unknown}
@@ -65,7 +65,7 @@ const settled = (value, made) => mirrored(value, made, {
   isIt: hasGetter,
   copyOf: (object) => {
     const copy = isArray(object) ? new EngineArray(object.length) : create(getPrototypeOf(object));
-    // An object may stand in itself.
+    // An object may have itself in it.
     mapSet(made, object, copy);
     ownKeys(object).forEach((key) => {
       // A getter may have taken away another property.

@@ -91,7 +91,7 @@ export class WaitAsync {
     return this.#pending.some((waiting) => this.#orderOf(waiting) > 0);
   }
 
-  /** Settles those that were notified, in the order in which they were. Node does it by one task. */
+  /** Settles those that were notified, in the order of the notifies. Node does it by one task. */
   settle() {
     const woken = this.#pending.filter((waiting) => this.#orderOf(waiting) > 0);
     woken.sort((one, other) => this.#orderOf(one) - this.#orderOf(other));
