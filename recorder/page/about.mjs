@@ -28,7 +28,7 @@ function copyButton(code) {
 }
 
 /**
- * A line with what it is about before it.
+ * A line that begins with what it is about.
  * @param {string} name
  * @param {...(string | Node)} parts
  */

@@ -1,4 +1,4 @@
-// A run of which a reader changes the schedule: it joins what is shown of the run with what can be changed.
+// A run whose schedule a reader changes: this joins what is shown of the run with what can be changed.
 
 import { callLines, changedData, marksOf } from "./changed.mjs";
 import { by } from "./dom.mjs";
@@ -13,7 +13,7 @@ export class Changeable {
   /**
    * @param {Run} run
    * @param {import("./schedule-pane.mjs").Words} words
-   * @param {(isChanged: boolean) => void} onChange the schedule is another now
+   * @param {(isChanged: boolean) => void} onChange the schedule has changed
    */
   constructor(run, words, onChange) {
     this.recorded = run;
@@ -37,7 +37,7 @@ export class Changeable {
     this.viewer.open(run, index);
   }
 
-  /** Shows the run as it is, and lets nothing of its schedule be changed. */
+  /** Shows the run as it is, with a schedule that can't be changed. */
   freeze() {
     this.editing = undefined;
     this.pane = undefined;

@@ -1,5 +1,5 @@
-// A run whose schedule was changed, as a page shows it, and what is different from the recorded run. It knows nothing
-// of how things are shown.
+// A run whose schedule was changed, as a page shows it, and what is different from the recorded run. This code doesn't
+// depend on how things are shown.
 
 import { isStandIn } from "../schedule/report.mjs";
 import { sizeOf, valueAt } from "./elements.mjs";
@@ -40,7 +40,7 @@ export function changedData(data, script, report) {
 }
 
 /**
- * The data of a script of which nothing but its report is known.
+ * The data of a script about which only its report is known.
  * @param {any} script
  * @param {Report} report
  * @returns {RunData}
@@ -74,12 +74,12 @@ function byCall(events) {
 }
 
 /**
- * The events of a trace in the order of another schedule. An agent's ordinary accesses stay between its calls; what the
- * reads would read there isn't known.
+ * The events of a trace in the order of another schedule. An agent's ordinary accesses stay between its calls. It isn't
+ * known what the reads would read there.
  * @param {RunData} data of the recorded run
  * @param {Script} script
  * @param {Report} report of the other schedule
- * @returns {Event[]} none where the trace doesn't have the calls of the report
+ * @returns {Event[]} none if the trace doesn't have the calls of the report
  */
 function retraced({ events, agents }, script, { entries }) {
   const calls = byCall(events.filter((event) => !isOrdinary(event)));
@@ -109,7 +109,7 @@ const wokenText = (woken) => (woken.length === 0 ? "wakes nobody" : `wakes ${wok
 const answerWord = (answer) => (answer === undefined ? "no answer" : valueText(answer));
 
 /**
- * What is different, as the lines of a table. The answer of a notify that wakes others isn't listed too.
+ * What is different, as the lines of a table. If a notify wakes others, its answer isn't listed as well.
  * @param {Differences} differences
  * @returns {Line[]}
  */
@@ -157,7 +157,7 @@ export function differenceText({ answers, woken, bytes }) {
 }
 
 /**
- * What steps are marked with, by their entries.
+ * The marks of steps, by their entries.
  * @param {Line[]} lines
  * @param {Report} report
  * @returns {Map<number, string>}

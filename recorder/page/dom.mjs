@@ -19,7 +19,7 @@ export function made(name, className, ...children) {
 /** @param {number} agent @param {string} [more] classes @returns {HTMLElement} an agent's number in its colour */
 export const badge = (agent, more = "") => made("span", `badge a${agent % 8} ${more}`, `${agent}`);
 
-/** @param {string} text @returns {HTMLElement} what only a reader of screens reads aloud */
+/** @param {string} text @returns {HTMLElement} what only a screen reader reads aloud */
 export const spoken = (text) => made("span", "spoken", text);
 
 /**

@@ -29,7 +29,7 @@ export const sizeOf = ({ kind }) => sizeOfKind(kind);
 export const valueAt = (bytes, { view, byte }) => elementText(view.kind, bytes, byte);
 
 /**
- * Whether some bytes lie in a view.
+ * Whether some bytes are in a view.
  * @param {View} view
  * @param {number} block
  * @param {number} byte
@@ -92,7 +92,7 @@ export class Views {
   }
 
   /**
-   * A view for bytes that the code hasn't accessed by an array: one of the script's, or one that it hasn't.
+   * A view for bytes that the code hasn't accessed by an array: one of the script's, or else a new one.
    * @param {number} block
    * @param {number} byte
    * @param {number} size
@@ -111,7 +111,7 @@ export class Views {
   /**
    * The elements that show what a store has changed.
    * @param {Stored} store
-   * @param {View | undefined} wanted that of the access for which the store stands
+   * @param {View | undefined} wanted the view of the access for which the store stands
    * @returns {Cell[]}
    */
   cellsOf({ block, byte, bytes: { length }, view: own }, wanted) {
@@ -120,7 +120,7 @@ export class Views {
   }
 
   /**
-   * The elements of a view on which some bytes lie, each by its name if it has one.
+   * The elements of a view that have some bytes, each by its name if it has one.
    * @param {View} view
    * @param {number} byte
    * @param {number} length of the bytes

@@ -2,7 +2,7 @@
 
 const WORDS = new Map([["check", "check failed"], ["bound", "limit met"]]);
 
-/** Whether a run that ended as `failed` threw: else the recorder or the engine stopped it. */
+/** Whether a run that ended as `failed` threw. If not, the recorder or the engine stopped it. */
 const THREW = /^(?:agent \d+|init) threw /;
 
 /**

@@ -1,4 +1,4 @@
-// The rows of memory that a page shows: what has a name, and what is accessed besides.
+// The rows of memory that a page shows: what has a name, and what else is accessed.
 
 import { isNamed, plainName } from "../script/written.mjs";
 import { cellAt, isWord, sizeOf } from "./elements.mjs";

@@ -1,5 +1,5 @@
-// A run as its page shows it: its steps, and for each of them the memory, who waits where, and where the agents are. It
-// runs in pages, and in tests; it knows nothing of how things are shown.
+// A run as its page shows it: its steps, and for each of them the memory, who waits where, and where the agents are.
+// This code runs in pages and in tests. It doesn't depend on how things are shown.
 
 import { helpersIn } from "../script/helpers.mjs";
 import { Rows } from "./memory-rows.mjs";
@@ -81,7 +81,7 @@ export class Run {
   }
 
   /**
-   * The access that fails to which one goes from a step: each in its turn.
+   * The access that fails to which one goes from a step: each in turn.
    * @param {number} index
    */
   failingFrom(index) {
@@ -120,7 +120,7 @@ export class Run {
     return this.steps.findIndex((step) => step.event === event);
   }
 
-  /** @returns {number[]} the steps that fail, in their order; the end where none does */
+  /** @returns {number[]} the steps that fail, in their order; the end if none does */
   #failing() {
     const { ending, detail, races, standings } = this.data;
     const end = this.steps.length - 1;

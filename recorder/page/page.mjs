@@ -1,4 +1,4 @@
-// The page of a run. The run's data stands in the page itself, and so does the simulator, where the page has one.
+// The page of a run. The run's data is in the page itself, and so is the simulator, if the page has one.
 
 import { Editing } from "../schedule/editing.mjs";
 import { whyNotOnCode } from "../schedule/on-code.mjs";

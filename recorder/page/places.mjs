@@ -1,4 +1,4 @@
-// Where the places that `sabsim check` names stand in a script's text: `line 2, column 5`, `agents[3].calls[37][1]`.
+// Where the places that `sabsim check` names are in a script's text: `line 2, column 5`, `agents[3].calls[37][1]`.
 
 import { TOKEN } from "../schedule/text.mjs";
 
@@ -22,7 +22,7 @@ function spanAt(text, line, column) {
  * The value that members and indices lead to.
  * @param {string} text that is JSON
  * @param {(string | number)[]} path
- * @returns {Span | undefined} of several members of one name the last one's
+ * @returns {Span | undefined} if several members have one name, the last one's
  */
 function spanOfValue(text, path) {
   const tokens = [...text.matchAll(TOKEN)].map(({ 0: token, index = 0 }) => ({ token, from: index }));
@@ -53,7 +53,7 @@ function spanOfValue(text, path) {
 }
 
 /**
- * Where a place stands.
+ * Where a place is.
  * @param {string} text
  * @param {string} place as `sabsim check` names it
  * @returns {Span | undefined}

@@ -30,18 +30,18 @@
  * @property {View[]} arrays of the code, by which ordinary accesses were made
  * @property {Entry[]} entries those that act, wait, leave and are stuck
  * @property {Record<string, any>[]} standings of agents whose calls haven't all returned
- * @property {Event[]} events of the trace; none where it isn't known
- * @property {boolean} isWhole whether all are there; else those that are ordinary and don't race aren't
+ * @property {Event[]} events of the trace; none if it isn't known
+ * @property {boolean} isWhole whether all are there; if not, those that are ordinary and don't race are missing
  * @property {string[]} places of the code: file, line and column
  * @property {{ file: string, text: string | null }[]} files
  * @property {[number, number][]} races the two events of each, the most useful first
  * @property {"all" | "touched"} holds which ordinary writes the script has
- * @property {string[]} [threads] of a program: each thread's file and where it was started; of the first one nothing;
- * and of each helper whose waitAsync it stands for
- * @property {{ where: string, what: string }[]} [windows] of a program that has more memory than a script: which bytes of
- * the blocks are which ones of the program
+ * @property {string[]} [threads] of a program: each thread's file and where it was started; empty for the first one;
+ * for each helper, whose waitAsync it stands for
+ * @property {{ where: string, what: string }[]} [windows] of a program that has more memory than a script: which bytes
+ * of the blocks are which bytes of the program
  * @property {number[]} [senders] of a program: which thread has sent each message
- * @property {Task[]} [tasks] of a program: what its event loops have taken up besides messages
+ * @property {Task[]} [tasks] of a program: what its event loops have begun besides messages
  * @property {string} [script] its text, in a page that can change the schedule
  * @property {About} [about] how the run was made
  * @property {Command} [command] that makes the run again; undefined: none does
@@ -58,16 +58,16 @@
 /**
  * @typedef {object} About
  * @property {string} module its path
- * @property {string} options of the command line that aren't as they are by themselves; empty: none
+ * @property {string} options of the command line that don't have their defaults; empty: none
  * @property {string} made the versions of the recorder, the simulator and node
  */
 
 /**
  * @typedef {object} Command words of a shell
  * @property {string} options the program, the module and the options that the run depends on
- * @property {string} args what stands behind the options, for the agents
+ * @property {string} args what comes behind the options, for the agents
  * @property {string} script the path of the run's script, or of the file that has its row
- * @property {boolean} [isOfRow] whether it makes this run alone, by its row, and no other schedule
+ * @property {boolean} [isOfRow] whether it makes only this run, by its row, and no other schedule
  */
 
 export {};

@@ -32,7 +32,7 @@ const LINES_SHOWN = 200;
  * @typedef {object} Words of the page about the schedule
  * @property {string} was what the schedule was before all changes: `recorded`, `written`
  * @property {string} fileName under which the changed script is saved
- * @property {() => string[]} notes about the changed schedule; one that is a command stands behind `$ `
+ * @property {() => string[]} notes about the changed schedule; a command comes behind `$ `
  */
 
 export class SchedulePane {

@@ -1,4 +1,4 @@
-// The simulator of a page: the module that stands in the page as base64, run by the loader that the page has.
+// The simulator of a page: the module, which the page has as base64, run by the page's loader.
 
 import { by } from "./dom.mjs";
 
@@ -9,7 +9,7 @@ import { by } from "./dom.mjs";
 /**
  * @param {SimulatorClass} Simulator
  * @returns {Promise<import("../schedule/editing.mjs").Simulate>}
- * @throws {Error} where the browser can't compile the module
+ * @throws {Error} if the browser can't compile the module
  */
 export async function simulateBy(Simulator) {
   const text = atob((by("simulator").textContent ?? "").trim());

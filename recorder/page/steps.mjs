@@ -32,7 +32,7 @@ import { callText, changesText, entryText, handOverText, standingText, valueText
  * @property {number} [entry] its position in the report
  * @property {number} [event] its position in the trace
  * @property {string} text what is done, in short
- * @property {string} answer what came of it, in short
+ * @property {string} answer its result, in short
  * @property {string} sentence the fact
  * @property {number} place of the code, or -1
  * @property {Access[]} accesses
@@ -204,7 +204,7 @@ export class Stepper {
     if (what === "wait") this.waits[agent] = number;
     const [name] = does;
     const message = handOverText(entry) ?? this.#messageText(entry);
-    // The place of a message is nothing of the program's.
+    // The place of a message isn't one of the program's.
     const touches = at !== undefined && what !== "leave" && message === undefined;
     const access = touches ? [this.#accessOf(entry, !["load", "wait", "notify"].includes(`${name}`))] : [];
     this.#add({
@@ -270,7 +270,7 @@ function bytesText({ block, byte, size }, view) {
 }
 
 /**
- * Whether an entry is none of a call that its agent made: it stands for an ordinary write, or is stuck.
+ * Whether an entry isn't about a call that its agent made: it stands for an ordinary write, or is stuck.
  * @param {Entry} entry
  */
 const isNoCall = ({ what, does }) => what === "stuck" || isStandIn(does);
@@ -278,7 +278,7 @@ const isNoCall = ({ what, does }) => what === "stuck" || isStandIn(does);
 /** @param {Event} event */
 export const isOrdinary = ({ does }) => does === "read" || does === "write";
 
-/** @param {Entry} entry @returns {string} what came of a call, in short */
+/** @param {Entry} entry @returns {string} the result of a call, in short */
 function answerText({ what, does: [name], answer, found = {} }) {
   if (what === "wait") return "waits";
   if (what === "leave") return answer === "ok" ? "goes on" : "its time is up";

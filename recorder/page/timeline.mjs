@@ -14,7 +14,10 @@ const ROWS_AROUND = 120;
 /** Steps that are no calls of Atomics. */
 const PLAIN = new Set(["ordinary", "store", "task"]);
 
-/** The rows of steps, with a lane for each agent. Of many steps only those near the ones that are seen are there. */
+/**
+ * The rows of steps, with a lane for each agent. If there are many steps, only the rows near those that are seen are
+ * made.
+ */
 export class Timeline {
   /** @param {Run} run @param {(index: number) => void} onChosen */
   constructor(run, onChosen) {
@@ -73,7 +76,7 @@ export class Timeline {
     pane.setAttribute("aria-activedescendant", this.rows[index].id);
   }
 
-  /** Sees to it that the rows are there that are seen, and some around them. */
+  /** Makes the rows that are seen, and some around them. */
   #draw() {
     const { steps } = this.run;
     const seen = Math.floor(this.pane.scrollTop / ROW_HEIGHT);

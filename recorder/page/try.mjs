@@ -13,7 +13,7 @@ import { simulateBy } from "./simulate.mjs";
 
 const TABS = ["steps", "report", "picture"];
 const TYPING_MILLISECONDS = 150;
-// Behind the start, which is none of an agent.
+// After the start, which isn't an agent's step.
 const FIRST_STEP = 1;
 
 const NOTES = ["These are the same calls in another order. A program might take another path, and make other calls."];
@@ -69,7 +69,7 @@ class TryPage {
     by("show-place").hidden = this.place === undefined;
     by("stale").hidden = status === 0;
     if (status !== 0) {
-      // A change would be written over the text that is refused.
+      // A change would overwrite the text that is refused.
       this.shown?.freeze();
       return;
     }

@@ -1,4 +1,4 @@
-// The steps of a run in a browser: the timeline, the chosen step in words, memory, and code where it is known; and how
+// The steps of a run in a browser: the timeline, the chosen step in words, memory, and code if it is known; and how
 // keys and buttons go from step to step.
 
 import { Code } from "./code.mjs";
@@ -17,7 +17,7 @@ const MOVES = new Map([
 ]);
 const LETTERS = new Map([["p", "switch-back"], ["n", "switch-forward"], ["f", "failing"]]);
 
-// What scrolls or is written in by keys itself keeps them.
+// Elements that scroll by keys, or that take text, keep their keys.
 const KEEPS_KEYS = "#code, #memory-pane, textarea, select, .keeps-keys";
 
 /**
@@ -59,7 +59,7 @@ export class Viewer {
     if (index === this.index) return;
     this.index = index;
     const state = this.run.stateAt(index);
-    // A long sentence takes room from the panes below it, so it stands there first.
+    // A long sentence takes room from the panes below it, so it is written first.
     this.#describe(steps[index]);
     this.timeline.choose(index);
     this.code?.show(state, steps[index].agent);

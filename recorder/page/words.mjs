@@ -1,5 +1,5 @@
-// The facts of a run in the words of `sabsim replay --format explained`, from what `--format json` prints of it. It
-// runs in pages, and in tests.
+// The facts of a run in the words of `sabsim replay --format explained`, from what `--format json` prints about it.
+// This code runs in pages and in tests.
 
 import { handOverOf } from "../script/helpers.mjs";
 
@@ -7,13 +7,13 @@ import { handOverOf } from "../script/helpers.mjs";
 /** @typedef {import("../script/text.mjs").View} View */
 
 /**
- * @typedef {object} Known what an entry's words rest on besides the entry
+ * @typedef {object} Known what an entry's words depend on besides the entry
  * @property {Map<string, View>} views by their names
  * @property {(number | undefined)[]} waits for each agent, the entry of its last wait
  */
 
 /**
- * What a call takes, answers or finds: a string of digits is a BigInt.
+ * What a call takes, returns or finds: a string of digits is a BigInt.
  * @param {unknown} value
  */
 export const valueText = (value) => (typeof value === "string" && /^-?\d+$/.test(value) ? `${value}n` : `${value}`);
@@ -125,7 +125,7 @@ function stuckText({ agent, call, why, does, since, found = {} }, { waits }) {
 }
 
 /**
- * The words of an entry: of an act, a wait or the end of one. Of a begin and a return there is no more than that.
+ * The words of an entry: of an act, a wait or the end of one. For a begin and a return they say only that.
  * @param {Entry} entry
  * @param {Known} known
  * @returns {string}

@@ -7,7 +7,7 @@ import { isStandIn } from "./report.mjs";
 
 /**
  * @template T
- * @typedef {object} Different what came of a call
+ * @typedef {object} Different the result of a call
  * @property {number} agent
  * @property {number} call
  * @property {(string | number)[]} does
@@ -20,7 +20,7 @@ import { isStandIn } from "./report.mjs";
 /**
  * @typedef {object} Differences
  * @property {Different<number | string | undefined>[]} answers undefined: the call has none
- * @property {Different<number[]>[]} woken whom a notify has woken
+ * @property {Different<number[]>[]} woken which agents a notify has woken
  * @property {DifferentBytes[]} bytes those that follow each other are together
  */
 
@@ -66,7 +66,7 @@ export function differencesOf(before, after) {
     return one.agent - other.agent || one.call - other.call;
   });
   /**
-   * The calls of which something differs.
+   * The calls whose results differ.
    * @template T
    * @param {(entry: Entry | undefined) => T} part
    * @returns {Different<T>[]}

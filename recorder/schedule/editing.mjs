@@ -47,7 +47,10 @@ export class Editing {
     this.script = JSON.parse(text);
     this.textWith = textWith(text);
     this.recorded = replayedAsWritten(turnsOf(this.script, report.entries), () => report);
-    /** Whether each turn has all moves of its draw, and is made anew so; else turns keep the moves that they have. */
+    /**
+     * Whether each turn has all moves of its draw, and is made anew with all of them; if not, turns keep the moves that
+     * they have.
+     */
     this.isWhole = isWhole(this.script, this.recorded);
     this.now = this.recorded;
     /** @type {{ turns: Turn[], moves: Move[], starts: number[], at: number }[]} before each change; `at` was chosen */
@@ -76,7 +79,7 @@ export class Editing {
     return this.textWith(this.now.moves);
   }
 
-  /** Whether the schedule is another than the recorded one. */
+  /** Whether the schedule differs from the recorded one. */
   get isChanged() {
     return JSON.stringify(this.now.moves) !== JSON.stringify(this.recorded.moves);
   }

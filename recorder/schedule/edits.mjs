@@ -1,4 +1,4 @@
-// What can be done to the turns of a schedule. Each operation gives other turns, or says why it can't be done; it
+// What can be done to the turns of a schedule. Each operation returns other turns, or says why it can't be done. It
 // changes nothing itself.
 
 /** @typedef {import("./fitting.mjs").Replayed} Replayed */
@@ -36,13 +36,13 @@ function swapped(turns, first, chosen) {
 export const earlier = ({ turns }, at) => swapped(turns, at - 1, at);
 
 /**
- * Moves a turn behind the one that comes behind it.
+ * Moves a turn after the one that comes after it.
  * @type {Edit}
  */
 export const later = ({ turns }, at) => swapped(turns, at, at);
 
 /**
- * Takes a turn away. Its agent makes the same calls, and has a turn less for them.
+ * Takes a turn away. Its agent makes the same calls, with one turn less.
  * @param {Replayed} replayed
  * @param {number} at
  * @returns {Edited | NotEdited}
@@ -53,8 +53,8 @@ export function dropped({ turns }, at) {
 }
 
 /**
- * Ends the time of the wait that a turn begins, right behind it. The turn in which the agent went on from the wait
- * becomes that turn; where there is none, a turn is added.
+ * Ends the time of the wait that a turn begins, right after it. The turn in which the agent went on from the wait
+ * becomes that turn. If there is none, a turn is added.
  * @param {Replayed} replayed
  * @param {number} at
  * @returns {Edited | NotEdited}

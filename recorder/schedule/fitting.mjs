@@ -1,5 +1,5 @@
 // The moves of turns in an order of their own. How many moves a turn has depends on the run: a wait that joins the line
-// has two, and one that doesn't has three. So the turns are laid out by what is known, and replayed; where the replay
+// has two, and one that doesn't has three. So the turns are laid out by what is known, and replayed. If the replay
 // shows that a wait does something else, they are laid out anew.
 
 import { isStandIn } from "./report.mjs";
@@ -32,7 +32,7 @@ const callKey = (agent, call) => `${agent} ${call}`;
 /** @typedef {{ call: number, waits: boolean, isStuck: boolean }} At how far an agent is; stuck: it couldn't move */
 
 /**
- * What comes of a turn; only of waits it isn't known before.
+ * The outcome of a turn; only for waits it isn't known before.
  * @param {At} at
  * @param {(string | number)[][]} calls of the agent
  * @param {boolean} timeUp
@@ -56,7 +56,7 @@ function outcomeOf({ what }, second) {
 /**
  * @param {Script} script
  * @param {Turn[]} turns
- * @param {(turn: number, agent: number, at: At) => Outcome | undefined} guess what comes of a turn
+ * @param {(turn: number, agent: number, at: At) => Outcome | undefined} guess the outcome of a turn
  * @returns {Layout}
  */
 function laidOut({ agents }, turns, guess) {
@@ -80,7 +80,7 @@ function laidOut({ agents }, turns, guess) {
 }
 
 /**
- * What comes of each turn, by the entries of its first two moves.
+ * The outcome of each turn, by the entries of its first two moves.
  * @param {number[]} starts
  * @param {Report} report
  */
@@ -101,8 +101,8 @@ const joinsOf = ({ entries }) =>
   new Set(entries.filter(({ what }) => what === "wait").map(({ agent, call }) => callKey(agent, call)));
 
 /**
- * Makes turns of which each is whole: the agent makes its next call to the end, joins the line of waiters, or goes on
- * from there; where it can't move the turn is one move without an effect.
+ * Makes turns that are all whole: the agent makes its next call to the end, joins the line of waiters, or goes on from
+ * there. If it can't move, the turn is one move without an effect.
  * @param {Script} script
  * @param {Turn[]} turns
  * @param {(moves: Move[]) => Report} replay
@@ -112,7 +112,7 @@ const joinsOf = ({ entries }) =>
 export function replayedWhole(script, turns, replay, before) {
   const last = outcomesOf(before.starts, before.report);
   const known = new Map(before.turns.map((turn, at) => [turn, last[at]]));
-  // What comes of the turns: of so many first ones it is sure, of the others a guess.
+  // The outcomes of the turns: sure for so many first ones, and guesses for the others.
   let sure = 0;
   let found = turns.map((turn) => known.get(turn));
   for (let { report } = before; ; ) {

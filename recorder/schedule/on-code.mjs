@@ -3,7 +3,7 @@
 /** @typedef {import("./editing.mjs").Editing} Editing */
 
 /**
- * Why the recorder can't do it.
+ * Why the recorder can't run it.
  * @param {Pick<Editing, "now" | "isWhole">} editing
  * @returns {string | undefined} undefined: it can
  */

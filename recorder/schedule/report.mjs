@@ -12,8 +12,8 @@ import { OF_STORES } from "../script/written.mjs";
  * @property {"begin" | "act" | "wait" | "leave" | "return" | "stuck"} what
  * @property {string} [why] of an entry that is stuck
  * @property {number | string} [answer]
- * @property {(string | number)[]} does the call: its name, its view's, its index, and what else it takes; empty where
- * the agent has no call left
+ * @property {(string | number)[]} does the call: its name, its view's, its index, and what else it takes; empty if the
+ * agent has no call left
  * @property {Place} [place]
  * @property {number} [since]
  * @property {Record<string, any>} [found]

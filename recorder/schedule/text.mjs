@@ -8,7 +8,7 @@ import { scheduleText } from "../script/text.mjs";
 export const TOKEN = /"(?:[^"\\]|\\.)*"|[[\]{},:]|[^\s"[\]{},:]+/g;
 
 /**
- * Where the schedule stands in the text of a script; of several members of this name the last one counts.
+ * Where the schedule is in the text of a script; if several members have this name, the last one counts.
  * @param {string} text that `sabsim replay` takes
  * @returns {[number, number]} its first character, and the one behind its last
  */
@@ -26,7 +26,7 @@ function scheduleSpan(text) {
 
 /**
  * @param {string} text of a script that `sabsim replay` takes
- * @returns {(moves: Move[]) => string} its text with another schedule; with its own it is the same text
+ * @returns {(moves: Move[]) => string} its text with another schedule; with its own schedule it is the same text
  */
 export function textWith(text) {
   const [from, to] = scheduleSpan(text);

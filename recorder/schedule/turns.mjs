@@ -17,8 +17,8 @@ import { isStandIn } from "./report.mjs";
  * @typedef {object} Turn
  * @property {number} agent
  * @property {boolean} timeUp whether it ends the time of a wait
- * @property {boolean} isFixed whether it has stores alone
- * @property {Move[]} moves as the schedule had them where the turn was made
+ * @property {boolean} isFixed whether it has only stores
+ * @property {Move[]} moves as the schedule had them when the turn was made
  */
 
 /**

@@ -1,5 +1,5 @@
-// Helpers: the agents of a script that stand for Atomics.waitAsync. Nobody sleeps in such a wait, so the agent that
-// calls it goes on; but an agent of a script that waits does nothing else. So each of these waits is a helper's. Both
+// Helpers: the agents of a script that stand for Atomics.waitAsync. No agent sleeps in such a wait, so the agent that
+// calls it goes on. But an agent of a script that waits does nothing else. So each of these waits is a helper's. Both
 // notify a place of their own before the wait, first the agent and then the helper, and another one after it, first the
 // helper. The view of these two places names both: `waitAsync_2_of_0` is that of helper 2, which serves agent 0.
 

@@ -12,7 +12,9 @@ export const KINDS = Object.freeze([
 
 /** @typedef {typeof Int8Array & typeof BigInt64Array & { new (...given: any[]): any }} KindConstructor */
 
-/** The constructor of each kind, by its number. What kind an array is of is known when it runs, and not by its type. */
+/**
+ * The constructor of each kind, by its number. The kind of an array is known when the code runs, and not by its type.
+ */
 export const CONSTRUCTORS = Object.freeze(KINDS.map((kind) => {
   return /** @type {Record<string, KindConstructor>} */ (/** @type {object} */ (globalThis))[`${kind}Array`];
 }));

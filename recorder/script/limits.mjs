@@ -1,4 +1,4 @@
-// The limits of a script, as docs/FORMATS.md of the project gives them, and those that a run has by itself.
+// The limits of a script, as docs/FORMATS.md of the project gives them, and the limits that a run has by default.
 
 /** What a script can have at most. */
 export const SCRIPT_LIMITS = Object.freeze({
@@ -11,7 +11,7 @@ export const SCRIPT_LIMITS = Object.freeze({
   text: 1_048_576,
 });
 
-/** For how many seconds an agent may make no call, where nothing else is asked for. */
+/** For how many seconds an agent may make no call, if nothing else is asked for. */
 export const DEFAULT_SECONDS = 10;
 
 /** How many groups of workers may run side by side. */

@@ -19,7 +19,7 @@ export function reportOf(entries, bytes, progress) {
   return moves.join("") + endText(bytes, progress);
 }
 
-/** @type {(agent: number, call: number) => string} what stands in each line of a call behind the position */
+/** @type {(agent: number, call: number) => string} what each line of a call has after the position */
 const headOf = (agent, call) => ` ${agent} ${call} `;
 
 /** @param {string[]} bytes @param {{ returned: number, calls: number }[]} progress */
@@ -30,14 +30,14 @@ function endText(bytes, progress) {
 }
 
 /**
- * What a call answers, as a report spells it.
- * @param {number | bigint | string} answer a value, or a word as "ok"
+ * What a call returns, as a report spells it.
+ * @param {number | bigint | string} answer a value, or a word such as "ok"
  * @returns {string}
  */
 export const answerText = (answer) => (typeof answer === "bigint" ? `${answer}n` : `${answer}`);
 
 /**
- * What the steps of a call are written as. A call that joins the line has four steps, and another one three.
+ * How the steps of a call are written. A call that joins the line has four steps, and any other call three.
  * @param {import("./text.mjs").Done} call
  * @returns {string[]} each with the end of its line
  */
@@ -56,7 +56,7 @@ function movesText({ calls, moves }) {
   for (let position = 0; position < moves.length; position += 1) {
     const { agent } = moves[position];
     const cursor = cursors[agent];
-    // Each move of an agent is one of its calls'.
+    // Each move of an agent belongs to one of its calls.
     const done = calls[agent][cursor.call];
     const steps = (done.steps ??= stepsOf(done));
     text += position + cursor.head + steps[cursor.step];

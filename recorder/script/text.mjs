@@ -19,8 +19,8 @@ import { SCRIPT_LIMITS } from "./limits.mjs";
  * @property {boolean} joined whether it joined the line of waiters
  * @property {string | null} answer as a report spells it, or null while it waits
  * @property {boolean} isOwn whether the agent called it; else it stands for an ordinary write, or hands a wait over
- * @property {Done} [standsFor] what the agent called, where another agent of the script makes that
- * @property {string} [name] of its element, where that has one
+ * @property {Done} [standsFor] what the agent called, if another agent of the script makes that call
+ * @property {string} [name] of its element, if that has one
  * @property {string[]} [steps] what a report has of each of its steps, once that was made
  */
 
@@ -37,7 +37,7 @@ import { SCRIPT_LIMITS } from "./limits.mjs";
 
 const MOVES_ON_A_LINE = 24;
 
-/** A move of each agent, behind another move of its line. */
+/** A move of each agent, after another move of its line. */
 const NEXT_MOVES = Array.from({ length: SCRIPT_LIMITS.agents }, (_, agent) => `, ${agent}`);
 
 /** @param {SpelledView} view @returns {string} the view as a script has it */

@@ -1,5 +1,5 @@
 // What the stores of a script that stand for ordinary writes, and for what `init` left, were in the code: the array
-// that wrote, and the value that it wrote. A float stands in a script as a whole number, which has the same bits.
+// that wrote, and the value that it wrote. In a script a float is a whole number that has the same bits.
 
 import { ANY_KIND, elementText, sizeOfKind, storedBytes } from "./values.mjs";
 
@@ -8,7 +8,7 @@ import { ANY_KIND, elementText, sizeOfKind, storedBytes } from "./values.mjs";
 /** What the names of views begin with whose stores stand for something else. */
 export const OF_STORES = /^(?:ordinary|init)_/;
 
-/** A name that a script gives a view by itself. */
+/** A name that the recorder gives a view by itself. */
 const BY_ITSELF = new RegExp(`^(${ANY_KIND})(?:_b\\d+)?(?:_at\\d+)?(?:_x\\d+)?$`);
 
 /** @param {{ name: string }} view @returns {string} its name without what says that it is one of stores */
@@ -18,7 +18,7 @@ export const plainName = ({ name }) => name.replace(OF_STORES, "");
 export const isNamed = (view) => !BY_ITSELF.test(plainName(view));
 
 /**
- * The element of a view that begins at a byte, as texts call it: a word goes by its name alone.
+ * The element of a view that begins at a byte, as texts call it: a word by its name alone.
  * @param {View} view
  * @param {number} byte of the block
  * @returns {string}
@@ -32,7 +32,7 @@ export function labelOf(view, byte) {
  * The view by which the code wrote what a store stands for.
  * @param {View} view of the store
  * @param {Map<string, View>} views of the script by their names
- * @returns {View} the view itself if it is of no such stores
+ * @returns {View} the view itself if it isn't one of such stores
  */
 export function writtenView(view, views) {
   if (!OF_STORES.test(view.name)) return view;

@@ -54,7 +54,7 @@ export class Trapped extends Error {
 /** The host has no memory for a call. */
 class NoMemory extends Error {}
 
-/** How the program ends where there is no memory. @returns {Ended} */
+/** How the program ends if there is no memory. @returns {Ended} */
 const outOfMemory = () => ({ status: 4, output: NOTHING, complaint: "sabsim: 5 OutOfMemory\n" });
 
 /** A memory of the module, with the pages of it that are the host's. */
@@ -204,8 +204,8 @@ export class Simulator {
   /**
    * Does what a command line asks for.
    * @param {string[]} words without the program's name; none has a character 0
-   * @param {(file: string | undefined) => Uint8Array} read returns what a file has, or standard input has where none is
-   * named; what it throws means that it can't be read
+   * @param {(file: string | undefined) => Uint8Array} read returns what a file has, or what standard input has if none
+   * is named; if it throws, the input can't be read
    * @param {boolean} [isTerminal] whether refusals are to be explained, as on a terminal
    * @returns {Ended}
    * @throws {Trapped}
@@ -223,7 +223,7 @@ export class Simulator {
   }
 
   /**
-   * Makes a call in an instance. After a trap nothing is known of its memory, so the next call has another one.
+   * Makes a call in an instance. After a trap nothing is known about its memory, so the next call has another one.
    * @param {(instance: Instance) => Ended} call
    * @returns {Ended}
    */
