@@ -1,5 +1,6 @@
 #!/usr/bin/env node
-// Joins summaries that the recorder has made by `--format json`, as those of several machines. `--help` shows more.
+// Joins summaries that the recorder has made by `--format json`, such as those of several machines. `--help` shows
+// more.
 
 import { parseArgs } from "node:util";
 import { formatted } from "./lib/command/formats.mjs";
@@ -72,6 +73,6 @@ async function main() {
   }
 }
 
-// Where nobody reads what went wrong, the status reports it.
+// If nobody reads what went wrong, the status reports it.
 process.stderr.on("error", () => {});
 process.exitCode = await main();

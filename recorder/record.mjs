@@ -13,6 +13,6 @@ const child = hasWord(/^(-[hV]$|--(help|version|replay))/) ? undefined : startJo
 const { evaluated, ownModules } = require("./lib/processes/own-modules.cjs");
 const { main } = evaluated(ownModules(new URL("./lib/command/main.mjs", import.meta.url)));
 const status = await main(words, child);
-// All is written. What the engine still compiles in other threads isn't awaited.
+// All is written. The process doesn't wait for what the engine still compiles in other threads.
 if (child === undefined) process.exitCode = status;
 else process.exit(status);

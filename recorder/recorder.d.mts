@@ -1,9 +1,9 @@
-// The types of the package. `tests/types` holds them against the code's own; node's types aren't needed for them.
+// The types of the package. `tests/types` compares them with the code's own. They don't need node's types.
 
-/** A URL, where the types of the user's project know one: node's, or those of browsers. */
+/** A URL, if the types of the user's project know one: node's, or those of browsers. */
 type ModuleUrl = typeof globalThis extends { URL: new (...given: never[]) => infer Url } ? Url : never;
 
-/** An AbortSignal, where the types of the user's project know one. */
+/** An AbortSignal, if the types of the user's project know one. */
 type StopSignal = typeof globalThis extends { AbortSignal: { prototype: infer Signal } } ? Signal : never;
 
 /**
@@ -57,7 +57,7 @@ export interface RunOptions {
   args?: string[];
   /** Who moves next; else "mixed". */
   strategy?: "mixed" | "uniform" | "partial-order" | `switch:${number}`;
-  /** Whether agents are switched before each call, also where pilots have shown that none can meet another. */
+  /** Whether agents are switched before each call, also where pilots have shown that no agents can meet. */
   everywhere?: boolean;
   /**
    * From 0 to 1: in how many of the draws the early end of a timed wait is offered while something else can move. 0:
@@ -101,8 +101,8 @@ export interface OfModule {
   /** Fills the buffers before the run, in place of the module's `init`. */
   init?: WithBuffers;
   /**
-   * Is called after a run that finished, in place of the module's `check`: what it throws fails the run, as does
-   * `false` or an error that it answers.
+   * Is called after a run that finished, in place of the module's `check`: what it throws fails the run, and so does
+   * `false` or an error that it returns.
    */
   check?: WithBuffers;
 }
@@ -116,7 +116,7 @@ export interface OfProgram {
   stuck?: "fail" | "allow";
   /** Whether the program is one for browsers: its main module stands for a page; else it is one of node. */
   web?: boolean;
-  /** Of which runs it is shown, on standard error, what the program prints; else of the first one. */
+  /** For which runs it is shown, on standard error, what the program prints; else for the first one. */
   programOutput?: "all" | "none";
   /** What plain aligned accesses of WebAssembly to shared memory are: C's `volatile` is relaxed; else "ordinary". */
   wasmAccesses?: "ordinary" | "relaxed";
@@ -139,7 +139,7 @@ export interface ManyRuns {
    * With several, `init` and `check` can't be given: they are functions of this process.
    */
   jobs?: number;
-  /** Of the runs that don't fail one in so many is checked; 0: none is, nor those that fail; else 1, so all. */
+  /** Of the runs that don't fail, one in so many is checked; 0: none is, nor those that fail; else 1, so all. */
   checkEvery?: number;
   /** Whether the agents' workers are started anew for each seed; else what the module keeps in variables stays. */
   fresh?: boolean;
@@ -158,13 +158,13 @@ export type ExploreOptions = RunOptions & ManyRuns & (OfModule | OfProgram);
 /** How a run ended; `race`: it finished, `check` found nothing, and it has unordered accesses. */
 export type Ending = "finished" | "deadlock" | "stuck" | "failed" | "check" | "race" | "bound";
 
-/** What a run came to. */
+/** The outcome of a run. */
 export interface Outcome {
   seed: number;
   ending: Ending;
   /** Whether it is a failing run, by its ending and by what is allowed. */
   fails: boolean;
-  /** Why it ended so; empty where all agents finished. */
+  /** Why it ended so; empty if all agents finished. */
   detail: string;
   moves: number;
   /** How many calls of Atomics were begun. */
@@ -186,16 +186,16 @@ export interface Outcome {
   answers?: (string | null)[][];
   /** What `sabsim replay` reads. */
   script?: string;
-  /** Which ordinary writes stand in the script: all, or those of bytes that some call of Atomics touches. */
+  /** Which ordinary writes the script has: all, or those of bytes that some call of Atomics touches. */
   scriptHolds?: "all" | "touched";
   /** Why there is no script. */
   noScript?: string;
-  /** Of a program's run that shares more memory than a script can have: which bytes of its buffers stand where. */
+  /** Of a program's run that shares more memory than a script can have: where the bytes of its buffers are. */
   windows?: MemoryWindow[];
-  /** What sabsim must answer. */
+  /** What sabsim must report. */
   report?: string;
   /**
-   * What a failing run failed by, in short: the first lines of what was thrown or what agents were at, and the lines of
+   * What made a failing run fail, in short: the first lines of what was thrown or what agents were at, and the lines of
    * code. Runs that fail alike have the same ones, up to the message's numbers. One that ended as `race` has its `races`.
    */
   failure?: { message: string[]; sources: string[] };
@@ -210,14 +210,14 @@ export interface Outcome {
   accesses?: Accesses;
   /** Why there is no trace, though it was wanted. */
   noTrace?: string;
-  /** The code of each file that the trace names; null where it can't be read, or is longer than 2^20 characters. */
+  /** The code of each file that the trace names; null if it can't be read, or is longer than 2^20 characters. */
   sources?: { file: string; text: string | null }[];
   /**
-   * Of a program's run that has its trace: the timers, immediates and other tasks that event loops have taken up, besides
+   * Of a program's run that has its trace: the timers, immediates and other tasks that event loops have begun, besides
    * messages. `event` says how many events of the trace come before.
    */
   tasks?: { event: number; agent: number; text: string; source: string | null }[];
-  /** Of a program's run: each thread's file and where it was started; of the first one nothing. */
+  /** Of a program's run: each thread's file and where it was started; empty for the first one. */
   threads?: string[];
   /** Which agent moved with each draw, in order (plus 16: by a real answer); of the shortest run, and of a program. */
   row?: number[];
@@ -225,7 +225,7 @@ export interface Outcome {
   onlyIf?: string;
   /**
    * Of a run that finished and has timed waits: those that ended only because their time was up. Nothing else could move,
-   * and their word had changed, or no other agent could ever go on. At a place that no run serves it is a sleep.
+   * and their word had changed, or no other agent could ever go on. If no run serves its place, it is a sleep.
    */
   onlyByTime?: OnlyByTime[];
   /** Of a run that has timed waits: the places at which agents wait, and that other agents have notified or written. */
@@ -239,13 +239,13 @@ export interface Outcome {
   checked: boolean;
   /** Why it hasn't. */
   unchecked?: string;
-  /** The run as its seed makes it, where the outcome is that of a shorter one. */
+  /** The run as its seed makes it, if the outcome is that of a shorter one. */
   original?: Omit<Outcome, "original" | "shortened" | "remembers">;
-  /** What came of the option `shorten`, where the run failed. */
+  /** The result of the option `shorten`, if the run failed. */
   shortened?: Shortened;
 }
 
-/** Bytes of a program's buffer, from `from` to `to` - 1, that stand in a block of the script and of the trace. */
+/** Bytes of a program's buffer, from `from` to `to` - 1, that are in a block of the script and of the trace. */
 export interface MemoryWindow {
   /** The number by which texts call the buffer, and the line where it was made; empty if that isn't known. */
   buffer: number;
@@ -275,9 +275,9 @@ export interface Standing {
   column: number | null;
 }
 
-/** What a trace doesn't have of its ordinary accesses. */
+/** What a trace doesn't say about its ordinary accesses. */
 export interface Accesses {
-  /** The typed arrays of the code by which they were made: each by its name in texts, its kind and where it lies. */
+  /** The typed arrays of the code by which they were made: each by its name in texts, its kind and where it is. */
   arrays: { name: string; kind: string; block: number; offset: number; length: number }[];
   /**
    * For each: its position in the trace, that of its array, and as JavaScript writes it what it read; null: it wrote, or
@@ -298,7 +298,7 @@ export interface OnlyByTime {
   byte: number;
 }
 
-/** What the shortening of a failing run came to. */
+/** The result of shortening a failing run. */
 export interface Shortened {
   /** How many runs it took. */
   runs: number;

@@ -10,7 +10,7 @@ import { fileURLToPath } from "node:url";
 import { Simulator } from "./wasm/simulator.mjs";
 
 const NOT_RUN = 2;
-// The status of the program where a write failed.
+// The status of the program if a write failed.
 const NOT_WRITTEN = 3;
 const MODULE = new URL("./wasm/sabsim.wasm", import.meta.url);
 
@@ -39,7 +39,8 @@ function refuse(message) {
  * @param {string[]} words of the command line
  */
 function run(path, words) {
-  // Listened to before the program begins: one that comes meanwhile is passed on when it has begun.
+  // Signals are listened to before the program begins. One that comes meanwhile is passed on when the program has
+  // begun.
   /** @param {NodeJS.Signals} signal */
   const pass = (signal) => void child.kill(signal);
   for (const signal of SIGNALS) process.on(signal, pass);
@@ -57,7 +58,7 @@ function run(path, words) {
  * @param {NodeJS.Signals} signal
  */
 function endBy(signal) {
-  // Of a signal that doesn't end node, as SIGPIPE, the status reports, as a shell's does.
+  // A signal that doesn't end node, such as SIGPIPE, is reported by the status, as a shell does it.
   process.exitCode = 128 + constants.signals[signal];
   process.kill(process.pid, signal);
 }

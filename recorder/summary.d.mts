@@ -1,5 +1,5 @@
 // The summary of many runs, as `record.mjs --format json` and `merge.mjs --format json` print it: one JSON object.
-// All members are always there; later versions may add some. `tests/types` holds this type against the code's own.
+// All members are always there; later versions may add some. `tests/types` compares this type with the code's own.
 
 import type { OnlyByTime, Standing } from "./recorder.mjs";
 
@@ -101,7 +101,7 @@ export interface FinalState {
   named: string | null;
 }
 
-/** How far the lines of code were covered that came one after the other at a place (`--until-covered`). */
+/** How far the runs covered pairs of lines of code that came one after the other at a place (`--until-covered`). */
 export interface Coverage {
   /** The pairs of lines. */
   pairs: string[];
@@ -142,7 +142,7 @@ export interface Summary {
   /** How many of the runs that ended as `failed` threw; the others were stopped. */
   threw: number;
   /**
-   * What failing runs failed by, except races: the first lines of the message, and the lines of code. Runs with the same
+   * What made runs fail, except races: the first lines of the message, and the lines of code. Runs with the same
    * ending, the same lines of code and the same message up to its numbers are one entry.
    */
   failures: FailingListed<{ ending: string; message: string[]; sources: string[] }>;
@@ -176,7 +176,7 @@ export interface Summary {
   accesses: number | null;
   /** What was not seen, a sentence each. */
   unseen: string[];
-  /** Where files lie: the folder as it was given, its path, the files' names, and what their readers must know. */
+  /** Where files are: the folder as it was given, its path, the files' names, and what their readers must know. */
   kept: { folder: string; path: string; files: string[]; notes?: string[] } | null;
   /** What is not kept, and why, a sentence each. */
   notKept: string[];

@@ -1,4 +1,4 @@
-// The types of `sabsim/test`. `tests/types` holds them against the code's own.
+// The types of `sabsim/test`. `tests/types` compares them with the code's own.
 
 import type { ManyRuns, OfModule, OfProgram, RunOptions } from "./recorder.mjs";
 
@@ -13,24 +13,23 @@ export interface OfTrial {
 /** The runs of a trial: they have the options of `explore` except `failFast`, since the first failing one is the last. */
 export type TrialRuns = RunOptions & Omit<ManyRuns, "failFast"> & OfTrial;
 
-/** What a trial of a module of agents is made by. */
+/** What a trial of a module of agents takes. */
 export type TrialOptions = TrialRuns & OfModule;
 
-/** What a trial of a program is made by. */
+/** What a trial of a program takes. */
 export type ProgramTrialOptions = TrialRuns & OfProgram;
 
 /**
  * A test of node:test that runs the agents of a module under the schedules of many seeds, up to the first run that
- * fails. What it says then has the seed, how the run ended, its last acts as sabsim explains them, and where its files
- * lie.
+ * fails. Then it reports the seed, how the run ended, its last acts as sabsim explains them, and where its files are.
  */
 export function testAgents(name: string, options: TrialOptions): Promise<void>;
 
-/** The same as a part of any test: it fails with an AssertionError where a run fails. */
+/** The same as a part of any test: it fails with an AssertionError if a run fails. */
 export function assertAgents(options: TrialOptions): Promise<void>;
 
 /** A test of node:test that runs a whole program under the schedules of many seeds, as `testAgents` runs agents. */
 export function testProgram(name: string, options: ProgramTrialOptions): Promise<void>;
 
-/** The same as a part of any test: it fails with an AssertionError where a run fails. */
+/** The same as a part of any test: it fails with an AssertionError if a run fails. */
 export function assertProgram(options: ProgramTrialOptions): Promise<void>;

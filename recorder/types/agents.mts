@@ -1,4 +1,4 @@
-// Which functions the type `Agent` takes: synchronous ones alone.
+// Which functions the type `Agent` takes: only synchronous ones.
 
 import type { Agent } from "../recorder.mjs";
 
