@@ -1,5 +1,5 @@
 #!/usr/bin/env node
-// What the checks cost: seeds a second with every run checked, beside those with none checked. Both go on by turns, so
+// What the checks cost: seeds a second with every run checked, beside those with none checked. The two take turns, so
 // that other work on the machine slows both. The start isn't counted.
 //
 //     node recorder/bench/checks.mjs [--turns N] [--each N] [--jobs N,..] [--modules FILE,..]
@@ -18,12 +18,12 @@ const RECORDER = new URL("../", import.meta.url);
 /** Whole numbers, ordinary data, and bytes that are written many at a time. */
 const MODULES = ["examples/mutex-naive.agents.mjs", "tests/known/ring.mjs", "tests/known/bulk-overlap.mjs"];
 
-/** As many runs are made first: the engine has compiled all by then. */
+/** So many runs are made first: by then the engine has compiled all. */
 const WARM = 1_000;
 
 /** @typedef {{ turns: number, each: number, warm?: number }} Amount how many turns, outcomes of each, and runs before */
 
-/** Between turns nobody takes outcomes. By then all runs are made that are made ahead. */
+/** Between turns no outcomes are taken. By the end of this pause all runs are made that are made ahead. */
 const REST_MILLISECONDS = 100;
 
 /** @param {string} module its path @returns {string} from the recorder's folder, if it is there */
@@ -53,7 +53,7 @@ class Course {
     for (let taken = 0; taken < count; taken += 1) await this.outcomes.next();
   }
 
-  /** @param {number} count of outcomes of which the time counts */
+  /** @param {number} count of outcomes whose time counts */
   async turn(count) {
     await pause(REST_MILLISECONDS);
     // Those that were made ahead, and as many again.

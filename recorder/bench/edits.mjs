@@ -15,9 +15,9 @@ import { readFileSync } from "node:fs";
 
 /** Edits that leave the program right. */
 export const RIGHT = "right in spite of the edit";
-/** A wake-up is lost, but the one that waits for it waits with a time, so that no run fails. */
+/** A wake-up is lost, but the agent waits for it with a time, so that no run fails. */
 export const HIDDEN = "timed wait hides a lost notify";
-/** Somebody may never get in, which no run that ends can show. */
+/** An agent may never get in, which no run that ends can show. */
 export const STARVES = "starvation";
 
 /** @type {[name: string, piece: string, kind: string, from: string, to: string][]} */
@@ -266,14 +266,14 @@ export const EDITS = Object.freeze(ROWS.map(([name, piece, kind, from, to]) => O
 /** The file of a piece. @param {string} piece */
 export const fileOf = (piece) => new URL(`./pieces/${piece}.mjs`, import.meta.url);
 
-/** What finds a text with any white space. @param {string} text */
+/** A pattern that finds a text with any white space. @param {string} text */
 const findsText = (text) => new RegExp(text.trim().split(/\s+/)
   .map((word) => word.replace(/[$()*+.?[\\\]^{|}]/g, "\\$&")).join("\\s+"), "g");
 
 /**
  * The text of a wrong program.
  * @param {Edit} edit
- * @throws where what it replaces doesn't occur exactly once
+ * @throws if what it replaces doesn't occur exactly once
  */
 export function editedText({ name, piece, kind, from, to }) {
   const text = readFileSync(fileOf(piece), "utf8");

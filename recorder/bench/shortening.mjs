@@ -4,8 +4,8 @@
 //
 // usage: node recorder/bench/shortening.mjs [MODULE ..]
 //
-// Without a module of agents it takes the wrong programs of recorder/tests/known, recorder/examples and, where it is
-// there, recorder/bench/programs. RUNS in the environment says of how many failing runs; 5 if it isn't given.
+// Without a module of agents it takes the wrong programs of recorder/tests/known, recorder/examples and, if it is
+// there, recorder/bench/programs. RUNS in the environment says how many failing runs of each; 5 if it isn't given.
 
 import { existsSync, readdirSync } from "node:fs";
 import { pathToFileURL } from "node:url";
@@ -41,14 +41,14 @@ async function failingRuns(group) {
   return failing.slice(0, WANTED);
 }
 
-/** @param {number[]} numbers @returns {string} the least, and the greatest where it is another one */
+/** @param {number[]} numbers @returns {string} the least, and the greatest if that differs */
 function range(numbers) {
   const [least, greatest] = [Math.min(...numbers), Math.max(...numbers)];
   return least === greatest ? `${least}` : `${least} to ${greatest}`;
 }
 
 /**
- * A row of the table; none where no run fails.
+ * A row of the table; none if no run fails.
  * @param {URL} module
  */
 async function rowOf(module) {

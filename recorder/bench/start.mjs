@@ -1,6 +1,6 @@
 #!/usr/bin/env node
 // How long the command line takes to make one run, beside a bare node with as many workers. The bare one is a process
-// that starts three workers that do nothing. Both are started by turns, so that other work on the machine slows both.
+// that starts three workers that do nothing. They are started in turns, so that other work on the machine slows both.
 //
 //     node recorder/bench/start.mjs [--turns N] [--record FILE] [--agents FILE]
 
@@ -14,8 +14,8 @@ const AGENTS = fileURLToPath(new URL("examples/mutex-naive.agents.mjs", RECORDER
 const BARE = `const { Worker } = require("node:worker_threads");
   for (const _ of "123") new Worker("", { eval: true });`;
 
-// Each node process takes 60 ms or more to read such certificates. That would flatter the command line, which starts two
-// processes beside one.
+// Each node process takes 60 ms or more to read such certificates. The command line starts two processes, and the bare
+// node is one. So that time would make the command line look better.
 const { NODE_EXTRA_CA_CERTS: _, ...env } = process.env;
 
 /** @param {string[]} words @returns {number} how many milliseconds node takes with these words */

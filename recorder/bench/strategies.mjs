@@ -16,7 +16,7 @@ const FOLDER = new URL("./programs/", import.meta.url);
 /** The names of the programs. */
 export const PROGRAMS = readdirSync(FOLDER).filter((name) => name.endsWith(".mjs")).map((name) => name.slice(0, -4));
 
-/** What is measured: the title of a column, and the options that stand for it. */
+/** What is measured: the title of a column, and its options. */
 export const COLUMNS = Object.freeze([
   { title: "mixed", options: { strategy: "mixed" } },
   { title: "partial-order", options: { strategy: "partial-order" } },
@@ -28,7 +28,7 @@ export const COLUMNS = Object.freeze([
 ]);
 
 /**
- * @typedef {object} Measured what the runs of a program under one strategy came to
+ * @typedef {object} Measured the results of a program's runs under one strategy
  * @property {number} runs
  * @property {number} failed
  * @property {number | undefined} first the least seed of those that failed

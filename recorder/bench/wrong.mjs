@@ -1,6 +1,6 @@
 #!/usr/bin/env node
-// Counts in how many runs each wrong program is found that is made of a piece by one edit, and that no run of a piece
-// itself fails. A lost wake-up that a time hides fails no run, but must be reported of the runs that finished.
+// Makes wrong programs of the pieces by one edit each, and counts in how many runs each is found. No run of a piece
+// itself may fail. A lost wake-up that a time hides fails no run, but must be reported about the runs that finished.
 //
 //     node recorder/bench/wrong.mjs [--seeds N] [--jobs N] [--only NAME,..]
 //
@@ -31,7 +31,7 @@ const LEAST = 74;
 const NOTES = new Map([[RIGHT, "right"], [HIDDEN, "hidden by a time"], [STARVES, "no run shows it"]]);
 
 /**
- * @typedef {object} Counted what the runs of a program came to
+ * @typedef {object} Counted the results of a program's runs
  * @property {number} failed how many of them failed
  * @property {number | undefined} first the least seed of those that failed
  * @property {Map<string, number>} endings how often each ending failed
@@ -107,7 +107,7 @@ async function runWrong(edits, amount) {
  * Runs pieces, and prints a row of each.
  * @param {string[]} pieces
  * @param {{ seeds: number, jobs: number }} amount
- * @returns {Promise<string[]>} the names of those that failed, or of which a hidden wake-up was reported
+ * @returns {Promise<string[]>} the names of those that failed, or for which a hidden wake-up was reported
  */
 async function runPieces(pieces, amount) {
   const red = [];

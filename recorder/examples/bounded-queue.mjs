@@ -1,5 +1,5 @@
 // A bounded queue of one producer and one consumer, as a ring. Each of the two owns one count, which the other only
-// reads: how many values were put, and how many were taken. Who can't go on sleeps on the other's count.
+// reads: how many values were put, and how many were taken. An agent that can't go on sleeps on the other's count.
 
 // Words: the two counts, and then the slots.
 const PUT = 0;

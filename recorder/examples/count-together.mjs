@@ -1,5 +1,5 @@
-// What agents do under a mutex: they count. A load and a store of their own would lose counts where two agents were
-// inside at once; here the store is a compareExchange, so that it shows.
+// What agents do under a mutex: they count. A load and a store of their own would lose counts if two agents were inside
+// at once. Here the store is a compareExchange, so that it shows.
 
 /**
  * @param {{ lock(): void, unlock(): void }} mutex

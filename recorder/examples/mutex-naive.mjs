@@ -1,5 +1,5 @@
-// A mutex as one writes it who knows condition variables: who finds it locked sleeps until the bell is rung, and
-// `unlock` rings the bell.
+// A mutex as people write it who know condition variables: an agent that finds it locked sleeps until the bell is rung,
+// and `unlock` rings the bell.
 //
 // It loses wake-ups. Between an agent's failed compareExchange and its wait the mutex may be unlocked, and the bell is
 // rung while nobody sleeps. Nothing in BELL shows it afterwards, since it is always 0: the agent lies down and may

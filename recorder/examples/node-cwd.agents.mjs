@@ -1,6 +1,6 @@
 // A module of node itself: each worker keeps what process.cwd() returned, until a counter says that the main thread has
 // changed the directory. The two pieces of code are those of the node that runs this, cut out of its built-in sources
-// by their text. In place of the two system calls stand accesses of a word. The first argument `mended` changes the
+// by their text. In place of the two system calls there are accesses to a word. The first argument `mended` changes the
 // directory first, and counts then.
 
 import { compileFunction } from "node:vm";
@@ -21,7 +21,7 @@ const { binding } = /** @type {any} */ (process);
  * A piece of node's own code, at its own lines.
  * @param {{ source: string, text: RegExp }} piece
  * @param {(text: string) => string} change
- * @returns {Function} of the names that stand in it
+ * @returns {Function} of the names that are in it
  */
 function builtIn({ source, text }, change = (same) => same) {
   const whole = binding.call(process, "natives")[source] ?? "";
@@ -41,7 +41,7 @@ function mended(text) {
 /** @type {import("sabsim").Setup} */
 export const setup = { agents: 2, buffers: [12], names: { COUNTER, DIRECTORY, CHANGED } };
 
-// Where this node has no such code, the module can't be loaded, and that says so.
+// If this node has no such code, the module can't be loaded, and this error says so.
 builtIn(CHDIR);
 builtIn(CWD);
 

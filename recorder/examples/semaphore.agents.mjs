@@ -1,4 +1,4 @@
-// Four agents share two permits, which agent 0 hands out. Who gets none within its time gives up that round.
+// Four agents share two permits, which agent 0 hands out. An agent that gets none within its time gives up that round.
 
 import { Semaphore } from "./semaphore.mjs";
 

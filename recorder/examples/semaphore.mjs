@@ -1,5 +1,5 @@
-// A counting semaphore: a word has the number of permits that are left. Who finds none sleeps until one is given back,
-// or until its time is up.
+// A counting semaphore: a word has the number of permits that are left. An agent that finds none sleeps until one is
+// given back, or until its time is up.
 
 export class Semaphore {
   /** @param {Int32Array} words one word of shared memory that nothing else uses; zero is no permit */
@@ -10,7 +10,7 @@ export class Semaphore {
   /**
    * Takes a permit.
    * @param {number} [timeout] how many milliseconds to sleep at most, each time that there is no permit
-   * @returns {boolean} false where the time was up
+   * @returns {boolean} false if the time was up
    */
   acquire(timeout = Infinity) {
     for (;;) {

@@ -1,4 +1,4 @@
-// Right: Drepper's second mutex. Who finds it held marks it as contended by compareExchange, and sleeps.
+// Right: Drepper's second mutex. An agent that finds it held marks it as contended by compareExchange, and sleeps.
 
 export const setup = { agents: 3, buffers: [8], names: { LOCK: 0, COUNT: 1 } };
 

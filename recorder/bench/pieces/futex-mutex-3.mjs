@@ -1,4 +1,4 @@
-// Right: Drepper's third mutex. Who finds it held exchanges the state for that of a contended lock, and sleeps.
+// Right: Drepper's third mutex. An agent that finds it held makes it a contended lock by exchange, and sleeps.
 
 export const setup = { agents: 3, buffers: [8], names: { LOCK: 0, COUNT: 1 } };
 

@@ -1,8 +1,8 @@
-// Right: a mailbox of one message. The reader waits with a time, and looks again where the time is up.
+// Right: a mailbox of one message. The reader waits with a time, and looks again when the time is up.
 
 export const setup = { agents: 2, buffers: [4, 8], names: { STATE: 0, message: ["Int32", 1] } };
 
-// Goes on when a message is put in, and when one is taken out: odd where there is one.
+// Goes on when a message is put in, and when one is taken out: odd if there is one.
 const STATE = 0;
 const MESSAGES = 3;
 

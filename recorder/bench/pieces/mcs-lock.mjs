@@ -1,4 +1,4 @@
-// Right: the lock of Mellor-Crummey and Scott. Those who want it make a list, and each spins on a word of its own.
+// Right: the lock of Mellor-Crummey and Scott. Agents that want it make a list, and each spins on a word of its own.
 
 export const setup = { agents: 3, buffers: [32], names: { TAIL: 0, COUNT: 1 } };
 
@@ -8,7 +8,7 @@ const NEXT = 2;
 const LOCKED = 5;
 const ROUNDS = 2;
 
-/** Agents stand in TAIL and NEXT as their number and 1; 0 is nobody. */
+/** TAIL and NEXT have an agent's number plus 1; 0 is no agent. */
 function lock(words, self) {
   Atomics.store(words, NEXT + self, 0);
   const before = Atomics.exchange(words, TAIL, self + 1);

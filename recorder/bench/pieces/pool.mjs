@@ -2,7 +2,7 @@
 
 export const setup = { agents: 3, buffers: [40], names: { EPOCH: 0, OVER: 1, DONE: 2, RANGE: 3 } };
 
-// Goes on where there is work, and at the end: helpers sleep on it.
+// Goes on when there is work, and at the end: helpers sleep on it.
 const EPOCH = 0;
 const OVER = 1;
 const DONE = 2;

@@ -1,8 +1,8 @@
-// Right: a readers-writer lock that prefers writers. One that waits marks the state, and no more readers come in.
+// Right: a readers-writer lock that prefers writers. A writer that waits marks the state, and no more readers come in.
 
 export const setup = { agents: 4, buffers: [12], names: { STATE: 0, WAKE: 1, DATA: 2 } };
 
-// STATE has 2 for each reader, and 1 where a writer waits; or WRITER. WAKE goes on where a writer may come in.
+// STATE has 2 for each reader, and 1 if a writer waits; or WRITER. WAKE goes on when a writer may come in.
 const [STATE, WAKE, DATA] = [0, 1, 2];
 const WRITER = 2 ** 31 - 1;
 const ROUNDS = 2;

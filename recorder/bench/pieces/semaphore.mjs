@@ -1,4 +1,4 @@
-// Right: a semaphore over a futex. Who finds no permit is counted as a sleeper, and a post wakes one if there are any.
+// Right: a semaphore over a futex. An agent that finds no permit is counted as a sleeper; a post wakes a sleeper.
 
 export const setup = { agents: 4, buffers: [12], names: { PERMITS: 0, SLEEPERS: 1, INSIDE: 2 } };
 

@@ -1,4 +1,4 @@
-// Right: a seqlock of two writers and two readers. Its sequence is odd while somebody writes, and readers look twice.
+// Right: a seqlock of two writers and two readers. Its sequence is odd while an agent writes, and readers look twice.
 
 export const setup = { agents: 4, buffers: [12], names: { SEQUENCE: 0, LOW: 1, HIGH: 2 } };
 

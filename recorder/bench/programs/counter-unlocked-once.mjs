@@ -1,4 +1,4 @@
-// Wrong: an ordinary counter is added to under a lock, but its last look goes without.
+// Wrong: agents add to an ordinary counter under a lock, but read it at last without the lock.
 
 export const setup = { agents: 3, buffers: [8] };
 

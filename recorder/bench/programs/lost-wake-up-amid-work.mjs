@@ -1,4 +1,4 @@
-// Wrong: as lost-wake-up, but amid 60 calls of each agent on words of its own.
+// Wrong: as lost-wake-up, but among 60 calls of each agent on words of its own.
 
 export const setup = { agents: 2, buffers: [32] };
 

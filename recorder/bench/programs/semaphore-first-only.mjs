@@ -1,4 +1,4 @@
-// Wrong: a release of a semaphore wakes somebody only where the count was 0, so the second of two wakes nobody.
+// Wrong: a release of a semaphore wakes an agent only if the count was 0, so the second of two wakes nobody.
 
 export const setup = { agents: 4, buffers: [4] };
 

@@ -1,4 +1,4 @@
-// Wrong: who shuts a pool of workers down notifies one of those that wait for work, and the others wait for ever.
+// Wrong: the agent that shuts a pool of workers down notifies one that waits for work, and the others wait for ever.
 
 export const setup = { agents: 3, buffers: [8] };
 

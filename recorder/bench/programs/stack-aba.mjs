@@ -1,4 +1,4 @@
-// Wrong: the head of the stack has no tag, so a pop may find the same head again though the nodes below it are others.
+// Wrong: the head of the stack has no tag, so a pop may find the same head again though the nodes below it differ.
 
 export const setup = { agents: 3, buffers: [64] };
 

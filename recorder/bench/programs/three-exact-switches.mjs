@@ -1,4 +1,4 @@
-// Wrong: what agent 1 throws at is reached by three changes of agents at just the right calls, amid 200 others.
+// Wrong: agent 1 throws only after three changes of agents at just the right calls, among 200 others.
 
 export const setup = { agents: 2, buffers: [32] };
 
