@@ -6,9 +6,9 @@ from typing import Callable
 
 from .kit import rt
 
-# At most this part of the memory that is free is planned for: some proofs take more than is foreseen.
+# At most this part of the free memory is planned for: some proofs take more than is foreseen.
 MEMORY = 0.85
-# A task's further jobs take this part of what is foreseen for its first one: a gigabyte each, where that was measured.
+# A task's further jobs take this part of what is foreseen for its first one: a gigabyte each, when that was measured.
 FURTHER = 0.4
 # A task is urgent if it begins a chain of this part of the longest one. It gets so many jobs even if all processors are
 # busy. That shortens the longest chain, but each further job makes a proof take about a seventh more processor time.
@@ -34,11 +34,11 @@ class Task:
 
 
 class Lanes:
-    """The tasks that are left, those that run, and what those that ended came to."""
+    """The tasks that are left, those that run, and the results of those that ended."""
 
     def __init__(self, tasks, processors, hurries=False):
         self.left, self.running, self.ended = list(tasks), {}, {}
-        # All of the machine's processors may be taken by urgent tasks; fewer, if fewer were asked for, are kept to.
+        # All of the machine's processors may be taken by urgent tasks; if fewer were asked for, no more than these.
         self.processors, self.hurries = processors, hurries and processors >= rt.processors()
         self.memory, self.behind = MEMORY * rt.free(), chains(tasks)
 

@@ -110,7 +110,7 @@ class Proofs:
         return is_well
 
     def prove(self, proving, jobs):
-        """Proves a crate, unless that is known; and has its library, or its program, found by what is above it."""
+        """Proves a crate, unless that is known; and puts its library, or its program, where crates above it find it."""
         crate, begun = proving.crate, time.monotonic()
         why = why_refused(crate, self.crates)
         if why:
@@ -128,7 +128,7 @@ class Proofs:
         return True
 
     def sums_of_static(self, crate):
-        """Returns a sum of the scripts that only a static library rests on, if the crate is one."""
+        """Returns a sum of the scripts on which only a static library depends, if the crate is one."""
         return [sum_of_scripts(OF_STATIC)] if crate.is_static else []
 
     def put(self, proving, path):
@@ -177,7 +177,7 @@ class Proofs:
         return Trial(crate, files, self.tally.say, alone)
 
     def report(self, label, result):
-        """Reports and counts what an edit came to."""
+        """Reports and counts the result of an edit."""
         is_refused = result.kind == REFUSED
         kind = f"{result.kind} alone" if is_refused and result.is_alone else result.kind
         self.tally.say(f"  {label}: {kind}: {' '.join(result.said.split())[:160]}")

@@ -1,5 +1,5 @@
 """Keeps what this machine has proved: libraries, programs, tests and the results of edits, each by a sum of all that it
-rests on. So a later run, also one in another clone, proves what has changed."""
+depends on. So a later run, also one in another clone, proves what has changed."""
 import hashlib
 import json
 import os
@@ -12,9 +12,9 @@ from .kit import kit_sum, rt, rtlib, stop
 
 # So many versions of a crate are kept: those that were used last. A crate with tests has two for each of its states.
 MOST_VERSIONS = 3
-# How the name of a folder begins that isn't whole yet. One that is older than a day was broken off.
+# How the name of a folder begins that isn't whole yet. If it is older than a day, it was broken off.
 NEW, DAY = ".new-", 24 * 3600
-# The file beside a library that has what its edits came to.
+# The file beside a library that has the results of its edits.
 RESULTS = "edits.json"
 
 
@@ -72,7 +72,7 @@ class Store:
         return path
 
     def keep(self, name, key, make):
-        """Has what a call makes in an empty folder kept under a key, and returns that folder; None if the call fails."""
+        """Keeps what a call makes in an empty folder under a key, and returns that folder; None if the call fails."""
         path = self.path(name, key)
         os.makedirs(os.path.dirname(path), exist_ok=True)
         room = tempfile.mkdtemp(prefix=NEW, dir=os.path.dirname(path))
@@ -88,7 +88,7 @@ class Store:
             shutil.rmtree(room, ignore_errors=True)
 
     def results(self, path):
-        """Returns what tries of a crate's edits came to, by their sums, as `keep_results` has written it."""
+        """Returns the results of a crate's edits, by their sums, as `keep_results` has written them."""
         try:
             with open(f"{path}/{RESULTS}", encoding="utf-8") as it:
                 return json.load(it)
@@ -96,7 +96,7 @@ class Store:
             return {}
 
     def keep_results(self, path, results):
-        """Writes what tries of a crate's edits came to beside what was proved of it."""
+        """Writes the results of a crate's edits beside what was proved about it."""
         with tempfile.NamedTemporaryFile("w", dir=path, delete=False, encoding="utf-8") as it:
             json.dump(results, it)
         os.replace(it.name, f"{path}/{RESULTS}")

@@ -1,4 +1,4 @@
-"""The file beside the module that says what it was made of: sources, kit, binaryen, and digests of what came out."""
+"""The file beside the module that says what it was made of: sources, kit, binaryen, and digests of the results."""
 import hashlib
 import json
 import os
@@ -38,7 +38,7 @@ def kit():
 
 
 def origin_of(crate, before, module):
-    """Returns what is said of a module: `before` is its form before binaryen."""
+    """Returns what is said about a module: `before` is its form before binaryen."""
     return {
         "sources": sources_digest(crate),
         "kit": kit(),
@@ -56,6 +56,6 @@ def is_current(crate):
 
 
 def kept_origin():
-    """Returns what is said of the module in the repository; nothing if there is none."""
+    """Returns what is said about the module in the repository; nothing if there is none."""
     text = rtlib.text_of(f"{ROOT}/{ORIGIN}")
     return json.loads(text) if text else {}
