@@ -6,8 +6,7 @@
  *                   yielded, then each other one, in the order in which they were started; and how many of these ended
  *                   before the next one was started, where that was asked for
  * COUNT_APART=N     who starts a thread waits until that thread has ended: so all that it sends is there before
- *                   anybody looks. Where it hasn't ended after N seconds, it waits for others, and no start waits any
- *                   more
+ *                   anybody looks. If it hasn't ended after N seconds, it waits for others, and no start waits any more
  * COUNT_LATE=1      a thread begins only when the first thread waits for one to end
  * COUNT_TURNS=N     the first thread and the one other thread take turns: each time the other one yields, it waits
  *                   until the first one has yielded N times, and this waits then until the other one yields again or
@@ -39,7 +38,7 @@ static int seconds_apart, starts_late;
 static unsigned long turn;
 static const char *random_bytes;
 
-/* Whose turn it is, where two threads take turns: how many yields of the first one are left, and whether the other one
+/* Whose turn it is, if two threads take turns: how many yields of the first one are left, and whether the other one
  * waits for them. */
 static atomic_ulong left;
 static atomic_int waits;
@@ -99,7 +98,7 @@ static void end_turn(void)
     while (!waits && !has_ended[1]) really_yield();
 }
 
-/* The other thread waits for its turn. Where the first one waits for it to end, it has it. */
+/* The other thread waits for its turn. If the first one waits for it to end, it has the turn. */
 static void await_turn(void)
 {
     left = turn;

@@ -11,7 +11,7 @@ static uint64_t grow_memory(int memory, uint64_t pages);
 #include "../tools/webassembly/heap.c"
 
 #define MOST_PAGES (1ul << 16)
-// Both numbers by which a refused growth is known: that of WebAssembly, and that of binaryen's lowering.
+// Both numbers that mean a refused growth: that of WebAssembly, and that of binaryen's lowering.
 static const uint64_t refusals[] = {UINT64_MAX, UINT32_MAX};
 
 static unsigned char *memory;
@@ -36,7 +36,7 @@ static void expect(_Bool is_so, const char *what, uint64_t number) {
     }
 }
 
-// Whether so many bytes lie in the memory as far as it has grown, at an address that 16 divides.
+// Whether so many bytes are in the memory as far as it has grown, at an address that 16 divides.
 static _Bool is_inside(word at, word size) {
     word begin = (word)memory, end_of_memory = begin + grown * PAGE;
     return at % 16 == 0 && at >= begin && at <= end_of_memory && size <= end_of_memory - at;

@@ -1,5 +1,5 @@
-// Judges pictures of `sabsim replay --format svg` for `tests/pictures`: how words stand in them, and what a program
-// drew of them. It isn't proved, and stands on nothing but node.
+// Judges pictures of `sabsim replay --format svg` for `tests/pictures`: where words are in them, and what a program
+// drew from them. It isn't proved, and needs only node.
 //
 // usage: node tests/picture.mjs layout SVG            no word overlaps another or a bar, or leaves the picture
 //        node tests/picture.mjs light|dark SVG PNG    what was drawn can be seen, on such a background
@@ -9,7 +9,7 @@
 import { readFileSync } from "node:fs";
 import { inflateSync } from "node:zlib";
 
-/** @typedef {{left: number, top: number, right: number, bottom: number}} Box in pixels; right and bottom lie outside */
+/** @typedef {{left: number, top: number, right: number, bottom: number}} Box in pixels; right and bottom are outside */
 /** @typedef {{width: number, height: number, at: (x: number, y: number) => number[]}} Image red, green and blue */
 
 // The room that a character takes, by its class, as the pictures have it; and a line of text above and below its base.
@@ -70,7 +70,7 @@ function layoutFindings(svg) {
 
 // ---- what was drawn
 
-// How a line of a PNG file is taken back from what is kept of it (Portable Network Graphics, section 9).
+// How a line of a PNG file is made again from what is kept of it (Portable Network Graphics, section 9).
 const PREDICTIONS = [
   () => 0,
   (left) => left,
@@ -82,7 +82,7 @@ const PREDICTIONS = [
   },
 ];
 
-/** The bytes of a PNG file's chunks of a type, one behind the other. */
+/** The bytes of a PNG file's chunks of a type, one after the other. */
 function chunksOf(file, type) {
   const found = [];
   for (let at = 8; at < file.length; at += 12 + file.readUInt32BE(at)) {
@@ -142,7 +142,7 @@ function contrastIn(image, { left, top, right, bottom }) {
   return Math.max(...[...counts.keys()].map((light) => contrast(light, behind)));
 }
 
-/** What can't be seen of a picture as it was drawn, or stands on another background. */
+/** What can't be seen of a picture as it was drawn, or is on another background. */
 function drawnFindings(svg, image, isDark) {
   const [width, height] = sizeOf(svg);
   if (image.width !== width || image.height !== height) return [`it is ${image.width} by ${image.height}`];

@@ -65,7 +65,7 @@ const COMMANDS = [
   ["./check --anew", RUNS_THIS],
 ];
 
-/** How a command begins that stands in backticks. */
+/** How a command begins that is in backticks. */
 const COMMAND = /^(?:\.\/(?:build|check)\b|SABSIM=|(?:cd|npm|npx|node|rt|(?:tools|tests)\/\w+|crates\/\S+\/sabsim) )/;
 
 /** The commands in a document's blocks, each with the lines that are shown below it. @param {string} path */
@@ -116,7 +116,7 @@ for (const [name, text] of filesShown()) writeFileSync(join(copy, name), text);
 /** What a user's shell has: nothing of this test's own run. */
 const env = Object.fromEntries(Object.entries(process.env).filter(([name]) => !/^(NODE_|npm_|SABSIM)/i.test(name)));
 
-/** Runs a command in the copy, where the program is there only if it is built. */
+/** Runs a command in the copy, which has the program only if it is built. */
 function run(command, isBuilt) {
   rmSync(PROGRAM, { force: true });
   if (isBuilt) {

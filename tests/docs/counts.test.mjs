@@ -1,4 +1,4 @@
-// README.md is short, and each number of edits, cases and the like that a document has is that of the repository.
+// README.md is short, and each number of edits, cases and the like in a document is that of the repository.
 
 import assert from "node:assert/strict";
 import { readdirSync } from "node:fs";

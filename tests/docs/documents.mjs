@@ -22,5 +22,5 @@ export const LEFT_OUT = new Set([".git", "out", "node_modules", "found"]);
 /** A document without its indented blocks. @param {string} path */
 export const proseOf = (path) => textOf(path).split("\n").filter((line) => !line.startsWith("    ")).join("\n");
 
-/** What stands in backticks in a document's prose. @param {string} path */
+/** What is in backticks in a document's prose. @param {string} path */
 export const spansOf = (path) => [...proseOf(path).matchAll(/`([^`\n]+)`/g)].map(([, span]) => span);

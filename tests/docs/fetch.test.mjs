@@ -1,5 +1,5 @@
-// What `node tests/published/fetch.mjs` prints if apt-get has no sources (docs/FOUND.md). No network is needed: in place
-// of apt-get stands a command that fails as apt-get does.
+// What `node tests/published/fetch.mjs` prints if apt-get has no sources (docs/FOUND.md). No network is needed: a
+// command that fails as apt-get does is in its place.
 
 import assert from "node:assert/strict";
 import { spawnSync } from "node:child_process";

@@ -1,4 +1,4 @@
-// What the documents name is there: the targets of their links, and in CONTRIBUTING.md and docs/ARCHITECTURE.md paths,
+// What the documents name exists: the targets of their links, and in CONTRIBUTING.md and docs/ARCHITECTURE.md paths,
 // crates and functions.
 
 import assert from "node:assert/strict";
@@ -12,7 +12,7 @@ const MAPS = ["CONTRIBUTING.md", "docs/ARCHITECTURE.md"];
 /** A name in backticks that is a path: it has a slash, or the ending of a file. */
 const PATH = /^(?:\.\/)?(?=.*\/|.*\.(?:rt|antt|mjs|mts|md|json|txt|edit|c)$)[\w.-]+(?:\/[\w.-]+)*\/?$/;
 
-/** What looks like a path and is the name of an import. */
+/** What looks like a path but is the name of an import. */
 const IMPORTS = new Set(["sabsim/test"]);
 
 /** All files and folders below a folder, by their paths from the top. @param {string} folder @returns {string[]} */

@@ -1,5 +1,5 @@
 // Makes the package, installs it in a folder of its own, and uses it there as a project does that has it as a
-// dependency. The environment's SABSIM is the built program, which the package is made with then.
+// dependency. If the environment has SABSIM, the built program, the package has that program.
 
 import assert from "node:assert/strict";
 import { spawn, spawnSync } from "node:child_process";
@@ -181,7 +181,7 @@ for (const words of [
 ]) {
   test(`TypeScript takes its types: ${words.join(" ")}`, withCompiler, () => {
     const strictly = ["--noEmit", "--strict", "--allowJs", "--checkJs", "--target", "es2022"];
-    // `exports` of a package, and so `sabsim/test`, is what the older resolution doesn't know.
+    // The older resolution doesn't know `exports` of a package, and so not `sabsim/test`.
     const others = words.includes("node") ? [] : ["uses-test.mts"];
     succeeds(project, "tsc", [...strictly, ...words, "uses.mts", ...others, "lock.mjs"]);
   });
@@ -290,7 +290,7 @@ test("words, streams and the status are passed on", () => {
 test("it ends by the signal that ended the program", () => {
   withStandIn('kill -"$1" $$');
   for (const signal of ["TERM", "KILL", "HUP"]) assert.equal(run(launched, launcher, [signal]).signal, `SIG${signal}`);
-  // Node itself goes on at this one, so the status reports it, as a shell's does.
+  // Node itself isn't ended by this signal, so the status reports it, as a shell does.
   assert.equal(run(launched, launcher, ["PIPE"]).status, 128 + 13);
 });
 

@@ -1,12 +1,12 @@
 // What SpiderMonkey's shell gives to its scripts, over node's own Workers: threads that evaluate a text, a mailbox for
-// shared memory, and the little that the tests' own files need besides. This file is also the first one of a thread.
+// shared memory, and the little else that the tests' own files need. This file is also the first one of a thread.
 
 import { compileFunction } from "node:vm";
 import { MessageChannel, Worker, receiveMessageOnPort, workerData } from "node:worker_threads";
 
 const nothing = () => {};
 
-/** @param {string} text thrown where nobody catches it: a test must not hide that it has failed */
+/** @param {string} text thrown where no code catches it: a test must not hide that it has failed */
 function fail(text) {
   queueMicrotask(() => {
     throw new Error(text);

@@ -1,5 +1,5 @@
-// Classes of a module in Python, turned into JavaScript, each statement at its own line. This knows no more of Python
-// than what the classes have for which it is used.
+// Classes of a module in Python, turned into JavaScript, each statement at its own line. This knows only as much of
+// Python as the classes have for which it is used.
 
 const OPEN = /[([{]/g;
 const CLOSED = /[)\]}]/g;
@@ -21,7 +21,7 @@ function statementsOf(text) {
   return statements;
 }
 
-/** What stands in expressions, and what stands for it in JavaScript. @type {[RegExp, string][]} */
+/** What expressions have, and what JavaScript has for it. @type {[RegExp, string][]} */
 const WORDS = [
   [/\bf"([^"]*)"/g, "`$1`"], [/\{(\w+(?:\[\d\])?)\}(?=[^`]*`)/g, "${$1}"], [/\bNone\b/g, "undefined"],
   [/\bTrue\b/g, "true"], [/\bFalse\b/g, "false"],

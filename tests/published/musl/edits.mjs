@@ -5,12 +5,12 @@
  * @property {string} name
  * @property {string} lock
  * @property {string} file
- * @property {string} from what stands there once
+ * @property {string} from what is there once
  * @property {string} to
- * @property {RegExp} says what the recorder says of it
+ * @property {RegExp} says what the recorder says about it
  */
 
-/** Nobody is woken. */
+/** No thread is woken. */
 const SLEEPS = /waits at .*wasm:emscripten_futex_wait/;
 
 /** @type {readonly Edit[]} */

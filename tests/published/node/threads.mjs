@@ -33,7 +33,7 @@ class Stdio extends EventEmitter {
   push() {}
 }
 
-/** A port keeps its thread alive as long as somebody listens to its worker. */
+/** A port keeps its thread alive as long as anything listens to its worker. */
 function setupPortReferencing(port, worker) {
   port.unref();
   worker.on("newListener", (name) => name === "message" && port.ref());

@@ -1,4 +1,4 @@
-// DevTools' extension for C++: its half in the page answers what its worker asks for, while that sleeps.
+// DevTools' extension for C++: its half in the page answers what its worker asks for, while the worker sleeps.
 
 const VALUES = [10, 11, 12];
 const valueOf = async (index) => ({ type: "i32", value: VALUES[index] });

@@ -1,5 +1,5 @@
-// CPython's page for browsers: its script and its worker, with what is typed there. In place of Python stands a loop
-// that prints what it reads (python.js).
+// CPython's page for browsers: its script and its worker, with what is typed there. A loop that prints what it reads is
+// in place of Python (python.js).
 
 const TYPED = ["one\n", "two\n", "exit\n"];
 const SHOWN = ">>> one\r\none\r\n>>> two\r\ntwo\r\n>>> exit\r\n\0";

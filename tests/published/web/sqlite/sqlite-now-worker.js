@@ -1,4 +1,4 @@
-// The same worker for a later SQLite. It waits again where it was woken too soon, and its other half by waitAsync.
+// The same worker for a later SQLite. It waits again if it was woken too soon, and its other half by waitAsync.
 
 importScripts("sqlite-module.js");
 

@@ -25,7 +25,7 @@ const files = () => ({ joinpath: () => ({ read_text: () => code }) });
 const [int, min, len, memoryview, json] = [Math.trunc, Math.min, (it) => it.length, (it) => it, { loads: JSON.parse }];
 const [to_js, _obj_from_dict] = [(it) => it, (it) => it];
 
-/** Waits again where it was woken too soon, as a right one would. */
+/** Waits again if it was woken too soon, as a right one would. */
 function waited(words, at, value, milliseconds) {
   for (;;) {
     const how = Atomics.wait(words, at, value, milliseconds);
