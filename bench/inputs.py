@@ -12,7 +12,7 @@ LONGEST_BLOCK = 65536
 
 
 class Draws:
-    """Draws numbers by SplitMix64. Those of Python's `random` may change with its version."""
+    """Draws numbers by SplitMix64. The numbers of Python's `random` may change with its version."""
 
     def __init__(self):
         self.state = SEED

@@ -76,7 +76,7 @@ def instructions(command):
 
 
 def microseconds(commands, runs):
-    """Returns the median wall time of each command, with the commands by turns."""
+    """Returns the median wall time of each command; the commands take turns."""
     taken = [[] for _ in commands]
     for _ in range(runs):
         for command, times in zip(commands, taken):
