@@ -302,7 +302,7 @@ export interface OnlyByTime {
 export interface Shortened {
   /** How many runs it took. */
   runs: number;
-  /** How often another agent moved than before: in the run as it was found, and in the shortest. */
+  /** How often the agent that moved changed: in the run as it was found, and in the shortest. */
   changes: { before: number; after: number };
   /** How many calls of Atomics were begun, in the same two runs. */
   calls: { before: number; after: number };

@@ -104,7 +104,7 @@ export function copyProperty(to, from, name) {
 }
 
 /**
- * Gives a function the name and the length of the one that it stands for.
+ * Gives a function the name and the length of the function for which it stands.
  * @template {Function} Stand
  * @param {Stand} stand
  * @param {Function} engine

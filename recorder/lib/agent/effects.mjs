@@ -26,7 +26,7 @@ export function flagsAsked(call) {
 /**
  * What an access does to its element: whether it reads and writes it.
  * @param {Call} call
- * @param {number | bigint} value that it answers
+ * @param {number | bigint} value that it returns
  */
 export function effectOf(call, value) {
   if (call.call === LOAD) return FLAG.READS;

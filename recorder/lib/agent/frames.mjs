@@ -11,7 +11,7 @@ const { Error: EngineError, Map: EngineMap } = globalThis;
 const { captureStackTrace } = EngineError;
 const begins = uncurried(String.prototype.startsWith);
 
-// How many frames are looked at: each costs time, and few of the recorder's own stand above the agent's as a rule.
+// How many frames are looked at: each costs time, and as a rule few of the recorder's own are above the agent's.
 const FEW_FRAMES = 3;
 const SOME_FRAMES = 12;
 const MOST_FRAMES = 200;

@@ -32,7 +32,7 @@ export class Messages {
     this.waiting = new EngineWeakMap();
     /** @type {object[]} the ports that have had messages in this run */
     this.ports = [];
-    /** Whether a message was posted that nobody takes: the first one while the module is loaded stands for all. */
+    /** Whether a message was posted that nobody takes: the first one while the module is loaded counts for all. */
     this.hasPosted = false;
     this.#watchPorts(threads);
     this.#watchChannels(threads);

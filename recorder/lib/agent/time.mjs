@@ -1,5 +1,5 @@
 // The clocks and the random numbers of an agent: its run's time in place of the machine's, and the seed's row in place
-// of chance. So the same seed gives the same run, and deadlines fit the answers of waits.
+// of chance. So the same seed gives the same run, and deadlines agree with the answers of waits.
 
 import crypto from "node:crypto";
 import process from "node:process";

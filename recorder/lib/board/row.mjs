@@ -10,7 +10,7 @@
 // after which an agent makes its next move. Before a run strays, agents look for answers: only an agent that looks sees
 // what has closed, and no row has that.
 //
-// All of it lies in shared memory. Only the thread that has the turn changes it, as the words of the board.
+// All of it is in shared memory. Only the thread that has the turn changes it, like the words of the board.
 
 import { SCRIPT_LIMITS } from "../../script/limits.mjs";
 import { AGENT_WORD, NOBODY, PHASE, wordOf } from "../memory/layout.mjs";

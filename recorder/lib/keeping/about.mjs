@@ -12,7 +12,7 @@ import { OPTIONS, wordOf } from "../options/table.mjs";
 // The package is the folder above, in the repository and where it is installed.
 const PACKAGE = new URL("../../../package.json", import.meta.url);
 
-/** @returns {string} the recorder's name, with its version if it lies in its package */
+/** @returns {string} the recorder's name, with its version if it is in its package */
 function version() {
   return existsSync(PACKAGE) ? `sabsim ${JSON.parse(readFileSync(PACKAGE, "utf8")).version}` : "sabsim";
 }

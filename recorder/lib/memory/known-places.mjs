@@ -73,7 +73,7 @@ export class KnownPlaces {
   }
 
   /**
-   * Whether what an agent does to some bytes is nobody else's affair.
+   * Whether what an agent does to some bytes concerns no other agent.
    * @param {number} agent
    * @param {number} from a place
    * @param {number} to the place behind the last one

@@ -1,4 +1,4 @@
-// Where everything of a run lies in the board's words: 32-bit words in memory that all threads share.
+// Where everything of a run is in the board's words: 32-bit words in memory that all threads share.
 //
 // Only the thread that has the turn changes them, by plain writes. The atomic stores of GO, TURN and ENDED that come
 // after them publish them: a thread that is woken by one of these, or reads it, sees all that was written before.
@@ -54,7 +54,7 @@ export const WORD = Object.freeze({
   LOOKS: 40,
   /**
    * Of a program: which threads have a task and wait for real answers besides, and whose last moves were answers, a bit for
-   * each; and how many answers came to a thread directly behind others, which is no further move.
+   * each; and how many answers came to a thread right after others, which is no further move.
    */
   OFFERS: 41,
   ANSWERED: 42,

@@ -1,5 +1,5 @@
 // The seeded generator that picks moves: xoshiro128**, started by splitmix32. Both are in the public domain; the same
-// seed gives the same numbers on every machine. Its four words can lie in shared memory, so that each agent with
+// seed gives the same numbers on every machine. Its four words can be in shared memory, so that each agent with
 // the turn draws from the same row.
 
 // Agents may change what they find, so the engine's own functions are kept here, before.

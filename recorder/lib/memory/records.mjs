@@ -123,7 +123,7 @@ export class Records {
   }
 
   /**
-   * Whether a call is the same as one of the few before it, and was answered the same.
+   * Whether a call is the same as one of the few before it, and returned the same.
    * @param {number} position
    * @returns {boolean}
    */

@@ -1,4 +1,4 @@
-// The tasks that the event loops of a program's threads take up: timers, immediates, and results of slow functions.
+// The tasks that the event loops of a program's threads begin: timers, immediates, and results of slow functions.
 // They are no accesses of a run, so they have a list of their own beside its log, in shared memory. They are noted in
 // runs that note their lines of code.
 
@@ -38,7 +38,7 @@ export class TaskNotes {
     this.used[0] = 0;
   }
 
-  /** @param {Task} task that is taken up now; if there is no room for it, it isn't noted */
+  /** @param {Task} task that begins now; if there is no room for it, it isn't noted */
   note({ event, agent, text, place }) {
     const { used, bytes } = this;
     const line = `${JSON.stringify([event, agent, text, place])}\n`;

@@ -21,7 +21,7 @@ import { Refused } from "./refused.mjs";
  * @property {number} index of the element in the view
  */
 
-// In scripts `ordinary_` may stand before a name, and a view's name has 32 characters at most.
+// In scripts `ordinary_` may come before a name, and a view's name has 32 characters at most.
 export const MOST_CHARACTERS = 23;
 const RIGHT = new RegExp(`^[A-Za-z0-9_]{1,${MOST_CHARACTERS}}$`);
 

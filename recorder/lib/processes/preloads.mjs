@@ -1,6 +1,6 @@
 // Whether code was loaded before the recorder. It may have kept constructors and an `Atomics` that aren't watched.
 
-// What loads code before the program; several may stand in one word, as in NODE_OPTIONS.
+// What loads code before the program; one word may have several, as in NODE_OPTIONS.
 const LOADING = /(^|\s)(-r|--require|--import|--loader|--experimental-loader)(=|\s|$)/;
 
 /** @returns {boolean} whether node's own words load code before the program */

@@ -48,7 +48,7 @@ export class Ends {
     this.leaving = leaving;
   }
 
-  /** Takes what node gives to nothing else. */
+  /** Takes the errors that nothing else handles. */
   guard() {
     // A rejection that nobody handles comes here too.
     process.on("uncaughtException", (thrown, origin) => {

@@ -1,6 +1,6 @@
-// One thread of a program. It stands ready, with all replaced that shows a program the world, until a run begins or
-// another thread starts it. Then it evaluates its module, made anew, and goes on by its event loop until it ends, or
-// amid its code until that is broken off.
+// One thread of a program. It is ready, with all replaced that shows a program the world, until a run begins or another
+// thread starts it. Then it evaluates its module, made anew. It goes on by its event loop until it ends, or until its
+// code is broken off.
 
 import buffer from "node:buffer";
 import crypto from "node:crypto";
@@ -121,7 +121,7 @@ const watching = {
     const { player, buffers } = self;
     if (player === undefined || buffers === undefined || !player.isPlaying) return;
     const block = buffers.blockOf(place.block);
-    // Nobody else can reach what is no block yet.
+    // No other thread can reach what is no block yet.
     if (block < 0) return;
     place.block = block;
     player.seen(place, from, to, writes);
@@ -135,7 +135,7 @@ const watching = {
   refuse: (why) => refuse(`did something that the recorder can't record: ${why.replace(": --ordinary store lets it pass", "")}`),
 };
 
-/** Memory that no other thread can reach is nobody's affair: a wait there is how a program sleeps. */
+/** Memory that no other thread can reach concerns no other thread: a program sleeps by a wait there. */
 const private_ = {
   isAllowed: false, lasting: [], isUsed: () => false, isTheirs: Buffers.isShared, use: () => false, wait: () => {},
 };
@@ -240,7 +240,8 @@ function installReplacements({ moves, buffers, waits, ends, events, timers, late
   printAtOnce(isShown, printedName);
   simulateTime(() => (isPlaying() ? playing().look() : 0));
   simulateChance(chance);
-  // Node makes a context of its own when a reader is released first. That isn't the program's, and so comes before.
+  // Node makes a context of its own when a reader is released first. That context isn't the program's, so it is made
+  // before.
   new (/** @type {any} */ (globalThis).ReadableStream)().getReader().releaseLock();
   const atomics = atomicsOf(moves, waits);
   late.wasm = installWebAssembly({

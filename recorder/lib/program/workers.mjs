@@ -1,6 +1,6 @@
-// The Worker of a program. A thread stands ready for it, gets what it has to run, and joins the run. One port has the
-// Worker's messages, and says that it is online, has failed or has ended. What it sent before its end is delivered
-// before `exit`.
+// The Worker of a program. A ready thread gets what it has to run, and joins the run. One port has the Worker's
+// messages, and says that it is online, has failed or has ended. What it sent before its end is delivered before
+// `exit`.
 
 import { EventEmitter } from "node:events";
 import { isAbsolute, resolve } from "node:path";
@@ -57,7 +57,7 @@ function urlOf(file, options) {
     + `'./' or '../'. Received "${file}"`, "ERR_WORKER_PATH");
 }
 
-/** What isn't simulated of the options of a Worker. */
+/** The options of a Worker that aren't simulated. */
 const REFUSED = Object.freeze(["stdin", "stdout", "stderr"]);
 
 /** @param {any} options @param {(why: string) => never} refuse */
@@ -114,7 +114,7 @@ class Worker extends EventEmitter {
     this.#port = port;
     this.#own = { refed: true, where };
     this.threadId = agent;
-    // Nobody reads or writes them: what asks for them is refused.
+    // They are never read or written: what asks for them is refused.
     REFUSED.forEach((name) => {
       /** @type {any} */ (this)[name] = null;
     });
@@ -147,7 +147,7 @@ class Worker extends EventEmitter {
     if (!this.#isAlive) return Promise.resolve(undefined);
     /** @type {Promise<number | undefined>} */
     const ended = new Promise((done) => this.#awaiting.push(done));
-    // If it has ended by itself, that comes by its port.
+    // If it has ended by itself, its port says so.
     const code = all.hasBegun(this.#agent) ? 1 : 0;
     if (all.end(this.#agent)) later("has terminated a worker", () => this.#leave(code));
     return ended;

@@ -18,11 +18,11 @@
  * follows, and others if it is asked for
  * @property {(string | null)[][]} [answers] of each agent's calls, as a report spells them; null: a wait that goes on
  * @property {string} [script] what `sabsim replay` reads
- * @property {"all" | "touched"} [scriptHolds] which ordinary writes stand in the script: all, or those of bytes that
- * some call of Atomics touches
+ * @property {"all" | "touched"} [scriptHolds] which ordinary writes the script has: all, or those of bytes that some
+ * call of Atomics touches
  * @property {string} [noScript] why there is no script
  * @property {import("./in-windows.mjs").NamedWindow[]} [windows] of a program whose memory is more than a script can
- * have: which bytes of its buffers stand where in the script's blocks and in the trace
+ * have: where the bytes of its buffers are in the script's blocks and in the trace
  * @property {import("./failure.mjs").Failure} [failure] what made the run fail, in short; a race is in `races`
  * @property {import("./standing.mjs").Standing[]} [standing] what each agent is at in a deadlock, or at a limit
  * @property {string} [report] what sabsim must report
@@ -31,7 +31,7 @@
  * what they read
  * @property {string} [noTrace] why there is no trace, though it was wanted
  * @property {import("./source-names.mjs").SourceText[]} [sources] the code of each file that the trace names
- * @property {Task[]} [tasks] of a program that has its trace: what its event loops have taken up besides messages
+ * @property {Task[]} [tasks] of a program that has its trace: what its event loops have begun besides messages
  * @property {string[]} [threads] of a program: what each thread is, its file and where it was started; empty: the first
  * @property {number[]} [row] which agent moved with each draw, in order, if that is asked for
  * @property {string} [onlyIf] of a failing run in which a timed wait has ended early: what time must pass for that
@@ -46,7 +46,7 @@
  * @typedef {object} Task a timer, an immediate, or what comes of a function that node does later
  * @property {number} event how many events of the trace come before it
  * @property {number} agent
- * @property {string} text what its event loop takes up, in words
+ * @property {string} text what its event loop begins, in words
  * @property {string | null} source where that was made: file, line and column
  */
 

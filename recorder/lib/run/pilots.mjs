@@ -1,6 +1,6 @@
-// What pilot runs show: which bytes several agents use and one of them writes, and which calls stand beside an
-// ordinary access to such a byte. There it matters who moves first. Pilots are runs of fixed seeds, so that each group
-// learns the same, whatever runs it makes afterwards.
+// What pilot runs show: which bytes several agents use and one of them writes, and which calls come beside an ordinary
+// access to such a byte. There it matters who moves first. Pilots are runs of fixed seeds, so that each group learns
+// the same, whatever runs it makes afterwards.
 
 import { MAKE } from "../board/journal.mjs";
 import { MESSAGES } from "../memory/blocks.mjs";

@@ -39,7 +39,7 @@ import { Numbers } from "./numbers.mjs";
 
 const PLACES = SCRIPT_LIMITS.blocks * SCRIPT_LIMITS.bytes;
 
-// Of each access that is remembered for a byte.
+// The words of each access that is remembered for a byte.
 const EACH = 6;
 const EVENT = 0;
 const AGENT = 1;
@@ -314,7 +314,7 @@ const AGENT_BITS = 4;
 const DEED_BITS = 3;
 const DEEDS = FLAG.READS | FLAG.WRITES | FLAG.ATOMIC;
 
-/** Numbers of the lines of code of a run's accesses; of one that isn't known, its view stands for it. */
+/** Numbers of the lines of code of a run's accesses; if a line isn't known, the view stands for it. */
 class Lines {
   /** @param {Log} log */
   constructor(log) {

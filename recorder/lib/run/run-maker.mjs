@@ -150,8 +150,8 @@ export class RunMaker {
   }
 
   /**
-   * How a run ends that was made once more. A check that didn't come to its end before isn't called again, since it
-   * would take as long again.
+   * How a run ends that was made once more. A check that didn't end before isn't called again, since it would take as
+   * long again.
    * @param {Made} again
    * @param {Made} found the run as it was made before
    * @returns {Promise<Made>}
@@ -252,7 +252,7 @@ export class RunMaker {
   }
 
   /**
-   * Waits for the end. Of an agent that made no call for too long the main thread finds out where it is.
+   * Waits for the end. If an agent made no call for too long, the main thread finds out where it is.
    * @returns {Promise<ReturnType<Board["end"]["result"]>>}
    */
   async #ended() {

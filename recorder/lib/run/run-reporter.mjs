@@ -203,7 +203,7 @@ export class RunReporter {
     if (this.maker.program !== undefined) outcome.tasks = tasks;
   }
 
-  /** @returns {import("./outcome.mjs").Task[]} those that a program's event loops have taken up */
+  /** @returns {import("./outcome.mjs").Task[]} those that a program's event loops have begun */
   #tasks() {
     const tasks = this.maker.program?.tasks.list() ?? [];
     return tasks.map(({ place, ...task }) => ({ ...task, source: place === "" ? null : this.sourceNames.nameOf(place) }));

@@ -19,7 +19,7 @@ export const countOf = ({ first, last }) => last - first + 1;
 export const rangeText = ({ first, last }) => (first === last ? `seed ${first}` : `seeds ${first} to ${last}`);
 
 /**
- * The seeds of a shard: those of all shards lie behind each other, and of two shards one has one seed more at most.
+ * The seeds of a shard: the shards' seeds follow each other, and of two shards one has at most one seed more.
  * @param {Range} range with at least as many seeds as there are shards
  * @param {Shard} shard
  * @returns {Range}

@@ -18,7 +18,7 @@ import { Refused } from "../options/refused.mjs";
  * @property {number} agent
  * @property {boolean} isOwn whether the agent called it
  * @property {number} call its number among the agent's own; of a store that of the next one
- * @property {string} text as the script has it; of a store that stands for an ordinary write what was written:
+ * @property {string} text as the script has it; for a store that stands for an ordinary write, what was written:
  * `samples[1] = 0.25`
  * @property {string} key the same, with what its view is in place of the view's name; if it is a byte of a program's
  * buffer in a window, with that one

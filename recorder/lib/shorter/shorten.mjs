@@ -19,9 +19,9 @@ import { changesOf, joinedFrom, rowOf, shortenedAt, stretchesOf, without } from 
 /** @typedef {{ before: number, after: number }} Change */
 
 /**
- * @typedef {object} Shortened what the shortening of a failing run came to
+ * @typedef {object} Shortened the result of shortening a failing run
  * @property {number} runs how many it took
- * @property {Change} changes how often another agent moved than before: in the run as it was found, and in the shortest
+ * @property {Change} changes how often the agent that moved changed: in the run as it was found, and in the shortest
  * @property {Change} calls of Atomics that were begun, in the same two runs
  * @property {string} [stopped] why it was ended before all was tried
  * @property {string} [unchanged] why the run is returned as it was found

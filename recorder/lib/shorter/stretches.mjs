@@ -19,7 +19,7 @@ export function stretchesOf(row) {
 /** @param {Stretch[]} stretches @returns {number[]} */
 export const rowOf = (stretches) => stretches.flatMap(({ agent, draws }) => Array(draws).fill(agent));
 
-/** @param {number[]} row @returns {number} how often another agent moves than before */
+/** @param {number[]} row @returns {number} how often the agent that moves changes */
 export const changesOf = (row) => Math.max(0, stretchesOf(row.map(moverOf)).length - 1);
 
 /**

@@ -6,7 +6,7 @@ import { weakGet, weakSet } from "../../primordials.mjs";
 export const OTHER = 2 ** 30 - 1;
 
 /**
- * @typedef {object} Place what a watched array stands on; one object for each watched array, made once
+ * @typedef {object} Place what memory a watched array is on; one object for each watched array, made once
  * @property {number} block position of the recorded buffer
  * @property {number} kind its number in KINDS, KINDS.length for a DataView, KINDS.length + 1 for a whole buffer
  * @property {number} offset byteOffset of the view

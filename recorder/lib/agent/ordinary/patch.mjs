@@ -8,7 +8,7 @@ import { watchedOf } from "./watched.mjs";
 const { Error: EngineError } = globalThis;
 
 /**
- * Gives a function all that the one has that it stands for: its name, its length, and what node keeps there.
+ * Gives a function all that the function has for which it stands: name, length, and what node keeps there.
  * @param {Function} stand
  * @param {Function} engine
  */

@@ -33,7 +33,7 @@ const WORDS = Object.freeze({ "ok": 0, "not-equal": 1, "timed-out": 2 });
  * @property {boolean} isRelaxed whether plain aligned accesses are relaxed ones
  */
 
-/** The accesses to a memory. They can be used again for another one: to make their functions takes time. */
+/** The accesses to a memory. They can be used again for another one, since making their functions takes time. */
 export class Accesses {
   /** @type {Record<number, any>} views, by how many bytes an element takes */
   views = {};
@@ -80,7 +80,7 @@ export class Accesses {
    * @param {number} address
    * @param {number} offset that is added to it
    * @param {number} size
-   * @param {number} where its instruction stands in the module
+   * @param {number} where its instruction is in the module
    * @returns {number}
    */
   at(address, offset, size, where) {

@@ -25,7 +25,7 @@ function conversionsOf(variant) {
 }
 
 /**
- * One access in one variant. Behind its values it gets what is added to the address, and where its instruction stands.
+ * One access in one variant. After its values it gets what is added to the address, and where its instruction is.
  * @param {Accesses} access
  * @param {string} name
  * @param {string} variant

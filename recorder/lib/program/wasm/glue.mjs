@@ -1,5 +1,5 @@
-// The module between translated code and the recorder: it fills the table of functions. Those that give back what
-// stands on the stack are made here, since the recorder would need a list for more than one result.
+// The module between translated code and the recorder: it fills the table of functions. Those that give back what is on
+// the stack are made here, since the recorder would need a list for more than one result.
 
 import { Writer, name, number, vector } from "./bytes.mjs";
 import { SLOTS, typeBytes } from "./slots.mjs";

@@ -115,7 +115,7 @@ class Translating {
     const { isPlaying, refuse } = this.thread;
     const bytes = isPlaying() ? bytesOf(source) : undefined;
     if (bytes === undefined || !hasSharedMemory(bytes)) return source;
-    // What is wrong with it the engine says.
+    // The engine says what is wrong with it.
     const engine = new EngineModule(/** @type {any} */ (bytes));
     if (isTranslated(engine)) return bytes;
     try {
@@ -148,7 +148,7 @@ class Translating {
   }
 
   /**
-   * A memory's buffer as it is now. To look at it is a move, if several threads reach it and it can grow.
+   * A memory's buffer as it is now. Looking at it is a move, if several threads reach it and it can grow.
    * @param {any} memory
    * @returns {SharedArrayBuffer}
    */

@@ -1,5 +1,5 @@
-// The functions that translated code calls in place of an access to its memory, or just before one. They stand in a
-// table of the module, so that no function of the module's own gets another number.
+// The functions that translated code calls in place of an access to its memory, or just before one. They are in a table
+// of the module, so that no function of the module's own gets another number.
 
 /**
  * @typedef {object} Slot
@@ -33,7 +33,7 @@ const variantsOf = ([name, values]) => VARIANTS.map((variant) => {
   return slot(`${name} ${variant}`, `i${value.repeat(values)}ii>${name === "store" ? "" : value}`);
 });
 
-// Each gets where its instruction stands as the last one. Accesses get what is added to the address before that.
+// The last argument of each is where its instruction is. For accesses, what is added to the address comes before that.
 const PLAIN = Object.freeze([
   slot("read", "iiii>i"), slot("readBeside", "iviii>iv"),
   ...["i", "l", "f", "d", "v"].map((value) => slot(`write ${value}`, `i${value}iii>i${value}`)),

@@ -32,7 +32,7 @@ const READS = Object.freeze([4, 8, 4, 8, 1, 1, 2, 2, 1, 1, 2, 2, 4, 4]);
 const WRITES = Object.freeze(["i4", "l8", "f4", "d8", "i1", "i2", "l1", "l2", "l4"]);
 const VECTOR_READS = Object.freeze([16, 8, 8, 8, 8, 8, 8, 1, 2, 4, 8]);
 
-/** @typedef {{ content: Uint8Array, at: number }} Section its bytes, and where they stand in the module */
+/** @typedef {{ content: Uint8Array, at: number }} Section its bytes, and where they are in the module */
 
 /** @typedef {{ name: string, operands: number[], stays: boolean }} Step what is called, and whether its access stays */
 
@@ -121,14 +121,14 @@ function stepOf({ prefix, code, offset }) {
 
 /** The code of a module, as it is translated. */
 class Code {
-  /** @param {number} at where the section's bytes stand in the module @param {number} table @param {number} types */
+  /** @param {number} at where the section's bytes are in the module @param {number} table @param {number} types */
   constructor(at, table, types) {
     this.at = at;
     this.table = table;
     this.types = types;
   }
 
-  /** @param {Step} step @param {number} where its instruction stands @returns {number[]} the call of its function */
+  /** @param {Step} step @param {number} where its instruction is @returns {number[]} the call of its function */
   #call({ name: called, operands }, where) {
     const position = slotNamed(called);
     const type = this.types + SLOT_TYPES.indexOf(SLOTS[position].type);

@@ -72,7 +72,7 @@ export class Blobs {
     for (const [url, content] of this.#known) this.mesh.hand(agent, { kind: "blob", url, content });
   }
 
-  /** @param {string} url @returns {Content | undefined} undefined: nobody has made it, or it was revoked */
+  /** @param {string} url @returns {Content | undefined} undefined: no thread has made it, or it was revoked */
   at(url) {
     this.mesh.take();
     const content = this.#known.get(url);
@@ -95,7 +95,7 @@ export class Blobs {
 
   /** @param {string} url */
   #revoke(url) {
-    // What others do with the URL comes before or after.
+    // What other threads do with the URL comes before or after.
     this.moves.yield();
     this.#known.set(url, undefined);
     this.mesh.handAll({ kind: "revoked", url });

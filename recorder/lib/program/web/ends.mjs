@@ -1,6 +1,6 @@
-// How a thread of a browser ends: by `close`, or by another one. An error that nobody catches doesn't end it. It comes
-// to the thread's global object, then to the Worker object for which the thread runs, and so on. If nobody has listened
-// on this way, the run fails.
+// How a thread of a browser ends: by `close`, or by another thread. An error that nobody catches doesn't end it. It
+// comes to the thread's global object, then to the Worker object for which the thread runs, and so on. If it meets no
+// listener, the run fails.
 
 import process from "node:process";
 import { described } from "../../agent/described.mjs";
@@ -11,13 +11,13 @@ import { KIND } from "../ports.mjs";
 import { ErrorEvent, PromiseRejectionEvent } from "./targets.mjs";
 
 /**
- * @typedef {object} Problem what goes from thread to thread of an error that nobody has caught
+ * @typedef {object} Problem what goes from thread to thread about an error that no code has caught
  * @property {string} message
  * @property {string} filename
  * @property {number} lineno
  * @property {number} colno
- * @property {string} text what a failing run says of it
- * @property {boolean} isListenedTo whether anybody has listened by now
+ * @property {string} text what a failing run says about it
+ * @property {boolean} isListenedTo whether it has met a listener by now
  * @property {boolean} [isOfLoading] whether the thread's script or module couldn't be loaded
  */
 
@@ -44,10 +44,10 @@ export class WebEnds extends Ends {
   /** Whether the program's code has called `close`. */
   #isClosing = false;
 
-  /** @type {Set<Promise<unknown>>} rejections that nobody handles, and of which no event has been dispatched */
+  /** @type {Set<Promise<unknown>>} rejections that nobody handles, and for which no event has been dispatched */
   #rejections = new Set();
 
-  /** Takes what node gives to nobody else. */
+  /** Takes the errors that nothing else handles. */
   guard() {
     process.on("uncaughtException", (/** @type {unknown} */ thrown) => this.uncaught(thrown));
     process.on("unhandledRejection", (/** @type {unknown} */ reason, /** @type {Promise<unknown>} */ promise) => {

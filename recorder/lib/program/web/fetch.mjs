@@ -23,8 +23,8 @@ const NOT_FOUND = Object.freeze({ status: 404, statusText: "Not Found" });
  */
 
 /**
- * Has node load its Request and Response, which it does when they are asked for. It then compiles what reads the
- * answers of servers. Nobody needs that here, and in a run it would be a task that the program doesn't have.
+ * Makes node load its Request and Response, which it does when they are asked for. It then compiles what reads the
+ * answers of servers. That isn't needed here, and in a run it would be a task that the program doesn't have.
  * @returns {{ Request: any, Response: any }}
  */
 function loaded() {

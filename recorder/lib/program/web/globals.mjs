@@ -1,4 +1,4 @@
-// The global object of a thread of a browser: what node has besides is taken away, and what browsers have is put there.
+// The global object of a thread of a browser: what only node has is taken away, and what browsers have is put there.
 
 import { apply, deleteProperty, likeEngine, put, setPrototypeOf } from "../../primordials.mjs";
 import { hide } from "./hidden.mjs";
@@ -13,7 +13,7 @@ const OF_NODE = Object.freeze(["__dirname", "__filename", "exports", "module", "
 /** What node's own Response and the like ask for. */
 const FOR_NODE = Object.freeze(["Buffer", "clearImmediate", "global", "setImmediate"]);
 
-/** How many processors the program finds, whatever machine it is on. */
+/** How many processors the program finds, on any machine. */
 const PROCESSORS = 4;
 
 const LOCATION = Object.freeze([

@@ -10,7 +10,7 @@ import { Targets, methodsOf, putHandler } from "./targets.mjs";
 
 const EngineMessageEvent = MessageEvent;
 
-/** What node's ports have, and those of browsers don't. Some of it node itself calls when it makes a port. */
+/** What node's ports have, and those of browsers don't. Node itself calls some of it when it makes a port. */
 const OF_NODE = Object.freeze([
   "addListener", "drain", "emit", "eventNames", "getMaxListeners", "hasRef", "listenerCount", "off", "once",
   "removeAllListeners", "removeListener", "setMaxListeners",

@@ -1,6 +1,6 @@
 // Scripts that aren't modules, in the global scope of a thread that makes run after run. What such a script declares
 // stays in that scope for good: a `let` or a class couldn't be declared again in the next run. So these become
-// variables, in the same lines, and behind a run the global object is as it was before.
+// variables, in the same lines, and after a run the global object is as it was before.
 
 import { createRequire } from "node:module";
 import vm from "node:vm";

@@ -1,5 +1,5 @@
-// Events as the DOM has them: who listens to what, what is assigned to `onmessage` and the like, and in which order all
-// of them get an event. Behind each that is called by a task microtasks are run, as the HTML standard has it.
+// Events as the DOM has them: what listens to what, what is assigned to `onmessage` and the like, and in which order
+// all of them get an event. If a task calls a listener, microtasks are run after it, as the HTML standard has it.
 
 import { apply, defineProperty, put, weakGet, weakSet } from "../../primordials.mjs";
 
@@ -104,7 +104,7 @@ export class Targets {
     return this.#handler(target, type)?.callback ?? null;
   }
 
-  /** @param {object} target @param {string} type @returns {boolean} whether anybody listens */
+  /** @param {object} target @param {string} type @returns {boolean} whether there is any listener */
   isListenedTo(target, type) {
     return this.#of(target).some((each) => each.type === type);
   }

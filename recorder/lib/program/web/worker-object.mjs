@@ -1,6 +1,6 @@
 // The Worker of a program for browsers: a thread by the URL of a script or a module, with the interface of the DOM.
-// What the thread has sent before `terminate`, and nobody has got yet, is lost. It runs what a `blob:` URL has when the
-// Worker is made, also if the URL is revoked meanwhile.
+// What the thread has sent before `terminate`, and no thread has got yet, is lost. It runs what a `blob:` URL has when
+// the Worker is made, also if the URL is revoked meanwhile.
 
 import { put } from "../../primordials.mjs";
 import { KIND } from "../ports.mjs";
