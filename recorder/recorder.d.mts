@@ -101,7 +101,7 @@ export interface OfModule {
   /** Fills the buffers before the run, in place of the module's `init`. */
   init?: WithBuffers;
   /**
-   * Is called after a run that finished, in place of the module's `check`: what it throws fails the run, and so does
+   * Is called after a run that finished, in place of the module's `check`. What it throws fails the run, and so does
    * `false` or an error that it returns.
    */
   check?: WithBuffers;

@@ -1,5 +1,5 @@
-// A table of how far failing runs are shortened: for each program the first failing runs by their seeds, with the
-// changes of agents and the calls that they have as they were found and as they are kept, how many runs that took, and
+// A table of how far failing runs are shortened. For each program it has the first failing runs by their seeds: the
+// changes of agents and the calls, as they were found and as they are kept. It also has how many runs that took, and
 // how long.
 //
 // usage: node recorder/bench/shortening.mjs [MODULE ..]

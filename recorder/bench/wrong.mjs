@@ -5,9 +5,9 @@
 //     node recorder/bench/wrong.mjs [--seeds N] [--jobs N] [--only NAME,..]
 //
 // It prints a table of the wrong programs, one of the pieces, and the share that was found. NAME is that of a wrong
-// program or of a piece; without it all are run. The status is 1 if a run of a right program fails, if a hidden wake-up
-// isn't reported or one of a right program is, or if all wrong programs are run and fewer than LEAST of them are found;
-// and 2 if the command line is refused.
+// program or of a piece; without it all are run. The status is 1 if a run of a right program fails, or if a hidden
+// wake-up isn't reported or one of a right program is. It is 1 too if all wrong programs are run and fewer than LEAST
+// of them are found. It is 2 if the command line is refused.
 
 import { mkdtempSync, readdirSync, rmSync, writeFileSync } from "node:fs";
 import { tmpdir } from "node:os";

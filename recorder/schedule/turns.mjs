@@ -1,4 +1,4 @@
-// The turns of a schedule. A turn has the moves of one draw: an access, the beginning of a wait, or its end, and then
+// The turns of a schedule. A turn has the moves of one draw: an access, or the beginning or end of a wait. Then come
 // the stores for what the agent wrote ordinarily before its next call. Such stores that don't follow a draw, and those
 // of `init`, are a turn of their own, which is fixed.
 

@@ -1,5 +1,5 @@
-// What the stores of a script that stand for ordinary writes, and for what `init` left, were in the code: the array
-// that wrote, and the value that it wrote. In a script a float is a whole number that has the same bits.
+// Stores of a script that stand for ordinary writes, or for what `init` left. This finds what they were in the code:
+// the array that wrote, and the value that it wrote. In a script a float is a whole number that has the same bits.
 
 import { ANY_KIND, elementText, sizeOfKind, storedBytes } from "./values.mjs";
 

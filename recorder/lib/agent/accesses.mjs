@@ -1,5 +1,5 @@
-// An agent's ordinary reads and writes between its calls: they are noted in the log as they are made, and what the
-// writes have changed is taken as stores before the agent's next call.
+// An agent's ordinary reads and writes between its calls. They are noted in the log as they are made. What the writes
+// have changed is taken as stores before the agent's next call.
 
 import { SIZES } from "../../script/kinds.mjs";
 import { WORD } from "../memory/layout.mjs";

@@ -36,7 +36,7 @@ export function effectOf(call, value) {
 }
 
 /**
- * Whether a wait went on only because its time was up: nothing else could move, and it hasn't seen that its word has
+ * Whether a wait went on only because its time was up. Nothing else could move, and it hasn't seen that its word has
  * changed, or no other agent is left that could go on.
  * @param {Call} call
  * @param {object} view

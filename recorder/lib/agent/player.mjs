@@ -1,5 +1,5 @@
-// Plays an agent's part in a run, in the agent's own thread: asks for each call, makes it with the engine's own Atomics
-// when the agent has the turn, and logs it.
+// Plays an agent's part in a run, in the agent's own thread. It asks for each call, makes it with the engine's own
+// Atomics when the agent has the turn, and logs it.
 
 import { CALL_NUMBERS, SIZES } from "../../script/kinds.mjs";
 import { END } from "../board/deadlines.mjs";

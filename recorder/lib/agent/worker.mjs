@@ -2,7 +2,7 @@
 // imports the agents' module, and then carries out orders, one after the other: the agent's part in a run, or the
 // module's `init` or `check`. It never gets back to its event loop.
 //
-// All of this runs beside the agents' code, which may change what it finds: so it uses functions that it has kept from
+// All of this runs beside the agents' code, which may change what it finds. So it uses functions that it has kept from
 // before that code is loaded, and loops in place of the methods of arrays.
 
 import fs from "node:fs";

@@ -6,7 +6,7 @@ const { Int32Array, SharedArrayBuffer } = globalThis;
 
 const MOST_WAITERS = 1_024;
 
-// How many waits there were in the run, how many were notified, the slot from which on all are free, and whether a
+// How many waits there were in the run; how many were notified; the slot from which on all are free; and whether a
 // notify came to the place of a lost wait.
 const JOINED = 0;
 const NOTIFIED = 1;

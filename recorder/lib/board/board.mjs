@@ -1,5 +1,6 @@
-// The board of a run, in memory that all threads share: whose turn it is, what each agent is at, who waits where, the
-// row of random numbers, the time, what was done, and how the run ended. Only the thread that has the turn changes it.
+// The board of a run, in memory that all threads share. It has whose turn it is, what each agent is at, who waits
+// where, the row of random numbers, the time, what was done, and how the run ended. Only the thread that has the turn
+// changes it.
 
 import { SCRIPT_LIMITS } from "../../script/limits.mjs";
 import { loopPlace } from "../memory/blocks.mjs";

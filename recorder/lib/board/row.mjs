@@ -1,9 +1,9 @@
 // The row of a run: which agent moved with each draw. It is returned on request. A run can be forced to go by a row:
 // then the seed draws nothing, and only clocks and random numbers come from it.
 //
-// Exactly: the run strays from the row, which ends it, if the row names an agent that can't move, if it has come to its
-// end while an agent can, or if an agent makes another call than it is to make. Leniently: what can't move is left out,
-// and behind the row's end the agent that moved last goes on as long as it can, then the next one in number. If all
+// Exactly: the run ends when it strays from the row. It strays if the row names an agent that can't move, or ends while
+// an agent can. It also strays if an agent makes another call than it is to make. Leniently: what can't move is left
+// out. Behind the row's end the agent that moved last goes on as long as it can, then the next one in number. If all
 // agents that can move only read the same again, the wait goes on whose time is up first.
 //
 // A row has each real answer. When the run is made again, they may come in other pieces. So only the answer matters

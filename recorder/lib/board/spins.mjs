@@ -1,6 +1,6 @@
 // Which agents only read the same again: their last calls each come again within few, with the same answers, and no
 // byte has changed meanwhile. Such an agent goes on only when another one does something. It is noted only if it
-// matters: in runs with timed waits, since the time of a wait may be up meanwhile, and in a program with a thread that
+// matters: in runs with timed waits, since the time of a wait may be up meanwhile; and in a program with a thread that
 // seems to spin for good. An agent that spins for a while before it sleeps isn't one, so many calls in a row are
 // needed.
 

@@ -1,7 +1,7 @@
-// Who moves next, drawn from the seed's row among the agents that can: those that ask for a call or were woken, those
-// whose time is over, and now and then one whose wait has a timeout, which ends it early. If nothing else can move, or
-// if all that can move only read the same again, the wait ends whose time is up first. A strategy says how it is drawn.
-// A call that concerns no other agent is made without a draw.
+// Who moves next, drawn from the seed's row among the agents that can. These ask for a call, were woken, or have a time
+// that is over. Now and then the wait of one with a timeout ends early. If nothing else can move, or if all that can
+// move only read the same again, the wait ends whose time is up first. A strategy says how it is drawn. A call that
+// concerns no other agent is made without a draw.
 
 import { AGENT_WORD, PHASE, WORD, wordOf } from "../memory/layout.mjs";
 import { MOST_MOVES } from "./journal.mjs";
@@ -21,8 +21,8 @@ const { imul } = Math;
  * @property {number | "never"} timeouts in how many draws the end of a timed wait is offered while something else can
  * move; never: it isn't, even if nothing else can move
  * @property {number} maxMoves
- * @property {number} [soon] of a program: the time of a wait that is less than so many milliseconds away may be up as
- * easily as anything else may move, in some seeds
+ * @property {number} [soon] of a program: in some seeds, the time of a wait that is less than so many milliseconds away
+ * may be up as easily as anything else may move
  * @property {number} [starts] how many agents begin by themselves; others start the rest. If it isn't given, all begin
  */
 

@@ -1,4 +1,4 @@
-// Whose turn it is. The turn goes from agent to agent: the one that has it asks for its next call, the strategy picks
+// Whose turn it is. The turn goes from agent to agent. The one that has it asks for its next call, the strategy picks
 // who moves next, and the turn is handed to that agent's thread. No other thread is between them, so a call costs one
 // change of threads at most, and none if the same agent goes on.
 

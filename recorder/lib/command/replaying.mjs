@@ -1,5 +1,5 @@
-// What replays of agents and of programs have in common: the run is made in this process, kept if that is asked for,
-// and it is printed how it ended.
+// What replays of agents and of programs have in common. The run is made in this process, and kept if that is asked
+// for. It is printed how it ended.
 
 import { readFileSync } from "node:fs";
 import { createRequire } from "node:module";

@@ -1,4 +1,4 @@
-// The file by which a kept run of a program is made again: it names the program, its arguments, the options and the
+// The file by which a kept run of a program is made again. It names the program, its arguments, the options and the
 // seed, and says which thread moved with each draw. A script doesn't have the turns of event loops.
 
 import { createHash } from "node:crypto";

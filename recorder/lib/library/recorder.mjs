@@ -22,9 +22,9 @@ import { checkedOptions } from "./library-options.mjs";
  * Runs the agents once, under the schedule of one seed. The simulator checks the run, unless the options say that it
  * isn't asked. A relative path of the module is taken from the file whose code calls this function.
  * @param {RecordOptions} options
- * @returns {Promise<Outcome>} with all members; that of the shortest run if it was to be shortened; fails with Refused
- * for options that can't be, with a Difference if the simulator says something else, and with NoSabsim if the native
- * program is chosen and isn't there
+ * @returns {Promise<Outcome>} with all members; that of the shortest run if it was to be shortened. It fails with
+ * Refused for options that can't be; with a Difference if the simulator says something else; and with NoSabsim if the
+ * native program is chosen and isn't there
  */
 export async function record(options) {
   const { seed, sabsim: asked, shorten, ...rest } = checkedOptions(options, () => folderOfCaller(record));

@@ -1,7 +1,7 @@
 // Where everything of a run is in the board's words: 32-bit words in memory that all threads share.
 //
 // Only the thread that has the turn changes them, by plain writes. The atomic stores of GO, TURN and ENDED that come
-// after them publish them: a thread that is woken by one of these, or reads it, sees all that was written before.
+// after them publish them. A thread that is woken by one of these, or reads it, sees all that was written before.
 
 /** Words of the run. */
 export const WORD = Object.freeze({

@@ -1,6 +1,6 @@
-// The blocks of a program that no script can have as they are: those behind the third one, those of more bytes than a
-// block of a script, and those that grow. Their number has no small limit. The bytes that are known, the bytes with
-// which they began, and where their memory was made, are in memory that grows as they come.
+// The blocks of a program that no script can have as they are: those after the third, those that are longer than a
+// script's blocks, and those that grow. Their number has no small limit. The bytes that are known, the bytes with which
+// they began, and where their memory was made, are in memory that grows as they come.
 
 import { SCRIPT_LIMITS } from "../../script/limits.mjs";
 import { uncurried } from "../primordials.mjs";

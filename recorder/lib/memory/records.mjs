@@ -1,4 +1,4 @@
-// The calls of one agent in a run and their answers, in shared memory: the agent writes them as they are made, and the
+// The calls of one agent in a run and their answers, in shared memory. The agent writes them as they are made, and the
 // referee reads them at the run's end.
 
 import { CALLS, CALL_NUMBERS } from "../../script/kinds.mjs";

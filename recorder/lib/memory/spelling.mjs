@@ -25,8 +25,8 @@ export function viewKey({ kind, block, offset, length }) {
 }
 
 /**
- * A name by the view's kind and place: its kind, its block if there are several, its first byte if that isn't the
- * block's, and its length if it ends before the block does.
+ * A name by the view's kind and place: its kind, its block if there are several, and its first byte if that isn't the
+ * block's. If the view ends before the block does, its length comes last.
  * @param {number[]} lengths of the blocks
  * @param {Range} view
  * @returns {string}

@@ -2,7 +2,7 @@
 // agent makes that call, and only what has changed is taken.
 //
 // A few elements are stored as they were written, many as the largest whole aligned elements. If there are more stores
-// than a script can ever have, those of bytes that no call touches are left out: what the calls return doesn't depend
+// than a script can ever have, those of bytes that no call touches are left out. What the calls return doesn't depend
 // on them. If a call touches such a byte after all, what was last written there is stored again.
 
 import { KINDS, SIZES } from "../../script/kinds.mjs";

@@ -59,9 +59,9 @@ export function nearest(name, known) {
 }
 
 /**
- * The known name that a name becomes if one slip in it is mended: its capitals, what is between its words, or one
- * letter that isn't the first. So it is much nearer than `nearest` asks for: else a name may well mean something of its
- * own.
+ * The known name that a name becomes if one slip in it is mended. A slip is in its capitals, in what is between its
+ * words, or in one letter that isn't the first. So it is much nearer than `nearest` asks for: else a name may well mean
+ * something of its own.
  * @param {string} name
  * @param {string[]} known
  * @returns {string | undefined}

@@ -1,6 +1,6 @@
-// All options, a row for each: what it may be, what serves if it isn't given, who takes it, whether summaries can be
-// joined only if it is the same, whether a replay depends on it, and the line of help. The command line, the library
-// and the summary go by it.
+// All options, a row for each: what it may be, what serves if it isn't given, who takes it, and the line of help. A row
+// also says whether summaries can be joined only if it is the same, and whether a replay depends on it. The command
+// line, the library and the summary go by it.
 
 import { DEFAULT_SECONDS, MOST_JOBS, SCRIPT_LIMITS } from "../../script/limits.mjs";
 import {

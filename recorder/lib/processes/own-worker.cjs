@@ -1,4 +1,4 @@
-// What a worker of the recorder begins with: it waits for its data, evaluates the modules that are in it, and calls
+// What a worker of the recorder begins with. It waits for its data, evaluates the modules that are in it, and calls
 // what the last one exports as `main`, if it does. Some modules may come ahead of the data. This is a CommonJS module,
 // since such a one is loaded sooner.
 "use strict";

@@ -1,7 +1,7 @@
 // The shared buffers of a program's thread. A buffer that no other thread can reach concerns no other thread. When it
-// is put into a message it becomes a block, before the message is sent: what was done to it until then comes before all
-// that others do. What comes out of a message is another object on the same memory. A test by writing finds which block
-// it is.
+// is put into a message it becomes a block, before the message is sent. So what was done to it until then comes before
+// all that others do. What comes out of a message is another object on the same memory. A test by writing finds which
+// block it is.
 
 import { learn } from "../agent/ordinary/context.mjs";
 import { HELD } from "../memory/blocks.mjs";

@@ -1,7 +1,7 @@
-// CommonJS modules as functions. Each run gets other ones, but the engine compiles a text at most twice in a
-// thread: the first time as node does it, which also shows whether the text is a function's. When the text comes again,
-// it is compiled as a script with that function in it. The engine keeps a script's code, with the functions in it that
-// have run.
+// CommonJS modules as functions. Each run gets other ones, but the engine compiles a text at most twice in a thread.
+// The first time it is done as node does it, which also shows whether the text is a function's. When the text comes
+// again, it is compiled as a script with that function in it. The engine keeps a script's code, with the functions in
+// it that have run.
 
 import vm from "node:vm";
 import { uncurried } from "../primordials.mjs";

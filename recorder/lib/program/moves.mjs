@@ -1,6 +1,6 @@
 // The moves of a program's thread besides its calls of Atomics. A message is two acts on the waiters of a place of its
-// own, one when it is sent and one when it is received: notifies that wake nobody. An event loop that has nothing to do
-// waits; one that has something asks for the turn.
+// own, one when it is sent and one when it is received. Both are notifies that wake nobody. An event loop that has
+// nothing to do waits; one that has something asks for the turn.
 
 import { CALL_NUMBERS, CONSTRUCTORS, KINDS, SIZES } from "../../script/kinds.mjs";
 import { LEAVE, TIME_UP } from "../board/journal.mjs";

@@ -1,5 +1,5 @@
 // All that node 20 has for a program, and what becomes of it in a run: `simulated` is replaced or done by a synchronous
-// twin, `harmless` stays node's own, `real` is answered by the machine and is noted by its name and line, `refused`
+// twin, and `harmless` stays node's own. `real` is answered by the machine and noted with its name and line. `refused`
 // ends the run with its name and line. One word stands for a whole module.
 
 /** @typedef {"simulated" | "harmless" | "real" | "refused"} Kind */

@@ -180,9 +180,9 @@ function refuseOfProcess({ refuse, isPlaying = () => true }) {
 }
 
 /**
- * Replaces what the tables refuse, and what the machine answers: of globals and `process` now, of each other module as a
- * program loads it, since some do something when they are loaded. Call it once in a thread. Ask for `process.stdout` and
- * so on before, if they aren't replaced: node makes them of sockets in a first thread.
+ * Replaces what the tables refuse, and what the machine answers: for globals and `process` now, and for each other
+ * module as a program loads it. Some modules do something when they are loaded. Call it once in a thread. Ask for
+ * `process.stdout` and so on before, if they aren't replaced: node makes them of sockets in a first thread.
  * @param {Given} given
  */
 export function refuseRest(given) {

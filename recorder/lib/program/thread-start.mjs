@@ -1,4 +1,4 @@
-// How a thread of a program starts another one: the new thread gets what it has to run and the ports that go with it,
+// How a thread of a program starts another one. The new thread gets what it has to run and the ports that go with it,
 // and joins the run.
 
 import { SCRIPT_LIMITS } from "../../script/limits.mjs";

@@ -1,6 +1,6 @@
-// Timers in the order in which node's own would run: a list for each number of milliseconds, and the lists by the time
-// at which their first timer is due. A list whose first timer was cleared keeps its early time until it is looked at,
-// as in node, since this decides which of two late lists comes first.
+// Timers in the order in which node's own would run. There is a list for each number of milliseconds, and the lists are
+// ordered by the time at which their first timer is due. If a list's first timer was cleared, the list keeps its early
+// time until it is looked at, as in node. This decides which of two late lists comes first.
 
 import { mapForEach } from "../primordials.mjs";
 

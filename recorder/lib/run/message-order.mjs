@@ -1,5 +1,5 @@
-// Which places agents use only in an order that their messages give: what one has done before it sends a message comes
-// before all that another one does after it has received that. There no draw decides which is first.
+// Which places agents use only in an order that their messages give. What one does before it sends a message comes
+// before all that another does after it has received that. There no draw decides which is first.
 
 import { PLACES } from "../memory/known-places.mjs";
 

@@ -1,4 +1,4 @@
-// The threads and blocks of a program, as texts about its runs name them: a thread by its file and where it was
+// The threads and blocks of a program, as texts about its runs name them. A thread goes by its file and where it was
 // started, a block by where its memory was made.
 
 /**

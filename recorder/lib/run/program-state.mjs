@@ -1,5 +1,5 @@
 // What the referee of a program's runs knows besides the board: the blocks that were made, the threads that joined, and
-// what keeps threads alive that have nothing to do.
+// what keeps idle threads alive.
 
 import { PortTable } from "../board/port-table.mjs";
 import { Blocks, MESSAGES, MOST_BLOCKS, MOST_BYTES } from "../memory/blocks.mjs";

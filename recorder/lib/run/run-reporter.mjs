@@ -223,8 +223,8 @@ export class RunReporter {
     const { racy, initial } = found;
     const written = taken === undefined ? this.#writtenOf(found) : undefined;
     if (taken === undefined && written === undefined) return undefined;
-    // The stores of `init` are none of the run's accesses, ordinary reads are in no script, and in one nothing orders
-    // what a thread does while its helper waits with that wait.
+    // The stores of `init` are none of the run's accesses, and ordinary reads are in no script. And in a script nothing
+    // orders a helper's wait with what its thread does meanwhile.
     const isOrdinary = written?.run.isOrdinary ?? this.#isOrdinary();
     const hasHelpers = (this.maker.board.waiters?.joined ?? 0) > 0;
     const isInScript = hasScript && !isOrdinary && initial.length === 0 && !hasHelpers;

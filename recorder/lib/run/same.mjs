@@ -22,7 +22,7 @@ export function areSame(one, other) {
 }
 
 /**
- * The moves of a row, of whose answers only those are left on which an agent makes its next move: the others may come in
+ * The moves of a row. Of its answers only those are left on which an agent makes its next move: the others may come in
  * other pieces, and at another time.
  * @param {number[]} row
  * @returns {{ drawn: number, at: number }[]} with their positions in the row

@@ -1,4 +1,4 @@
-// The windows of a program's run: its buffers may be more, or larger, than a script and a trace can have, but a run
+// The windows of a program's run. Its buffers may be more, or larger, than a script and a trace can have, but a run
 // touches few pages of them. Pages beside each other are a window, and windows are packed into the blocks of the script
 // one after another. If no block has room for all of these pages, they are cut between two that no access crosses. Two
 // bytes of the program never get the same byte there.

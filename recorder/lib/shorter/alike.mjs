@@ -24,8 +24,9 @@ const waitersOf = ({ waiting }) => waiting.map(({ agent, block, byte }) => `${ag
 const pairOf = (lines) => lines.join(" and ");
 
 /**
- * Whether a run fails as another one does: with the same ending; a deadlock with the same agents at the same places, a
- * race with the pair of lines that the other one reports first, and else with the same message up to its numbers.
+ * Whether a run fails as another one does: with the same ending. A deadlock must also have the same agents at the same
+ * places, and a race the pair of lines that the other one reports first. Any other ending must have the same message up
+ * to its numbers.
  * @param {Run} run
  * @param {Run} other
  * @returns {boolean}

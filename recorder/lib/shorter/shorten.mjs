@@ -1,7 +1,7 @@
-// The shortest run that fails in the same way as one that was found: without the early end of a timed wait, if there is
-// such a run, then the one with the fewest changes of agents, and of these the one with the fewest calls. It is looked
-// for by runs that are forced to go by rows: the found run's row in another order, without some of its stretches, with
-// two stretches of an agent joined, or with one made shorter, as long as that helps.
+// The shortest run that fails in the same way as one that was found. Runs without the early end of a timed wait come
+// first, then those with the fewest changes of agents, then those with the fewest calls. It is looked for by runs that
+// are forced to go by rows, as long as that helps. A row is the found run's in another order, without some of its
+// stretches, with two stretches of an agent joined, or with one made shorter.
 
 import { areSame, firstOtherMove } from "../run/same.mjs";
 import { NO_SCRIPT } from "../run/unseen.mjs";

@@ -34,7 +34,7 @@ export const without = (stretches, at, count) => [...stretches.slice(0, at), ...
 const MOST_FEWER = 3;
 
 /**
- * Rows in which two stretches of one agent are one: the agent's next stretch comes right after this one, or this one
+ * Rows in which two stretches of one agent are one. The agent's next stretch comes right after this one, or this one
  * right before the next, both with up to three draws less; or all that the agent does comes at once.
  * @param {Stretch[]} stretches
  * @param {number} at the stretch that is joined with others

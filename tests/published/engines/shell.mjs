@@ -1,5 +1,5 @@
-// What SpiderMonkey's shell gives to its scripts, over node's own Workers: threads that evaluate a text, a mailbox for
-// shared memory, and the little else that the tests' own files need. This file is also the first one of a thread.
+// What SpiderMonkey's shell gives to its scripts, over node's own Workers: threads that evaluate a text, and a mailbox
+// for shared memory. Also the little else that the tests' own files need. This file is also the first one of a thread.
 
 import { compileFunction } from "node:vm";
 import { MessageChannel, Worker, receiveMessageOnPort, workerData } from "node:worker_threads";

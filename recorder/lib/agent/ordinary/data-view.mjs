@@ -1,4 +1,4 @@
-// The DataView of a watched realm. One on a recorded buffer is an object without elements: its methods are the only way
+// The DataView of a watched realm. One on a recorded buffer is an object without elements. Its methods are the only way
 // to its bytes, so each of them reports what it reads or writes.
 
 import {

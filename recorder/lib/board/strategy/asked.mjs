@@ -7,7 +7,7 @@ import { FLAG } from "../../memory/log.mjs";
 /** Set beside the flags of a call that needs no draw. */
 const GOES_ON = 64;
 
-// After so many calls in a row that concern no other agent, others may move before each further one: perhaps the agent
+// After so many calls in a row that concern no other agent, others may move before each further one. Perhaps the agent
 // waits in a loop for something that no pilot has seen.
 const MOST_IN_A_ROW = 128;
 

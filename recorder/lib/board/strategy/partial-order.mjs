@@ -7,7 +7,7 @@ import { AGENT_WORD, PHASE, wordOf } from "../../memory/layout.mjs";
 // No priority was drawn yet.
 const NONE = 0;
 
-// In one of so many draws all agents get new priorities: else an agent that waits in a loop for one with a low priority
+// In one of so many draws all agents get new priorities. Else an agent that waits in a loop for one with a low priority
 // might go on for ever.
 const RENEWAL = 64;
 

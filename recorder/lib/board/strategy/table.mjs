@@ -1,5 +1,5 @@
-// The strategies, a row for each: the word that names it, the class that draws by it, and whether its word has a
-// likelihood behind it, as in `switch:0.3`.
+// The strategies, a row for each: the word that names it, the class that draws by it, and whether a likelihood comes
+// behind its word, as in `switch:0.3`.
 
 import { PartialOrder } from "./partial-order.mjs";
 import { Switching } from "./switching.mjs";
