@@ -55,8 +55,8 @@ the position of the agent's call, and what happens:
   act X       the call acts, and will return X    return X    the call returns X
   wait        the call begins to wait             stuck WHY   the move has no effect
 Positions count from 0. X is a value, ok, not-equal, timed-out, a count, or an error that the call
-throws: TypeError or RangeError. Then each block has a line with its bytes in hexadecimal. Last,
-each agent has a line with how many of its calls have returned.
+throws: TypeError or RangeError. After the moves, each block has a line with its bytes in
+hexadecimal, and each agent a line with how many of its calls have returned.
 
 With --format explained, words follow the lines, in one column:
   what a call changed, or why it threw
@@ -140,13 +140,13 @@ pub(crate) const JUDGE_FORMS: &str =
 --trace, the input is a trace that the recorder kept, seed-N.trace.jsonl. It has a line of at most
 1,024 bytes for each event, and at most 1,048,576 lines.
 
-Two accesses are unordered if
+Two accesses are unordered if all of this is true:
   different agents make them
   they overlap
   at least one of them writes
   they aren't both by Atomics on the same bytes
   nothing orders them
-What orders accesses:
+These order accesses:
   the order of one agent's calls
   a read by Atomics of what another agent wrote by Atomics to the same bytes
   the order of the waits, ends of waits and notifies at one place
