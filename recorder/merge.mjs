@@ -15,15 +15,19 @@ import { OPTIONS } from "./lib/options/table.mjs";
 
 const USAGE = `usage: ${usageWords("merge")} FILE.. [options]
 
-Joins summaries of the recorder that --format json printed, as those of shards. The result is the summary as if
-one command line had made them. A file may have several, each on a line of its own; - is standard input.
+Joins summaries of the recorder that --format json printed, as those of shards. The result is the summary that one
+command line for all these runs would print. A file may have several, each on a line of its own; - is standard input.
 
   --format FORM   how the summary of all is printed: plain, or json, which is one line (plain)
   -h, --help      this text
   -V, --version   the version
 
-Status: 0 no run failed, 1 some did, 2 a file is no summary, or they don't fit together: they are of another module, of
-other options, or have the same seed; 3 not all runs were made: one was stopped, or the seeds of a shard are missing.
+Status:
+  0  no run failed
+  1  some runs failed
+  2  the command line was refused; a file can't be read or is no summary; or two don't fit together: their modules,
+     sources or options differ, or they share a seed
+  3  runs are missing: they were stopped, or the seeds of a shard are missing; or a shard went wrong
 `;
 
 /** @type {Record<string, { type: "string" | "boolean", short?: string }>} */

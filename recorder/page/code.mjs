@@ -95,7 +95,7 @@ export class Code {
   /** @param {string | undefined} file */
   #whyMissing(file) {
     return file === undefined
-      ? "Where in the code the agents are isn't known: no second run by this seed has done the same."
+      ? "The agents' lines of code aren't known: no second run by this seed has done the same."
       : `The code of ${file} couldn't be read when this run was kept.`;
   }
 

@@ -19,7 +19,7 @@ export class Memory {
   open(run) {
     this.run = run;
     const isPart = run.data.holds === "touched";
-    by("memory-note").textContent = isPart ? "Ordinary writes are known only of bytes that some call touches." : "";
+    by("memory-note").textContent = isPart ? "Of ordinary writes, only those to bytes that some call touches are known." : "";
   }
 
   /** @param {State} state @param {number} index of the step */

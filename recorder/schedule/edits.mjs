@@ -66,7 +66,7 @@ export function timeEnded({ turns, starts, report: { entries } }, at) {
   if (wait.does.length < 5) return { why: "this wait has no timeout" };
   const next = turns.findIndex((turn, each) => each > at && turn.agent === agent);
   const isEnd = next >= 0 && entries[starts[next]].what === "leave";
-  if (isEnd && next === at + 1) return { why: "its time ends right behind it already" };
+  if (isEnd && next === at + 1) return { why: "its time already ends right after it" };
   const rest = isEnd ? spliced(turns, next, 1) : turns;
   const end = { agent, timeUp: true, isFixed: false, moves: [{ timeout: agent }, agent] };
   return { turns: spliced(rest, at + 1, 0, end), at: at + 1 };

@@ -182,8 +182,8 @@ describe("init and check", { concurrency: 2 }, () => {
     const near = { Check: "check", checks: "check", chekc: "check", Init: "init", SETUP: "setup", set_up: "setup" };
     for (const [name, meant] of Object.entries(near)) {
       write(`export const ${name} = () => false;`);
-      const why = `the module exports \`${name}\`: is \`${meant}\` meant? (of what a module exports only default, ` +
-        "setup, init, check are looked at; give it another name if not)";
+      const why = `the module exports \`${name}\`: is \`${meant}\` meant? (the recorder uses only the exports ` +
+        "default, setup, init, check; give it another name if not)";
       await assert.rejects(recordIt(), (error) => error instanceof Refused && error.message === why);
     }
     for (const name of ["unit", "int", "checker", "settings", "initial", "agents"]) {

@@ -45,7 +45,7 @@ test("each outcome says whether sabsim has checked it: those that fail, and one 
   for (const outcome of await allOf(explore({ ...naive, sabsim: CHECKER, seeds: "20..60", checkEvery: 4 }))) {
     const { seed, fails, checked, unchecked, script } = outcome;
     assert.equal(checked, fails || (seed - 20) % 4 === 0);
-    assert.equal(unchecked, checked ? undefined : "of runs that don't fail one in 4 is checked");
+    assert.equal(unchecked, checked ? undefined : "one in 4 of the runs that don't fail is checked");
     assert.equal(script !== undefined, checked);
   }
 });

@@ -34,7 +34,7 @@ const SAID = {
 };
 
 const textOf = (way, seed = 1) =>
-  `seed ${seed} was run once more at the end, and ${SAID[way]}: the module keeps something in its own variables: --fresh`;
+  `seed ${seed} was run once more at the end, and ${SAID[way]}: the module keeps something in its own variables: try --fresh`;
 
 /** @param {import("node:test").TestContext} context */
 function moduleIn(context) {

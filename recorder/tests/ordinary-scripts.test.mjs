@@ -37,7 +37,7 @@ function demandFilled(outcome, ordinary) {
   const stores = callsOf(outcome).filter((call) => !isOwn(call));
   assert.equal(stores.length, 2);
   for (const [name, view] of stores) assert.match(`${name} ${view}`, /^store ordinary_(BigUint64|Uint32|Int32)$/);
-  const line = "1 script holds only the ordinary writes of bytes that calls touch, since all don't fit; its other " +
+  const line = "1 script holds only the ordinary writes of bytes that calls touch, since not all fit; its other " +
     "bytes weren't compared";
   assert.ok(summaryLines([outcome], { ordinary, checkedBy: "module 1" }).includes(line));
 }

@@ -125,7 +125,7 @@ for (const [name, { isThere, begin }] of Object.entries(BROWSERS)) {
       const note = "[...document.querySelectorAll('#schedule .note, #schedule .command')].at(-1).textContent";
       await choose(page, "step-1");
       await page.click("#later");
-      const none = "No command makes this schedule on the code";
+      const none = "No command can run the code by this schedule";
       assert.equal(await page.value(note), `${none}: agent 0 can't move at 21; drop that step first.`);
       await page.press("End", "ArrowUp", "d");
       assert.equal(await page.value(note), "npx sabsim-record hand.mjs --replay seed-3.changed.json -- one");

@@ -33,7 +33,7 @@ if (process.argv[2] === "worker" && globalThis.runs > 1) Atomics.store(workerDat
 Atomics.add(workerData, 0, 1);`,
 };
 
-const KEEPS = "the program keeps something in globals: --fresh";
+const KEEPS = "the program keeps something in globals: try --fresh";
 
 /** What the message says of each way. The first act that differs is in the line where the call begins. */
 const SAID = {

@@ -9,7 +9,7 @@ import { describe, it } from "node:test";
 import { RECORD } from "./helpers/common.mjs";
 import { programOf, runsOf } from "./helpers/whole-programs.mjs";
 
-const BEYOND = "a thread made more than 1000 calls, which no script can have; of such a run sabsim judges the trace alone";
+const BEYOND = "a thread made more than 1000 calls, which no script can have: sabsim judges only the trace of such a run";
 
 /** @param {string} act of the worker, done again and again @param {string} last what main does at the end */
 const filesOf = (act, last) => ({
@@ -84,7 +84,7 @@ describe("more than 1,000 calls of a thread", { concurrency: 3 }, () => {
 });
 
 const MEMORY = "its threads share more than 3 buffers, one of more than 65536 bytes, or one that grows, and touch more "
-  + "pages of 64 bytes than a script and a trace have room for; such a run the recorder alone judges";
+  + "pages of 64 bytes than a script and a trace have room for: the recorder alone judges such a run";
 
 const MANY = 40;
 const LARGE = 2 ** 24;

@@ -85,7 +85,7 @@ test("just one of module and program is given, and each has its own options", as
   for (const program of [5, "", null]) await assert.rejects(record({ program }), refused(/^`program` must be a path or a URL/));
   const ofAgents = { agents: 2, buffers: [4], noBlock: [0], unrecorded: "allow", init() {}, check() {} };
   for (const [name, value] of Object.entries(ofAgents)) {
-    const why = new RegExp(`^\`${name}\` doesn't go with \`program\`: it says something of a module of agents, `);
+    const why = new RegExp(`^\`${name}\` doesn't go with \`program\`: it is about a module of agents, `);
     await assert.rejects(record({ program: TOO_SOON, [name]: value }), refused(why));
   }
   for (const [name, value] of Object.entries({ ordinary: "store", clock: "real" })) {

@@ -119,7 +119,7 @@ test("a run that waits by waitAsync is made again, and what differs is named as 
   assert.equal(readFileSync(join(folder, "again", `${name}.replayed.json`), "utf8"), script);
   writeFileSync(main, readFileSync(main, "utf8").replace("words, 0, 0", "words, round, 0"));
   assert.match(recorded(["--replay", file]).stderr,
-    /: in the script comes agent 0's call (\d), \["wait", "Int32_b0", 0, 0\], and now agent 0's call \1, \["wait", "Int32_b0", 1, 0\]$/m);
+    /: the script has agent 0's call (\d), \["wait", "Int32_b0", 0, 0\] next, and now comes agent 0's call \1, \["wait", "Int32_b0", 1, 0\]$/m);
 });
 
 test("if the code does other things, the first of these is named", () => {
@@ -127,11 +127,11 @@ test("if the code does other things, the first of these is named", () => {
   const files = { main, worker: join(dirname(main), "worker.mjs") };
   const changed = [
     ["main", MAIN.replace("Atomics.load(words, 0)", "Atomics.load(words, 1)"),
-      /: in the script comes agent 0's call \d+, \["load", "Int32_b0", 0\], and now agent 0's call \d+, \["load", "Int32_b0", 1\]$/],
+      /: the script has agent 0's call \d+, \["load", "Int32_b0", 0\] next, and now comes agent 0's call \d+, \["load", "Int32_b0", 1\]$/],
     ["main", MAIN.replace("if (", "Atomics.add(words, 1, 2);\n if ("),
-      /: in the script comes agent 0's call \d+, \["load", .*\], and now agent 0's call \d+, \["add", "Int32_b0", 1, 2\]$/],
+      /: the script has agent 0's call \d+, \["load", .*\] next, and now comes agent 0's call \d+, \["add", "Int32_b0", 1, 2\]$/],
     ["worker", WORKER.replace('parentPort.postMessage("ready");', ""),
-      /: in the script comes agent 1's call \d+, \["notify", .*\], and now agent 1's call \d+, \["store", "Int32_b0", 0, 7\]$/],
+      /: the script has agent 1's call \d+, \["notify", .*\] next, and now comes agent 1's call \d+, \["store", "Int32_b0", 0, 7\]$/],
     // It makes no other call, and comes less far.
     ["worker", WORKER.replace("setTimeout(done, 5)", 'parentPort.once("message", done)'),
       /: agent \d moved with draw \d+ of the kept run, and now it has nothing to do, or waits$/],

@@ -174,7 +174,7 @@ if (seen.join() !== "7,1,3,7,7,7,0,5,6") throw new Error("it is " + seen);`,
 }`, "",
     ));
     assert.deepEqual([outcome.ending, outcome.checked, outcome.script], ["finished", false, undefined]);
-    assert.match(outcome.noScript ?? "", /^so many ordinary writes were made to its buffers.* judges the trace alone$/);
+    assert.match(outcome.noScript ?? "", /^so many ordinary writes were made to its buffers.* judges only the trace of such a run$/);
     const places = outcome.windows?.map(({ from, to, byte }) => [from, to, byte]);
     assert.deepEqual(places, [[0, 8_192, 0], [16_000, 16_064, 8_192]]);
     const lines = (outcome.trace ?? "").split("\n");
@@ -337,7 +337,7 @@ describe("a kept run", { concurrency: 2 }, () => {
     writeFileSync(main, text.replace("Atomics.wait", "large[4_000_000] = 1;\nAtomics.wait"));
     const other = await ran("--replay", kept);
     assert.equal(other.status, 3);
-    const now = /in the script comes agent 1's .*, and now agent 0's ordinary write .*, \w+_at4000000\[0\] = 1/;
+    const now = /the script has agent 1's .* next, and now comes agent 0's ordinary write .*, \w+_at4000000\[0\] = 1/;
     assert.match(other.stderr, now);
   });
 

@@ -213,7 +213,7 @@ test("a wrong command line is refused with status 2 and one line", async (contex
     [[module, "--buffers", "4", ...unchecked], /number of agents is missing/],
     [[module, "--agents", "1", ...unchecked], /buffers' bytes are missing/],
     [[module, "--agents", "1", "--buffers", "4", "--no-block", "1", ...unchecked],
-      /--no-block\) names agent 1: there is no such agent, but 0 to 0$/m],
+      /--no-block\) names agent 1: there is no such agent, only 0 to 0$/m],
     [[module, "--out", file], /--out .*file can't be used/],
   ];
   const ran = await Promise.all(wrong.map(([words]) => new Promise((done) => {
@@ -300,7 +300,7 @@ test("a picture that sabsim doesn't make is reported", (context) => {
   assert.equal(status, 1, stdout);
   assert.match(stdout, /^every run was replayed and judged by sabsim \(program\): it agrees with the recorder$/m);
   const left = "\nnot kept: seed-1.svg: sabsim ended with status 4: no pictures\n" +
-    "not kept: seed-1.html: what sabsim says of the run is no JSON\n";
+    "not kept: seed-1.html: what sabsim prints about the run is no JSON\n";
   assert.ok(stdout.endsWith(left), stdout);
 });
 

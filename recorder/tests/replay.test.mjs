@@ -216,11 +216,11 @@ test("a file that is no script of the recorder is refused, and options of anothe
     });
   }
   // Of these --replay leaves out the moves, since they have no effect.
-  const idle = [[[...moves, 1, 1, 1], /its move \d+ is one of no call$/], [[{ timeout: 0 }, ...moves], /isn't$/]];
+  const idle = [[[...moves, 1, 1, 1], /its move \d+ belongs to no call$/], [[{ timeout: 0 }, ...moves], /isn't$/]];
   for (const [schedule, why] of idle) assert.throws(() => keptScript(changed({ schedule }), "idle.json"), why);
   const options = [
-    [["--agents", "3"], "--agents is 3, but the script's run had 2: leave it away, the script says it"],
-    [["--buffers", "8,8"], "--buffers is 8,8, but the script's run had 32: leave it away, the script says it"],
+    [["--agents", "3"], "--agents is 3, but the script's run had 2: leave it out, the script has it"],
+    [["--buffers", "8,8"], "--buffers is 8,8, but the script's run had 32: leave it out, the script has it"],
     [["--seeds", "1..4"], '--replay makes one run: --seeds must be one seed, but is "1..4"'],
   ];
   for (const [words, why] of options) {

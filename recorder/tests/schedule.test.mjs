@@ -196,7 +196,7 @@ describe("by hand", () => {
     assert.deepEqual(rowOf(editing.now), ["2", "0", "0 time up", "1", "1", "0"]);
     assert.deepEqual(editing.now.moves.slice(3, 10), [0, 0, { timeout: 0 }, 0, 0, 0, 0]);
     assert.equal(editing.differences.answers[0].after, "timed-out");
-    assert.deepEqual(editing.change(timeEnded, 1), { why: "its time ends right behind it already" });
+    assert.deepEqual(editing.change(timeEnded, 1), { why: "its time already ends right after it" });
     assert.deepEqual(editing.change(later, 2), { at: 3 });
     assert.deepEqual(editing.change(earlier, 3), { at: 2 });
   });

@@ -153,13 +153,13 @@ test("a summary reports scripts that hold only a part, and runs without a script
   ]);
   const checked = lines.indexOf(checkedLine("1 of 4 runs was", ""));
   assert.deepEqual(lines.slice(checked + 1, checked + 3), [
-    "2 scripts hold only the ordinary writes of bytes that calls touch, since all don't fit; their other bytes " +
+    "2 scripts hold only the ordinary writes of bytes that calls touch, since not all fit; their other bytes " +
       "weren't compared",
     "1 run has no script, and wasn't checked: it would have 2,000 calls",
   ]);
   const one = linesOf([outcome(1, holding)]);
   assert.ok(one.includes(
-    "1 script holds only the ordinary writes of bytes that calls touch, since all don't fit; its other bytes " +
+    "1 script holds only the ordinary writes of bytes that calls touch, since not all fit; its other bytes " +
       "weren't compared",
   ));
   const unchecked = linesOf([outcome(1, none), outcome(2, none)], { checked: 0, checkedBy: undefined });
@@ -176,7 +176,7 @@ test("the last lines say what was not seen", () => {
       "accesses were not looked for",
   );
   assert.equal(last({ ordinary: "refuse" }), last({ ordinary: "store" }));
-  assert.match(last({ ordinary: "watch", preloads: true }), /^what is done by .* as --require, .* was not seen$/);
+  assert.match(last({ ordinary: "watch", preloads: true }), /^node's own options, as --require, .* were not seen$/);
   for (const ordinary of ["store", "refuse"]) {
     assert.equal(linesOf(seeds(1, 2), { ordinary }).at(-2), "2 runs made 4 calls of Atomics");
   }

@@ -226,7 +226,7 @@ test("a kept page says its module, options and versions, and its command makes t
   const name = readdirSync(join(folder, "found")).find((each) => each.endsWith(".html"));
   // The explained report has bits there. A line beside the kept files says so.
   assert.match(made.stdout, new RegExp("\\nin seed-(\\d+)\\.explained and seed-\\1\\.svg a float that was written without " +
-    "Atomics is a whole number, which has its bits\\n$"));
+    "Atomics is the whole number with the same bits\\n$"));
   const { about, command, seed } = dataOf(join(folder, "found", name));
   assert.deepEqual([about.module, about.options], ["src/ring.mjs", "--strategy uniform --timeouts 0.5"]);
   const { version } = JSON.parse(readFileSync(new URL("../../package.json", import.meta.url), "utf8"));

@@ -47,7 +47,7 @@ conflict_added old new id added = (
   ap (λ (a : Arg). a.global) added.0,
 )
 
--- a command that could be made stands below, as it was described
+-- a command that could be made is below, as it was described
 pub command_added : {E : Type 0} (app : App) (old new : Command) (made : Result Command E)
     → IfOk made (λ c. (app_of c ≡ app) × IsLocal c)
     → ((below : Command) × (made ≡ Ok below) × (IsLocal below → (app_of new ≡ with_command (app_of old) (app_of below)) × (IsLocal old → IsLocal new)))

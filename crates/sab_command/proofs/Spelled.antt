@@ -4,7 +4,7 @@ use Rattle.std.specs.Str.Parse.{ParsesUnsigned}
 use Rattle.clap.specs.Words.{ReadsOne, Text}
 use Rattle.sab_command.specs.Asked.{Spells}
 
--- where a type's `from_str` parses an unsigned number of so many bits, a text that spells one is read as that one
+-- if a type's `from_str` parses an unsigned number of so many bits, a text that spells one is read as that one
 pub reads_number : {E : Type 0} → (bits : ℕ) (gives : Text → Result ℕ E → Type 0)
     → ((text : Text) (r : Result ℕ E) → gives text r → ParsesUnsigned bits 10 text r) →
     (text : Text) (n : ℕ) → Spells text n → n < 2 ^ bits → (r : Option ℕ) → ReadsOne gives text r → r ≡ Some n

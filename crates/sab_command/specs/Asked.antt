@@ -59,7 +59,7 @@ abbrev pub IsShare : Option Text → Share → Type 0
 IsShare value Ring = value ≡ Some (codes "ring")
 IsShare value Lock = value ≢ Some (codes "ring")
 
--- the text is a numeral of the number; a plus may stand before it
+-- the text is a numeral of the number, perhaps with a plus before it
 abbrev pub Spells : Text → ℕ → Type 0
 Spells text n = IsNumeral 10 (without_leading_plus text)
     × (digits_value 10 (without_leading_plus text) ≡ n)
@@ -69,7 +69,7 @@ abbrev pub IsSpins : Option Text → ℕ → Type 0
 IsSpins value spins = (text : Text) (n : ℕ) → value ≡ Some text → Spells text n → n ≤ MAX_SPINS
     → spins ≡ n
 
--- no seed where there is no value, and else the seed of 64 bits that it spells
+-- no seed if there is no value, and else the seed of 64 bits that it spells
 abbrev pub IsMix : Option Text → Option ℕ → Type 0
 IsMix value mix = (value ≡ None → mix ≡ None)
     × ((text : Text) (n : ℕ) → value ≡ Some text → Spells text n → n < 2 ^ 64 → mix ≡ Some n)

@@ -234,7 +234,7 @@ fn with_runs<'a>(
     with_subcommand(command, race_command(alloc, formats, shares))
 }
 
-/// The command with those below it that say something of a script or a trace.
+/// The command with those below it that say something about a script or a trace.
 fn with_checks<'a>(
     alloc: Global,
     command: Command<'a>,
@@ -247,7 +247,7 @@ fn with_checks<'a>(
     with_subcommand(command, check_command(alloc))
 }
 
-/// The command with another one below it, where that could be made.
+/// The command with another one below it, if that could be made.
 fn with_subcommand<'a>(
     command: Command<'a>,
     made: Result<Command<'a>, AllocError>,

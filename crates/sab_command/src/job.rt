@@ -19,7 +19,7 @@ pub enum Job {
     Replay {
         /// In which form the run is written.
         form: RunForm,
-        /// Whether it is an answer of its own that some calls haven't returned.
+        /// Whether the program ends with another status if some calls haven't returned.
         finish: bool,
     },
     /// To check the script.
@@ -28,7 +28,7 @@ pub enum Job {
     Judge {
         /// How the verdict is written.
         format: VerdictFormat,
-        /// Whether it is an answer of its own that some calls haven't returned.
+        /// Whether the program ends with another status if some calls haven't returned.
         finish: bool,
     },
 }
@@ -44,6 +44,6 @@ pub struct RaceJob {
     pub mix: Option<u64>,
     /// In which form the run is written.
     pub form: RunForm,
-    /// Whether it is an answer of its own that some calls haven't returned.
+    /// Whether the program ends with another status if some calls haven't returned.
     pub finish: bool,
 }

@@ -133,7 +133,7 @@ fn judge_task(matches: &ArgMatches<'_>) -> Task
     Task::OfScript(Job::Judge { format, finish })
 }
 
-/// Where the input is read from: standard input where no file is given, or `-`.
+/// Where the input is read from: standard input if no file is given, or `-`.
 fn source_of<'a>(matches: &ArgMatches<'a>) -> Source<'a>
     ensures { Names (first_value (found_of matches.now) (codes "file")) result }
 {
@@ -171,7 +171,7 @@ fn request_by<'a>(name: &str, matches: &ArgMatches<'a>) -> Request<'a>
 
 /// What the words ask for, of which the first is the program's name.
 ///
-/// An error is a request for help too, and OutOfMemory where memory ran out while the command line was built or read.
+/// An error is a request for help too, and OutOfMemory if memory ran out while the command line was built or read.
 pub fn request_of<'a, S: AsStr>(alloc: Global, words: &'a [S]) -> Result<Request<'a>, Error>
     ensures asked { IfOk result (λ request. IsAsked (map S.text words.entry.now) request) }
     ensures limits { IfOk result (λ request. IsTaskWithinLimits request.task) }

@@ -30,6 +30,6 @@ pub struct Request<'a> {
     pub task: Task,
     /// Where the input is read from.
     pub source: Source<'a>,
-    /// Whether to report why the script is refused, and at which place, also where no terminal shows it.
+    /// Whether to report why the script is refused, and at which place, also if no terminal shows it.
     pub explain: bool,
 }

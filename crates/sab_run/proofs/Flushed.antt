@@ -91,7 +91,7 @@ flushed_race (Report report_form) old mid new script spins ended r k =
 flushed_race Script old mid new script spins ended r k =
     (r.0, flushed_kept (IsRaceIn spins) old mid new script r.0 r.1 k, r.2)
 
--- where the flush fails, the script spells a setup all the same
+-- if the flush fails, the script still spells a setup
 pub unflushed_replay : (form : RunForm) (old mid new : Option (List ℕ)) (script : List ℕ) (ended : Ended)
     → ReplaysIn form old mid script ended → IsFaultOfReplay form old new script WriteFailed
 unflushed_replay (Report report_form) old mid new script ended r = inr (refl, (r.setup, r.spelled))

@@ -13,7 +13,7 @@ use Rattle.sab_run.specs.Explaining.{IsExplanation}
 use Rattle.sab_run.specs.Racing.{RunsRace, RunsRaceGiven, IsFaultOfRace}
 use Rattle.sab_run.specs.Running.{Runs, RunsGiven, IsFaultOf}
 
--- what the job came to
+-- how the job ended
 pub ran : (known old new : Option (List ℕ)) (job : Job) (outcome : Outcome) (input script : List ℕ)
     → IfSome known (λ bytes. input ≡ bytes) → script ≡ input → length input ≤ MAX_INPUT
     → Runs job outcome old new script → IfSome known (RunsGiven job outcome old new)
@@ -32,7 +32,7 @@ failed (Some bytes) old new job fault input script all same few refused =
     subst (λ (s : List ℕ). (length s ≤ MAX_INPUT) × IsFaultOf job old new s fault) all
     (few, subst (λ (s : List ℕ). IsFaultOf job old new s fault) same refused)
 
--- what the race came to
+-- how the race ended
 pub raced : (known old new : Option (List ℕ)) (race : RaceJob) (outcome : Outcome) (input script : List ℕ)
     → IfSome known (λ bytes. input ≡ bytes) → script ≡ input → length input ≤ MAX_INPUT
     → RunsRace race outcome old new script → IfSome known (RunsRaceGiven race outcome old new)

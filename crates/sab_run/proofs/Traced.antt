@@ -24,7 +24,7 @@ pub racy_outcome : (events : List Event) (clean : Bool) → (IsTrue clean ↔ Ha
     → IsOutcomeOf events Racy
 racy_outcome events clean same is = inr (refl, λ none. false≢true (sym is ∙ same.1 none))
 
--- where the reader's bytes are known, they spell what was judged
+-- if the reader's bytes are known, they spell what was judged
 pub judged : (known old new : Option (List ℕ)) (format : VerdictFormat) (outcome : Outcome) (events : List Event)
     (races : List Race) (rest data_races : ℕ) → IfSome known (λ bytes. SpellsTrace bytes events)
     → IsVerdict events MAX_REPORTED races rest data_races

@@ -8,7 +8,7 @@ use Rattle.sab_ending.specs.Status.{status_after}
 use Rattle.sab_run.specs.declared.failure.Explanation.{Explanation}
 use Rattle.sab_run.specs.declared.failure.Explanation.TheVariants.{Absent, NoMemory, CheckText, AtLine}
 
--- what a check says of a script that it refuses, or none where it doesn't refuse the script
+-- what a check says about a script that it refuses, or none if it doesn't refuse the script
 abbrev pub IsExplained : List ℕ → Option (String Global) → Type 0
 IsExplained script None = (text : List ℕ) × IsAccepted script text
 IsExplained script (Some text) = IsRefused script (string_bytes text)

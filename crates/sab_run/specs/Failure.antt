@@ -27,7 +27,7 @@ abbrev pub line_of : Explanation → Option ℕ
 line_of (AtLine line) = Some line
 line_of _ = None
 
--- a file is named exactly where a read failed and it is one, and its name has no control characters
+-- a file is named exactly if a read of it failed, and its name has no control characters
 abbrev pub NamesFile : Source → ToolFault → Option (Bor (List ℕ)) → Type 0
 NamesFile Standard fault None = ⊤
 NamesFile Standard fault (Some reported) = ⊥

@@ -15,13 +15,13 @@ use Rattle.sab_ending.specs.declared.outcome.Outcome.{Outcome}
 use Rattle.sab_ending.specs.Outcome.{outcome_of}
 use Rattle.sab_run.specs.Running.{KeepsAs}
 
--- just the report of a race of the script with so many steps at a wait, or the script that keeps the race, came behind
+-- just the report of a race of the script with so many steps at a wait, or the script that keeps the race, came after
 -- what the writer held
 abbrev pub RacesIn : RunForm → ℕ → Option (List ℕ) → Option (List ℕ) → List ℕ → Ended → Type 0
 RacesIn (Report report_form) spins old new script ended = RacesAs report_form old new script spins ended
 RacesIn Script spins old new script ended = KeepsAs (IsRaceIn spins) old new script ended
 
--- the race came behind what the writer held in its form, and the outcome is by how it ended
+-- the race came after what the writer held in its form, and the outcome is by how it ended
 abbrev pub RunsRace : RaceJob → Outcome → Option (List ℕ) → Option (List ℕ) → List ℕ → Type 0
 RunsRace race outcome old new script =
     (ended : Ended) × RacesIn race.form race.spins old new script ended × (outcome ≡ outcome_of ended race.finish)
@@ -31,7 +31,7 @@ abbrev pub IsFaultOfRace : RunForm → ℕ → Option (List ℕ) → Option (Lis
 IsFaultOfRace (Report report_form) spins old new script fault = IsRaceFault old new script spins fault
 IsFaultOfRace Script spins old new script fault = IsKeepFault (IsRaceUnkept spins) old new script fault
 
--- the script isn't too long, and the race came to this
+-- the script isn't too long, and the race ended so
 abbrev pub RunsRaceGiven : RaceJob → Outcome → Option (List ℕ) → Option (List ℕ) → List ℕ → Type 0
 RunsRaceGiven race outcome old new script = (length script ≤ MAX_INPUT) × RunsRace race outcome old new script
 

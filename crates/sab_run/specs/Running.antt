@@ -23,7 +23,7 @@ use Rattle.sab_ending.specs.declared.outcome.Outcome.{Outcome}
 use Rattle.sab_ending.specs.declared.outcome.Outcome.TheVariants.{Done, Refused, Unfinished, Racy}
 use Rattle.sab_ending.specs.Outcome.{outcome_of, judged_outcome}
 
--- just what a check says came behind what the writer held: of a script that isn't refused, or of one that is
+-- just what a check says came after what the writer held: about a script that isn't refused, or about one that is
 abbrev pub Checks : Outcome → Option (List ℕ) → Option (List ℕ) → List ℕ → Type 0
 Checks Done old new script = (text : List ℕ) × IsAccepted script text × Appends old new text
 Checks Refused old new script = (text : List ℕ) × IsRefused script text × Appends old new text
@@ -35,12 +35,12 @@ abbrev pub KeepsAs : (SetupParts → ReportParts → Type 0) → Option (List �
 KeepsAs IsRun old new script ended =
     (report : ReportParts) × KeepsRun IsRun old new script report × (ended ≡ ended_of report)
 
--- just the report of the script's replay, or the script that keeps the replay, came behind what the writer held
+-- just the report of the script's replay, or the script that keeps the replay, came after what the writer held
 abbrev pub ReplaysIn : RunForm → Option (List ℕ) → Option (List ℕ) → List ℕ → Ended → Type 0
 ReplaysIn (Report report_form) old new script ended = ReplaysAs report_form old new script ended
 ReplaysIn Script old new script ended = KeepsAs IsReportOf old new script ended
 
--- the run came behind what the writer held in its form, and the outcome is by how it ended; or what a check or a judge
+-- the run came after what the writer held in its form, and the outcome is by how it ended; or what a check or a judge
 -- says did
 abbrev pub Runs : Job → Outcome → Option (List ℕ) → Option (List ℕ) → List ℕ → Type 0
 Runs Check outcome old new script = Checks outcome old new script
@@ -65,7 +65,7 @@ IsFaultOf (Replay form finish) old new script fault = IsFaultOfReplay form old n
 IsFaultOf Check old new script fault = IsCheckFault old new fault
 IsFaultOf (Judge format finish) old new script fault = IsJudgeFault old new script fault
 
--- the script isn't too long, and the job came to this
+-- the script isn't too long, and the job ended so
 abbrev pub RunsGiven : Job → Outcome → Option (List ℕ) → Option (List ℕ) → List ℕ → Type 0
 RunsGiven job outcome old new script = (length script ≤ MAX_INPUT) × Runs job outcome old new script
 

@@ -26,7 +26,7 @@ abbrev pub IsOutcomeOf : List Event → Outcome → Type 0
 IsOutcomeOf events outcome =
     ((outcome ≡ Done) × HaveNoRace events) ⊎ ((outcome ≡ Racy) × (¬ HaveNoRace events))
 
--- the bytes spell a trace, just the verdict on it came behind what the writer held, and its lines as JSON are read as
+-- the bytes spell a trace, just the verdict on it came after what the writer held, and its lines as JSON are read as
 -- their trees
 pub record JudgesTrace (format : VerdictFormat) (outcome : Outcome) (old new : Option (List ℕ)) (bytes : List ℕ) :
     Type 0 where

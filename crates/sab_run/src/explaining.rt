@@ -9,7 +9,7 @@ use sab_ending::Ending;
 use sab_tool::ToolFault;
 use std::alloc::{AllocError, Global};
 
-/// What a check says of a script that it refuses, which is a line; none of a script that it doesn't refuse.
+/// What a check says about a script that it refuses, which is a line; none about a script that it doesn't refuse.
 pub fn explain_script(alloc: Global, script: &[u8]) -> Result<Option<String>, AllocError>
     ensures { IfOk result (IsExplained script.now) }
 {

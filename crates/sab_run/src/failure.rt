@@ -18,7 +18,7 @@ pub enum Explanation {
     Absent,
     /// There is no memory for it.
     NoMemory,
-    /// What a check says of the script, which it refuses: a line.
+    /// What a check says about the script, which it refuses: a line.
     CheckText(String),
     /// The line of the trace that is refused, from 1.
     AtLine(u32),
@@ -34,7 +34,7 @@ pub struct Failure {
 }
 
 impl Failure {
-    /// That of a file that can't be opened: OutOfMemory where there is no memory for it, and else ReadFailed.
+    /// That of a file that can't be opened: OutOfMemory if there is no memory for it, and else ReadFailed.
     pub fn of_open(error: &Error) -> Failure
         ensures memory { error_kind error.now ≡ ErrorKind.OutOfMemory → result ≡ unexplained ToolFault.OutOfMemory }
         ensures other { error_kind error.now ≢ ErrorKind.OutOfMemory → result ≡ unexplained ToolFault.ReadFailed }
@@ -45,9 +45,9 @@ impl Failure {
         Failure::from(ToolFault::ReadFailed)
     }
 
-    /// What the program says of it, where the script is read from this source.
+    /// What the program reports about it, if the script is read from this source.
     ///
-    /// A file is named where it can't be opened or read, unless its name has control characters.
+    /// A file is named if it can't be opened or read, unless its name has control characters.
     pub fn complaint<'a>(&'a self, source: Source<'a>) -> Complaint<'a>
         ensures fault { result.fault ≡ self.now.fault }
         ensures file { NamesFile source.entry self.now.fault result.file }

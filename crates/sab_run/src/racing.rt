@@ -22,8 +22,8 @@ use std::thread::Threads;
 
 /// Runs the agents of the script that a reader gives in threads, writes the report, and flushes.
 ///
-/// The faults and the explanation are those of [`run`](crate::run), where a race is in place of a replay. It waits for
-/// threads, so that no clause says that it returns.
+/// The faults and the explanation are those of [`run`](crate::run), with a race in place of a replay. It waits for
+/// threads, so no clause says that it returns.
 #[tactic(auto, using(crate::proofs::Given::raced, crate::proofs::Given::race_failed, crate::proofs::Given::explained, crate::proofs::Given::unread))]
 pub fn run_race<T: Threads + Wait + Sync + AllocGlobal + RandomSource, R: Read, W: Write>(
     rt: &T,
@@ -82,7 +82,7 @@ fn race_script<T: Threads + Wait + Sync + AllocGlobal + RandomSource, W: Write>(
     Ok(Outcome::of_run(ended, finish))
 }
 
-/// The seed that is given, or else one of the system's random numbers: 1 where it has none.
+/// The seed that is given, or else one of the system's random numbers: 1 if it has none.
 fn seed_of(rt: &impl RandomSource, mix: Option<u64>) -> u64
     ensures { IfSome mix (λ seed. result ≡ seed) }
 {

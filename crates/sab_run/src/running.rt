@@ -16,15 +16,14 @@ use sab_tool::{ToolFault, read_input};
 use std::alloc::Global;
 use std::io::{Read, Write};
 
-/// Does a job with the script that a reader gives, without a thread: writes its report, or what a check says of it, and
-/// flushes.
+/// Does a job with the script that a reader gives, without a thread: writes its report, or what a check says about it,
+/// and flushes.
 ///
-/// It needs nothing but memory, the reader and the writer, so that it returns if these two do. TooLong where the reader
-/// gave more than [`MAX_INPUT`](sab_tool::MAX_INPUT) bytes, ReadFailed where a read failed, and WriteFailed where a
-/// write or the flush failed; nothing is said then of how much was written. Every other fault is that of the script's
-/// replay, or want of memory, and nothing was written. A check of a script that is refused isn't answered by its fault:
-/// what is written reports it. If the script is refused, and that is to be explained, the failure has what a check says
-/// of it.
+/// It needs only memory, the reader and the writer, so it returns if these two do. TooLong if the reader gave more than
+/// [`MAX_INPUT`](sab_tool::MAX_INPUT) bytes, ReadFailed if a read failed, and WriteFailed if a write or the flush
+/// failed; nothing is said then about how much was written. Every other fault is that of the script's replay, or want
+/// of memory, and nothing was written. A check of a script that is refused doesn't return its fault: what is written
+/// reports it. If the script is refused, and that is to be explained, the failure has what a check says about it.
 #[tactic(auto, using(crate::proofs::Given::ran, crate::proofs::Given::failed, crate::proofs::Given::explained, crate::proofs::Given::unread))]
 pub fn run<R: Read, W: Write>(
     alloc: Global,

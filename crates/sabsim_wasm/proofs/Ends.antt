@@ -45,7 +45,7 @@ trace_done format source trace outcome old new written empty judges is =
       subst (λ (it : List ℕ). written ≡ done outcome it) same is,
     )
 
--- where no write failed, nothing was written
+-- if no write failed, nothing was written
 kept_of : (old new : List ℕ) (fault : ToolFault) → IsUnwritten (Some old) (Some new) fault → fault ≢ WriteFailed
     → new ≡ old
 kept_of old new fault (inl failed) other = absurd (other failed)

@@ -17,7 +17,7 @@ first_word (b ∷ word) rest lacks =
     rw (ne_eqb b 0 (lacks 0 (omega arith)))
     (ap (onto_first b) (first_word word rest (λ k within. lacks (suc k) (omega (arith, within)))))
 
--- the last word, behind which nothing comes
+-- the last word, after which nothing comes
 last_word : (word : List ℕ) → LacksByte 0 word → 0 < length word → words_of word ≡ word ∷ []
 last_word [] lacks some = absurd (omega (arith, some))
 last_word (b ∷ []) lacks some = rw (ne_eqb b 0 (lacks 0 (omega arith))) refl
@@ -47,7 +47,7 @@ AllLack pieces = (k : ℕ) → Lacks (slice_get pieces k)
 abbrev HasBytes : Option Piece → Type 0
 HasBytes o = IfSome o (λ piece. 0 < length piece.now)
 
--- a byte 0 is between the pieces, and one behind the last
+-- a byte 0 is between the pieces, and one after the last
 ended_words : (pieces : List Piece) → 0 < length pieces → AllLack pieces
     → words_of (joined pieces ++ 0 ∷ []) ≡ texts pieces
 ended_words [] some lack = absurd (omega (arith, some))
@@ -75,7 +75,7 @@ module _ {S : Type 0} {steps : S → Option Piece → S → Type 0} (run : Run s
   unfolding YieldsRun
   item_at k = run.gave.1 k
 
-  -- where a byte 0 is behind the last piece, there is one
+  -- if a byte 0 is after the last piece, there is one
   some : run.whole ≡ true → IsSplitTerminatorRun run bytes 0 → bytes ≡ joined run.items ++ 0 ∷ []
       → 0 < length run.items
   some whole is ended = elim (cases_lt 0 (length run.items)) [

@@ -18,7 +18,7 @@ use Rattle.sabsim_wasm.specs.Program.{WrittenParts, written_of, no_memory, no_te
 use Rattle.sabsim_wasm.specs.Room.{Puts, AsksFor}
 use Rattle.sabsim_wasm.specs.Words.{words_of}
 
--- the room has what the program writes, of which this is said; or there was no memory for that
+-- the room has what the program writes, about which this is said; or there was no memory for that
 abbrev pub PutsSuch : (WrittenParts → Type 0) → List ℕ → List ℕ → Reply → Type 0
 PutsSuch IsSuch old new reply =
     ((written : WrittenParts) × IsSuch written × Puts 0 written old new reply) ⊎ Puts 0 no_memory old new reply

@@ -36,11 +36,11 @@ written_by written = written_of written.status written.output.items (string_byte
 abbrev pub done : Outcome → List ℕ → WrittenParts
 done outcome output = written_of (status_at (after_job (Ok outcome))) output []
 
--- what the program says of want of memory, with the status for it
+-- what the program prints about want of memory, with the status for it
 abbrev pub no_memory : WrittenParts
 no_memory = written_of (status_after OutOfMemory) [] (codes "sabsim: 5 OutOfMemory\n")
 
--- what the program says of words that are no text
+-- what the program prints about words that are no text
 abbrev pub no_text : WrittenParts
 no_text = written_of 2 [] (codes "sabsim: the command line is no text\n")
 

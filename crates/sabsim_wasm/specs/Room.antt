@@ -5,7 +5,7 @@ use Rattle.sab_command.specs.declared.request.Source.TheVariants.{Standard, File
 use Rattle.sabsim_wasm.specs.declared.reply.Reply.{Reply}
 use Rattle.sabsim_wasm.specs.Program.{WrittenParts, written_of}
 
--- both lie in the room, the second right behind the first, and what is behind them stays; a room that is too small for
+-- both lie in the room, the second right after the first, and what is after them stays; a room that is too small for
 -- both stays as it was
 abbrev pub PutsBoth : List ℕ → List ℕ → List ℕ → List ℕ → Type 0
 PutsBoth first second old new =

@@ -13,7 +13,7 @@ use sab_command::{Request, request_of};
 use sab_ending::Ending;
 use std::alloc::{AllocError, Global};
 
-/// What the program says of words that are no text.
+/// What the program prints about words that are no text.
 static NO_TEXT: &str = "sabsim: the command line is no text\n";
 
 /// Does what the words ask for, with what the host has read of the input.
@@ -40,7 +40,7 @@ pub(crate) fn obey(
     }
 }
 
-/// The words of a text in which each has a byte 0 behind it.
+/// The words of a text in which each has a byte 0 after it.
 fn words_of<'a>(alloc: Global, text: &'a str) -> Result<Vec<&'a str>, AllocError>
     ensures { IfOk result (λ words. map (λ word. word.now) words.items ≡ words_of text.now) }
 {

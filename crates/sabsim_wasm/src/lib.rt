@@ -21,9 +21,9 @@ use std::alloc::Global;
 /// report: 0 for plain, 1 for explained, 2 for json, 3 for svg, 4 for script; of a verdict it is 0 for plain or 2 for
 /// json. A job ignores what it has no use for. For any other number the status is 2, and nothing is written.
 ///
-/// The room has what the program writes to standard output, and right behind it what it writes to standard error. The
+/// The room has what the program writes to standard output, and right after it what it writes to standard error. The
 /// reply has the exit status and both lengths. A room that is too small for both stays as it was, and the host calls
-/// again with a larger one. Where there is no memory, the program ends with 5 OutOfMemory.
+/// again with a larger one. If there is no memory, the program ends with 5 OutOfMemory.
 #[unsafe(no_mangle)]
 #[tactic(auto, using(crate::proofs::Replies::numbers))]
 pub extern "C" fn sabsim_run(
@@ -46,10 +46,10 @@ pub extern "C" fn sabsim_run(
 /// Does what the words of a command line ask for, and puts what the program writes then into the host's room, as
 /// [`sabsim_run`] does.
 ///
-/// Each word has a byte 0 behind it, and the first is the program's name. `given` says what the host has read of the
+/// Each word has a byte 0 after it, and the first is the program's name. `given` says what the host has read of the
 /// input that the words name: 0 for nothing yet, 1 for the bytes in `input`, and any other number if it can't be read.
 /// At 0 the reply says what the host has to read, if anything: `wants` is 1 for standard input, and 2 for the file
-/// whose name is in the room. `is_terminal` says whether standard error is a terminal, where each refusal is explained.
+/// whose name is in the room. `is_terminal`: whether standard error is a terminal, on which each refusal is explained.
 ///
 /// A race ends with 9 NoThread once its script is read: it needs threads, which only the native program has.
 #[unsafe(no_mangle)]

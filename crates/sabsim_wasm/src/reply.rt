@@ -22,7 +22,7 @@ pub struct Reply {
     pub wants: u64,
 }
 
-/// What the program says on standard error where there is no memory, also none for a text.
+/// What the program prints on standard error if there is no memory, also none for a text.
 static NO_MEMORY: &str = "sabsim: 5 OutOfMemory\n";
 
 /// Puts what the program writes into the room, and returns its exit status and the lengths.
@@ -38,7 +38,7 @@ pub(crate) fn put(status: u8, output: &[u8], complaint: &str, room: &mut [u8]) -
     }
 }
 
-/// Puts bytes into the room, and others right behind them, if it has place for both.
+/// Puts bytes into the room, and others right after them, if both fit.
 fn put_both(first: &[u8], second: &[u8], room: &mut [u8])
     ensures { PutsBoth first.now second.now room.old room.new }
 {
@@ -50,7 +50,7 @@ fn put_both(first: &[u8], second: &[u8], room: &mut [u8])
     }
 }
 
-/// Puts what the program says where there is no memory.
+/// Puts what the program prints if there is no memory.
 pub(crate) fn put_no_memory(room: &mut [u8]) -> Reply
     ensures { Puts 0 no_memory room.old room.new result }
 {

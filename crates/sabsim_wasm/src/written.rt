@@ -46,7 +46,7 @@ pub(crate) fn reply_to_task(
     }
 }
 
-/// Does what is asked for, and puts what the program writes into the room. The source is named where it failed.
+/// Does what is asked for, and puts what the program writes into the room. The source is named if it failed.
 #[tactic(auto, using(crate::proofs::Replies::puts_such))]
 pub(crate) fn put_task(
     alloc: Global,

@@ -91,7 +91,7 @@ function checkRaces(simulator, { seed, script = "", report = "", races }, { racy
  */
 function whyNot({ script, noScript }, every) {
   if (noScript !== undefined) return `the run has no script: ${noScript}`;
-  return script === undefined ? `of runs that don't fail one in ${every} is checked` : undefined;
+  return script === undefined ? `one in ${every} of the runs that don't fail is checked` : undefined;
 }
 
 /**

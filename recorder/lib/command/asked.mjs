@@ -21,7 +21,7 @@ import { optionsOf as rowsOf, wordOf } from "../options/table.mjs";
 /**
  * @param {import("./options.mjs").Options} options
  * @param {string} url of the module
- * @param {boolean} preloads whether node's own words load code before the recorder
+ * @param {boolean} preloads whether node's own options load code before the recorder
  * @returns {Asked}
  */
 export function askedOf(options, url, preloads) {
@@ -43,7 +43,7 @@ function digestOf(module, url) {
 
 // What isn't an option's name with hyphens between its words.
 const NAMES = new Map([
-  ["args", "what stands behind --"], ["preloads", "whether node's own words load code before the recorder"],
+  ["args", "what follows --"], ["preloads", "whether node's own options load code before the recorder"],
 ]);
 
 /** @param {unknown} value of an option */

@@ -40,11 +40,16 @@ export const USAGE = `usage: ${usageWords("record")} MODULE [options] [-- argume
        ${usageWords("record")} --program FILE [options] [-- arguments for the program]
 
 Runs the agents of a module under seeded schedules, and keeps the first run that fails as a script for sabsim.
+An option's last parentheses hold its default.
 
 ${ROWS.map(helpOf).join("\n")}
 
-Status: 0 no run failed, 1 some did, 2 the command line or the module was refused, 3 the code and the simulator differ,
-the native program was chosen and isn't there, a file or standard output can't be written, or a job's process ended.
+Status:
+  0  no run failed
+  1  some runs failed
+  2  the command line or the module was refused
+  3  the code and the simulator differ, or with --replay the code and the script; the chosen native program isn't there;
+     a file or standard output can't be written; a program keeps something in globals; or a job's process ended
 `;
 
 /** @type {Record<string, { type: "string" | "boolean", multiple?: boolean, short?: string }>} */

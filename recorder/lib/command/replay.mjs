@@ -24,7 +24,7 @@ const DEFAULT_SEED = 1;
  */
 function needSame(name, given, kept) {
   if (given === undefined || `${given}` === `${kept}`) return;
-  throw new Refused(`--${name} is ${given}, but the script's run had ${kept}: leave it away, the script says it`);
+  throw new Refused(`--${name} is ${given}, but the script's run had ${kept}: leave it out, the script has it`);
 }
 
 /**

@@ -172,7 +172,7 @@ function scriptLines({ sabsim: { asked }, scripts: { parts, none } }) {
   const all = [...lines, ...othersLines(none.others)];
   if (parts === 0) return all;
   const [hold, their] = parts === 1 ? ["1 script holds", "its"] : [`${digits(parts)} scripts hold`, "their"];
-  const touched = `${hold} only the ordinary writes of bytes that calls touch, since all don't fit`;
+  const touched = `${hold} only the ordinary writes of bytes that calls touch, since not all fit`;
   return [`${touched}; ${their} other bytes weren't compared`, ...all];
 }
 

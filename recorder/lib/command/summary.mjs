@@ -29,7 +29,7 @@ import { Uses } from "./uses.mjs";
  * @property {"fail" | "allow"} races
  * @property {"fail" | "allow"} [unrecorded]
  * @property {string} [checkedBy] which simulator checks runs; undefined: they aren't checked
- * @property {boolean} [preloads] whether node's own words load code before the recorder
+ * @property {boolean} [preloads] whether node's own options load code before the recorder
  * @property {import("../seeds/coverage.mjs").Coverage} [coverage] which pairs of lines the runs have shown, if that is
  * looked for
  */
@@ -47,7 +47,7 @@ const UNSEEN = { watch: [], store: [CHANGES_ALONE], refuse: [CHANGES_ALONE] };
 
 /** What else a run may not have seen, if other code was loaded before the recorder. */
 const UNSEEN_BEFORE =
-  "what is done by typed arrays and Atomics that code of node's own words, as --require, has put aside was not seen";
+  "node's own options, as --require, loaded code first: accesses by typed arrays and Atomics that it kept were not seen";
 
 /** @type {("failing" | "passing")[]} */
 const BOTH = ["failing", "passing"];

@@ -16,7 +16,7 @@ export function runFrom(given, positionals) {
   const { program } = given;
   if (program !== undefined && positionals.length > 0) {
     throw new Refused(`--program ${program} runs a program, so there can't be a module of agents, ${positionals[0]}, too: `
-      + "what the program gets stands behind --");
+      + "arguments for the program follow --");
   }
   const isKept = positionals.length === 0 && given.replay?.endsWith(`.${PROGRAM_ENDING}`) === true;
   needFitting(isKept ? { program: given.replay, ...given } : given, (name) => `--${wordOf(name)}`);

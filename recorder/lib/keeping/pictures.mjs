@@ -45,7 +45,7 @@ function pageMade(facts, outcome, module, about) {
   try {
     return pageText(outcome, facts, module, about);
   } catch (problem) {
-    if (problem instanceof SyntaxError) throw new NotMade("what sabsim says of the run is no JSON");
+    if (problem instanceof SyntaxError) throw new NotMade("what sabsim prints about the run is no JSON");
     throw problem;
   }
 }
@@ -110,5 +110,5 @@ export function notesOn(keeper, { seed, script }) {
   const all = ["explained", "svg"].map((ending) => keeper.nameOf(seed, ending));
   const files = all.filter((name) => keeper.names.includes(name));
   if (script === undefined || files.length === 0 || !hasFloats(script)) return [];
-  return [`in ${files.join(" and ")} a float that was written without Atomics is a whole number, which has its bits`];
+  return [`in ${files.join(" and ")} a float that was written without Atomics is the whole number with the same bits`];
 }

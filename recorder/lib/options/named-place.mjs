@@ -24,7 +24,7 @@ export const isWithin = (value, least, most) => {
 function kindOf(name, kindName) {
   const kind = KINDS.indexOf(/** @type {string} */ (kindName));
   if (kind >= 0) return kind;
-  throw new Refused(`\`names\` says of ${name} that its kind is ${kindName}: ${meant(`${kindName}`, [...KINDS])}`);
+  throw new Refused(`\`names\` gives ${name} the kind ${kindName}: ${meant(`${kindName}`, [...KINDS])}`);
 }
 
 /**
@@ -36,7 +36,7 @@ function kindOf(name, kindName) {
 function blockOf(name, block, lengths) {
   const last = lengths.length - 1;
   if (isWithin(block, 0, last)) return block;
-  throw new NoSuchPlace(`\`names\` puts ${name} on buffer ${block}: there is no such buffer, but 0 to ${last}`);
+  throw new NoSuchPlace(`\`names\` puts ${name} on buffer ${block}: there is no such buffer, only 0 to ${last}`);
 }
 
 /**
@@ -103,7 +103,7 @@ export function placeOf(name, value, lengths, example) {
   if (typeof value === "object" && value !== null && !Array.isArray(value)) {
     return placeOfMembers(name, /** @type {Partial<Record<string, unknown>>} */ (value), lengths);
   }
-  throw new Refused(`\`names\` says of ${name} no place: give [kind, buffer, index] for an element, [kind, buffer] ` +
+  throw new Refused(`\`names\` gives ${name} no place: write [kind, buffer, index] for an element, [kind, buffer] ` +
     "for a whole array, { kind, buffer, offset, length } for a part of a buffer, or an index alone, which is that of " +
     `an Int32Array on buffer 0, as in ${example}`);
 }

@@ -36,7 +36,7 @@ function needsRightName(name) {
     throw new Refused(`\`names\` can't have "${name}": a name has 1 to ${MOST_CHARACTERS} letters, digits or _`);
   }
   if (TAKEN.test(name)) {
-    throw new Refused(`\`names\` can't have ${name}: scripts name other views so: give it another name`);
+    throw new Refused(`\`names\` can't have ${name}: scripts give such names to other views, so choose another name`);
   }
 }
 

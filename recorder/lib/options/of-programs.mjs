@@ -2,16 +2,16 @@
 
 import { Refused } from "./refused.mjs";
 
-const AGENTS_ONLY = "it says something of a module of agents, and a program makes its threads and its memory itself";
+const AGENTS_ONLY = "it is about a module of agents, and a program makes its own threads and memory";
 const NOT_YET = "it isn't there for programs yet";
 
-/** Options that say something about agents and their buffers, or that programs can't have yet; and why. */
+/** Options that are about agents and their buffers, or that programs can't have yet; and why. */
 const WITHOUT = Object.freeze({
   agents: AGENTS_ONLY, buffers: AGENTS_ONLY, noBlock: AGENTS_ONLY, unrecorded: AGENTS_ONLY, init: AGENTS_ONLY,
   check: AGENTS_ONLY, ordinary: NOT_YET, clock: NOT_YET, untilCovered: NOT_YET,
 });
 
-/** Options that say something about programs alone; and why. */
+/** Options that are about programs alone; and why. */
 const OF_PROGRAMS = Object.freeze({
   stuck: "only programs can be stuck", web: "agents aren't run as in a browser", programOutput: "what agents print is always shown",
   wasmAccesses: "the shared memory of WebAssembly is recorded in programs alone",

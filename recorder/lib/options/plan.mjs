@@ -62,7 +62,7 @@ function canBlockOf(noBlock, agents) {
   const given = noBlock === undefined ? [] : checkedNoBlock(noBlock);
   const other = given.find((agent) => agent >= agents);
   if (other !== undefined) {
-    throw new Refused(`\`noBlock\` (--no-block) names agent ${other}: there is no such agent, but 0 to ${agents - 1}`);
+    throw new Refused(`\`noBlock\` (--no-block) names agent ${other}: there is no such agent, only 0 to ${agents - 1}`);
   }
   return Array.from({ length: agents }, (_, agent) => !given.includes(agent));
 }
@@ -94,7 +94,7 @@ export function needsRightNames(names) {
   for (const name of names) {
     const near = slipOf(name, EXPORTS.filter((each) => !names.includes(each)));
     if (near === undefined) continue;
-    const others = `of what a module exports only default, ${EXPORTS.join(", ")} are looked at`;
+    const others = `the recorder uses only the exports default, ${EXPORTS.join(", ")}`;
     throw new Refused(`the module exports \`${name}\`: is \`${near}\` meant? (${others}; give it another name if not)`);
   }
 }

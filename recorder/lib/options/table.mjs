@@ -46,83 +46,82 @@ const word = (words, help) => replayed(choice(words), words[0], help);
 export const OPTIONS = Object.freeze({
   module: { kind: PATH_OR_URL, of: LIBRARY },
   program: { kind: { ...PATH_OR_URL, text: named("the name of a program's main module").text }, of: ALL, isShared: true,
-    help: ["FILE", "runs a program of several threads, in place of a module of agents: FILE is its main module, and it "
-    + "makes its threads and its shared memory itself"] },
-  agents: rule(AGENTS, undefined, ["N", "how many agents; else the module's `setup` says it"]),
+    help: ["FILE", "runs a program of several threads, in place of a module of agents. FILE is its main module, which "
+    + "makes its own threads and shared memory"] },
+  agents: rule(AGENTS, undefined, ["N", "how many agents there are (as the module's `setup` says)"]),
   buffers: rule(BUFFERS, undefined,
-    ["N,..", "the bytes of each buffer, one to four; else the module's `setup` says it"]),
+    ["N,..", "the bytes of each buffer, one to four (as the module's `setup` says)"]),
   noBlock: rule(AGENTS_THAT_CANT, undefined,
-    ["A", "agent A can't block: its Atomics.wait throws TypeError; may be given more than once; else the module's "
-    + "`setup` says it"]),
+    ["A", "agent A can't block: its Atomics.wait throws TypeError. May be given more than once (as the module's "
+    + "`setup` says)"]),
   seed: { kind: SEED, of: ["record"], ifNone: 1 },
   args: { kind: WORDS, of: LIBRARY, ifNone: Object.freeze([]) },
   seeds: { kind: SEEDS, of: OF_MANY, ifNone: Object.freeze({ first: 1, last: 100 }),
     help: ["A..B", "the seeds, or one seed (1..100)"] },
-  shard: { kind: SHARD, of: COMMAND, help: ["K/N", "of these seeds the K-th of N parts alone, as for one of N machines:"
-    + " merge.mjs joins their summaries"] },
+  shard: { kind: SHARD, of: COMMAND, help: ["K/N", "only the K-th of N parts of these seeds, as for one of N machines: "
+    + "merge.mjs joins their summaries"] },
   strategy: rule(STRATEGY, "mixed",
-    ["HOW", "who moves next: uniform (all that can are alike), switch:P (how likely it is, from 0 to 1, that another "
-    + "agent moves next), partial-order (by random priorities) or mixed (by the seed one of such) (mixed)"]),
+    ["HOW", "who moves next: uniform (all agents that can move are equally likely), switch:P (another agent moves "
+    + "next with likelihood P, from 0 to 1), partial-order (by random priorities) or mixed (the seed chooses "
+    + "partial-order or a switch:P) (mixed)"]),
   everywhere: rule(FLAG, false,
-    ["", "agents are switched before each call, also where pilot runs have shown that no other agent goes"]),
+    ["", "draws who moves next before each call, not only before those by which agents meet in pilot runs"]),
   timeouts: replayed(PART_OR_NEVER, 0.05,
-    ["P", "in how many of the draws, from 0 to 1, the early end of a timed wait is offered while something else can "
-    + "move; 0: time passes only if nothing else can move; never: not even then, so that a lost wake-up is a deadlock "
-    + "(0.05)"]),
-  ordinary: word(["watch", "store", "refuse"], ["HOW", "reads and writes without Atomics: watch (each is seen, and "
-    + "unordered accesses are looked for), store (only what changed is found) or refuse (a byte that changed fails the "
-    + "run) (watch)"]),
+    ["P", "the share of draws, from 0 to 1, that may end a timed wait early, while something else can move. 0: time "
+    + "passes only if nothing else can move. never: not even then, so a lost wake-up is a deadlock (0.05)"]),
+  ordinary: word(["watch", "store", "refuse"], ["HOW", "reads and writes without Atomics: watch (sees each, and looks "
+    + "for unordered accesses), store (finds only what changed) or refuse (fails a run at a byte that changed) (watch)"]),
   races: word(["fail", "allow"],
-    ["HOW", "unordered accesses: two agents access a byte, one of them writes it, not both by Atomics on the same "
-    + "bytes, and nothing orders the two. fail: a run that has some fails, with the ending race; allow: they are "
-    + "reported only (fail)"]),
+    ["HOW", "unordered accesses: two agents access a byte, at least one writes it, they don't both use Atomics on just "
+    + "the same bytes, and nothing orders them. fail: a run that has some fails, with the ending race. allow: they are "
+    + "only reported (fail)"]),
   bounds: word(["fail", "allow"],
-    ["HOW", "fail: a run that meets a bound, as a spin does, fails; allow: it is only reported (fail)"]),
+    ["HOW", "a run that meets a limit, as one that spins. fail: it fails. allow: it is only reported (fail)"]),
   unrecorded: word(["fail", "allow"],
     ["HOW", "shared memory that isn't recorded, as a SharedArrayBuffer that the code makes itself. fail: a run in which "
-    + "agents use some fails; allow: it is only reported (fail)"]),
+    + "agents use some fails. allow: it is only reported (fail)"]),
   stuck: { kind: choice(["fail", "allow"]), of: ALL, isShared: true, isReplayed: true,
-    help: ["HOW", "fail: a run of a program that is stuck fails; allow: it is only reported, as for a program that people "
-    + "end by Ctrl-C (fail)"] },
+    help: ["HOW", "a program's run that is stuck. fail: it fails. allow: it is only reported, as for a program that "
+    + "people end by Ctrl-C (fail)"] },
   web: { kind: FLAG, of: ALL, ifNone: false, isShared: true, isReplayed: true,
-    help: ["", "the program is one for browsers: its main module stands for a page, and each Worker runs a script or a "
+    help: ["", "the program is for browsers: its main module stands for a page, and each Worker runs a script or a "
     + "module by its URL"] },
   programOutput: { kind: choice(["all", "none"]), of: ALL,
-    help: ["HOW", "what a program prints is shown of all runs or of none (of the first seed's run and the kept one)"] },
+    help: ["HOW", "the runs whose output is shown: all or none (the first seed's run and the kept one)"] },
   wasmAccesses: { kind: choice(["ordinary", "relaxed"]), of: ALL, isShared: true, isReplayed: true,
-    help: ["HOW", "what a plain aligned access of WebAssembly to shared memory is: ordinary, or relaxed, as one of C's "
-    + "volatile: then it is taken for a load or store of Atomics, and is in no data race with these (ordinary)"] },
+    help: ["HOW", "plain aligned accesses of WebAssembly to shared memory are ordinary, or relaxed, as those of C's "
+    + "volatile. Relaxed ones are taken for loads and stores of Atomics, and have no data race with these (ordinary)"] },
   clock: word(["run", "real"],
-    ["WHICH", "the time that clocks give agents: run (the run's own, which comes from the seed) or real (run)"]),
+    ["WHICH", "the time that clocks show agents: run (the run's own, which comes from the seed) or real (run)"]),
   maxMoves: rule(whole(1, SCRIPT_LIMITS.moves), SCRIPT_LIMITS.moves,
     ["M", `how many moves a run may have (${SCRIPT_LIMITS.moves})`]),
   seconds: rule(above0(MOST_SECONDS), DEFAULT_SECONDS,
     ["S", `for how long an agent may make no call (${DEFAULT_SECONDS})`]),
   fresh: { kind: FLAG, of: OF_MANY, ifNone: false, isShared: true,
-    help: ["", "starts the agents' workers anew for each seed"] },
+    help: ["", "starts new workers for each seed"] },
   failFast: { kind: FLAG, of: OF_MANY, ifNone: false, isShared: true, help: ["", "ends at the first failing run"] },
   untilCovered: { kind: FLAG, of: COMMAND, ifNone: false, isShared: true, help: ["", "ends when 500 seeds in a row "
-    + "have shown no new pair of lines that came one after the other at a place"] },
+    + "have shown no new pair of lines that different agents ran one after the other at a place"] },
   checkEvery: { kind: whole(0, Number.MAX_SAFE_INTEGER), of: OF_MANY, ifNone: 1, isShared: true, word: "check",
     help: ["N", "the simulator checks every run that fails, and one in N of the others; 0: none at all (1)"] },
   init: { kind: FUNCTION, of: LIBRARY },
   check: { kind: FUNCTION, of: LIBRARY },
-  sabsim: { kind: PROGRAM, of: ALL, help: ["PATH", "the native program, which then checks in place of the simulator's "
-    + "module (what SABSIM of the environment names; else the module)"] },
-  jobs: { kind: whole(1, MOST_JOBS), of: OF_MANY, help: ["N", "how many groups of workers run side by side (one, and "
-    + "after a second as many more as there are idle processors)"] },
+  sabsim: { kind: PROGRAM, of: ALL, help: ["PATH", "the native program that checks runs in place of the simulator's module "
+    + "(the one that SABSIM of the environment names; else the module)"] },
+  jobs: { kind: whole(1, MOST_JOBS), of: OF_MANY, help: ["N", "how many groups of workers run side by side (one; "
+    + "after a second, as many more as there are idle processors)"] },
   format: { kind: choice(["plain", "json"]), of: COMMAND, ifNone: "plain",
     help: ["FORM", "how the summary is printed: plain, or json, which is one line (plain)"] },
   out: { kind: named("the name of a folder"), of: COMMAND,
-    help: ["DIR", "where the first failing run's script and report are kept, or those of the run of --replay; nothing "
-    + "is written without it"] },
-  noShorten: { kind: FLAG, of: COMMAND, ifNone: false, help: ["", "keeps that run as its seed makes it; else the "
-    + "shortest run that fails in the same way is kept, and the run of the seed beside it"] },
+    help: ["DIR", "the folder for the script and the report of the first failing run, or of the run of --replay. "
+    + "Without it nothing is written"] },
+  noShorten: { kind: FLAG, of: COMMAND, ifNone: false, help: ["", "keeps that run as its seed makes it. Else the "
+    + "shortest run that fails in the same way is kept, with the run of the seed beside it"] },
   shorten: { kind: FLAG, of: ["record"] },
   replay: { kind: named("the name of a script that was kept"), of: COMMAND,
-    help: ["FILE", "runs the agents once more, by the row of a script that was kept or written, in this process, so "
-    + "that a debugger can stop in them (node --inspect-brk recorder/record.mjs ..); or a program, by its kept "
-    + "seed-N.program.json; status 3 where the code no longer does the same"] },
+    help: ["FILE", "runs the agents once, by the schedule of a kept or written script, in this process, so that a "
+    + "debugger can stop in them (node --inspect-brk recorder/record.mjs ..). Or runs a program, by its kept "
+    + "seed-N.program.json. Status 3: the code no longer does the same"] },
   signal: { kind: SIGNAL, of: ["explore"] },
   trace: { kind: FLAG, of: LIBRARY, ifNone: false },
   help: { kind: FLAG, of: COMMAND, letter: "h", help: ["", "this text"] },

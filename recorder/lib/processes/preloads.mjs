@@ -3,5 +3,5 @@
 // What loads code before the program; one word may have several, as in NODE_OPTIONS.
 const LOADING = /(^|\s)(-r|--require|--import|--loader|--experimental-loader)(=|\s|$)/;
 
-/** @returns {boolean} whether node's own words load code before the program */
+/** @returns {boolean} whether node's own options load code before the program */
 export const preloads = () => [...process.execArgv, process.env.NODE_OPTIONS ?? ""].some((word) => LOADING.test(word));

@@ -22,14 +22,14 @@ import { UNSEEN, transcriptOf } from "./transcript.mjs";
  * @property {string} [noScript] why there is no script
  */
 
-const TRACE_ALONE = "which no script can have; of such a run sabsim judges the trace alone";
+const TRACE_ALONE = "which no script can have: sabsim judges only the trace of such a run";
 
 /** Why there is no script of a run whose calls alone are too many, as a program's may be. */
 const BEYOND = `a thread made more than ${SCRIPT_LIMITS.calls} calls, ${TRACE_ALONE}`;
-const BEYOND_WITH_HELPERS = `with those that stand for Atomics.waitAsync there are more than ${SCRIPT_LIMITS.calls} calls of `
-  + `an agent, ${TRACE_ALONE}`;
-const TOO_MANY = `it has more than ${SCRIPT_LIMITS.agents} threads and waits of Atomics.waitAsync that are pending at once, `
-  + TRACE_ALONE;
+const BEYOND_WITH_HELPERS = `with those that stand for Atomics.waitAsync there are more than ${SCRIPT_LIMITS.calls} calls `
+  + `of an agent, ${TRACE_ALONE}`;
+const TOO_MANY = `it has more than ${SCRIPT_LIMITS.agents} threads and waits of Atomics.waitAsync that are pending at `
+  + `once, ${TRACE_ALONE}`;
 
 /** The unsigned kinds, the largest first. */
 const UNSIGNED = ["BigUint64", "Uint32", "Uint16", "Uint8"].map((name) => {

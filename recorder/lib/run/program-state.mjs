@@ -11,19 +11,19 @@ import { inWindows, windowsOf } from "./in-windows.mjs";
 import { blockNames } from "./program-names.mjs";
 import { PAGE_BYTES, Windows } from "./windows.mjs";
 
-const CUT = "a thread was terminated while it waited, which no script can have; of such a run sabsim judges the trace "
-  + "alone";
+const CUT = "a thread was terminated while it waited, which no script can have: sabsim judges only the trace of such a "
+  + "run";
 
-const CUT_ASYNC = "a notify came where a thread that has ended had waited by Atomics.waitAsync, which no script can have; of "
-  + "such a run sabsim judges the trace alone";
+const CUT_ASYNC = "a notify came where a thread that has ended had waited by Atomics.waitAsync, which no script can have: "
+  + "sabsim judges only the trace of such a run";
 
 /** Why a run has neither a script nor a trace. */
 const MORE_MEMORY = `its threads share more than ${MOST_BLOCKS} buffers, one of more than ${MOST_BYTES} bytes, or one `
-  + `that grows, and touch more pages of ${PAGE_BYTES} bytes than a script and a trace have room for; such a run the `
-  + "recorder alone judges";
+  + `that grows, and touch more pages of ${PAGE_BYTES} bytes than a script and a trace have room for: the `
+  + "recorder alone judges such a run";
 
 const LOST = "so many ordinary writes were made to its buffers, or one had so many bytes at first, that a script "
-  + "doesn't have them; of such a run sabsim judges the trace alone";
+  + "doesn't have them: sabsim judges only the trace of such a run";
 
 /** @typedef {import("./in-windows.mjs").Written} Written */
 

@@ -24,7 +24,7 @@ import { OTHER_INPUT } from "./words.mjs";
 /** @typedef {import("./run-maker.mjs").Made} Made */
 
 const ANOTHER_WAY = "the run went another way when it was made once more to learn its lines of code";
-const BY_AGENTS = "its agents do something else then, as where a module keeps something in its own variables";
+const BY_AGENTS = "its agents do something else then, as if a module keeps something in its own variables";
 
 /** @param {number[]} gone agents that didn't come back, or whose workers died */
 function goneText(gone) {

@@ -70,11 +70,11 @@ export function keepsGlobals(outcome, made) {
   if (found === undefined) return undefined;
   const where = made?.place === undefined ? "" : `, first at ${made.place}`;
   return new KeepsGlobals(`seed ${found.seed} was run once more in fresh threads, and ${differenceText(found)}${where}: `
-    + "the program keeps something in globals: --fresh");
+    + "the program keeps something in globals: try --fresh");
 }
 
 /** @param {Remembering} found @returns {string} a line of a summary */
 export function rememberingText(found) {
   return `seed ${found.seed} was run once more at the end, and ${differenceText(found)}: `
-    + (found.real ? OTHER_INPUT : "the module keeps something in its own variables: --fresh");
+    + (found.real ? OTHER_INPUT : "the module keeps something in its own variables: try --fresh");
 }

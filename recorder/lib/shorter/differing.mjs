@@ -84,7 +84,7 @@ export function firstOtherText(kept, now) {
   if (at < 0) return undefined;
   const [was, is] = [kept.steps[at], now.steps[at]];
   if (was === undefined) return `the script ends before ${stepText(is)}`;
-  return `in the script comes ${stepText(was)}, and now ${stepText(is)}`;
+  return `the script has ${stepText(was)} next, and now comes ${stepText(is)}`;
 }
 
 /** @param {Step} step in words */

@@ -211,7 +211,7 @@ class Reader {
   /** @param {number} agent @param {Reader["at"][number]} at @param {number} place of its move in the schedule */
   #begin(agent, at, place) {
     const call = this.calls[agent][at.begun];
-    need(call !== undefined, `its move ${place} is one of no call`);
+    need(call !== undefined, `its move ${place} belongs to no call`);
     const isWhole = this.#hasMoves(agent, 2);
     need(isWhole || (call.waits && this.#hasMoves(agent, 1)), `its move ${place} doesn't make a call in a row`);
     at.begun += 1;
