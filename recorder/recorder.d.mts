@@ -171,18 +171,18 @@ export interface Outcome {
   calls: number;
   /** How many ordinary reads and writes were seen. */
   ordinary: number;
-  /** Of each agent: how many of its calls returned, and how many began. */
+  /** For each agent, how many of its calls returned, and how many began. */
   progress: { returned: number; calls: number }[];
   /**
-   * Of the end: a hash of how it ended and of all bytes; the beginnings of each buffer in hexadecimal digits; the values
-   * of all that has a name, and null if nothing has one.
+   * The state at the end. `hash`: of how it ended and of all bytes. `shown`: the beginnings of each buffer in
+   * hexadecimal digits. `named`: the values of all that has a name; null if nothing has one.
    */
   state: { hash: string; shown: string[]; named: string | null };
   /** The unordered accesses, each pair of lines of code once. Each data race of ECMA-262 is one of them. */
   races: Race[];
-  /** Of each buffer as it was left, in hexadecimal digits. */
+  /** The bytes of each buffer as it was left, in hexadecimal digits. */
   bytes?: string[];
-  /** Of each agent's calls, as a report spells them; null: a wait that goes on. */
+  /** What each agent's calls returned, as a report spells it; null: a wait that goes on. */
   answers?: (string | null)[][];
   /** What `sabsim replay` reads. */
   script?: string;
@@ -190,7 +190,7 @@ export interface Outcome {
   scriptHolds?: "all" | "touched";
   /** Why there is no script. */
   noScript?: string;
-  /** Of a program's run that shares more memory than a script can have: where the bytes of its buffers are. */
+  /** If a program's run shares more memory than a script can have: where the bytes of its buffers are. */
   windows?: MemoryWindow[];
   /** What sabsim must report. */
   report?: string;
@@ -213,27 +213,27 @@ export interface Outcome {
   /** The code of each file that the trace names; null if it can't be read, or is longer than 2^20 characters. */
   sources?: { file: string; text: string | null }[];
   /**
-   * Of a program's run that has its trace: the timers, immediates and other tasks that event loops have begun, besides
+   * For a program's run that has its trace: the timers, immediates and other tasks that event loops have begun, besides
    * messages. `event` says how many events of the trace come before.
    */
   tasks?: { event: number; agent: number; text: string; source: string | null }[];
-  /** Of a program's run: each thread's file and where it was started; empty for the first one. */
+  /** For a program's run: each thread's file and where it was started; empty for the first one. */
   threads?: string[];
   /** Which agent moved with each draw, in order (plus 16: by a real answer); of the shortest run, and of a program. */
   row?: number[];
-  /** Of a failing run in which a timed wait has ended early: what time must pass for that, and before what. */
+  /** For a failing run in which a timed wait has ended early: what time must pass for that, and before what. */
   onlyIf?: string;
   /**
-   * Of a run that finished and has timed waits: those that ended only because their time was up. Nothing else could move,
-   * and their word had changed, or no other agent could ever go on. If no run serves its place, it is a sleep.
+   * For a run that finished and has timed waits: those that ended only because their time was up. Nothing else could
+   * move, and their word had changed, or no other agent could ever go on. If no run serves its place, it is a sleep.
    */
   onlyByTime?: OnlyByTime[];
-  /** Of a run that has timed waits: the places at which agents wait, and that other agents have notified or written. */
+  /** If a run has timed waits: the places at which agents wait, and that other agents have notified or written. */
   served?: { block: number; byte: number }[];
   /** Memory and threads that agents used and that aren't recorded; sockets, pipes and child processes of a program. */
   unrecorded?: string[];
   real?: string[];
-  /** Of the last outcome of `explore`: how the run of the first seed differed when it was made once more, if it did. */
+  /** In the last outcome of `explore`: how the first seed's run differed when it was made once more, if it did. */
   remembers?: { seed: number; differs: string; was: string; is: string; threw: boolean; real: boolean };
   /** Whether sabsim has replayed the run and, if it was watched, looked for unordered accesses, and says the same. */
   checked: boolean;

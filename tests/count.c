@@ -5,8 +5,8 @@
  * COUNT_REPORT=FILE at the end this file gets one line, "N N N.. apart A": how often the program's first thread
  *                   yielded, then each other one, in the order in which they were started; and how many of these ended
  *                   before the next one was started, where that was asked for
- * COUNT_APART=N     who starts a thread waits until that thread has ended: so all that it sends is there before
- *                   anybody looks. If it hasn't ended after N seconds, it waits for others, and no start waits any more
+ * COUNT_APART=N a thread's starter waits until that thread has ended: so all that it sends is there before anybody
+ *                   looks. If it hasn't ended after N seconds, it waits for others, and no start waits any more
  * COUNT_LATE=1      a thread begins only when the first thread waits for one to end
  * COUNT_TURNS=N     the first thread and the one other thread take turns: each time the other one yields, it waits
  *                   until the first one has yielded N times, and this waits then until the other one yields again or

@@ -1,5 +1,5 @@
-// Three agents do a piece of work each and meet at the barrier, round after round. Behind the barrier all work of the
-// round is done, and nobody can be further than the next round.
+// Three agents do a piece of work each and meet at the barrier, round after round. After the barrier all work of the
+// round is done, and no agent can be further than the next round.
 
 import { Barrier } from "./barrier.mjs";
 

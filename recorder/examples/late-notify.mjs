@@ -12,7 +12,7 @@ export class Calls {
   }
 
   /**
-   * Has a job done by the other thread.
+   * Lets the other thread do a job.
    * @param {number} job the next one, counted from 1
    * @returns {number} its answer
    */

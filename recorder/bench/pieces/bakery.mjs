@@ -16,7 +16,7 @@ function draw(words, self, agents) {
   return greatest + 1;
 }
 
-/** Of two with the same number the one with the lesser place goes first. */
+/** Of two agents with the same number, the one with the lesser place goes first. */
 const goesFirst = (number, other, mine, self) => number !== 0 && (number < mine || (number === mine && other < self));
 
 function lock(words, self, agents) {

@@ -108,7 +108,7 @@ function playing() {
 
 /**
  * Ends the run, and says where.
- * @param {string} what was done, as it is said of an agent
+ * @param {string} what was done, as a message says it about an agent
  * @param {string} why
  */
 const refuse = (what, why) =>

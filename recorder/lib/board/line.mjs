@@ -109,7 +109,7 @@ export class Line {
   }
 
   /**
-   * Takes the oldest waiter of a place off the line. Of a wait in which nobody sleeps, the event loop goes on.
+   * Takes the oldest waiter of a place off the line. After a wait in which no agent sleeps, the event loop goes on.
    * @param {number} block
    * @param {number} byte
    * @returns {boolean} whether there was one

@@ -277,7 +277,10 @@ export class Row {
     return other === NOBODY || isLook(other) ? other : this.#stray("goes on", other);
   }
 
-  /** @param {number} drawn what the row has as the next draw, and can't be now @returns {number} who looks, or `STRAYS` */
+  /**
+   * @param {number} drawn what the row has as the next draw, and can't be now
+   * @returns {number} the agent that looks, or `STRAYS`
+   */
   #missing(drawn) {
     const agent = moverOf(drawn);
     const looks = this.answers.first(agent);

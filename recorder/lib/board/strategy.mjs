@@ -53,7 +53,10 @@ const EAGER_ANSWERS = 0.5;
  */
 const MOST_HASTY = 20;
 
-/** Of eight seeds two have neither, one each has one of them, and four have both, whatever their strategies. */
+/**
+ * Of eight seeds, two have neither, one has only the first, one only the second, and four have both, whatever their
+ * strategies.
+ */
 const CHANGES = Object.freeze([0, 0, HASTY, SLOW, HASTY | SLOW, HASTY | SLOW, HASTY | SLOW, HASTY | SLOW]);
 
 /** @param {number} seed @returns {number} what is changed, unless a single strategy or no early time is asked for */

@@ -61,7 +61,7 @@
 /**
  * @typedef {object} CheckedBy
  * @property {boolean} asked whether runs were to be checked by it
- * @property {string[]} versions of the module and of the programs that were asked, as `module 87759d9a6ee9`
+ * @property {string[]} versions of the module and of the programs that were asked, such as `module 87759d9a6ee9`
  * @property {number} checked about how many runs it says the same
  * @property {boolean} judges whether it has judged too which of these have unordered accesses
  */

@@ -137,6 +137,6 @@ export function defaultsOf(taker) {
   return Object.fromEntries(given.map(([name, { ifNone }]) => [name, ifNone]));
 }
 
-/** @param {string} name of an option, as `maxMoves` @returns {string} as the command line has it, `max-moves` */
+/** @param {string} name of an option, such as `maxMoves` @returns {string} as the command line has it, `max-moves` */
 export const wordOf = (name) =>
   (OPTIONS[name]?.word ?? name).replaceAll(/[A-Z]/g, (letter) => `-${letter.toLowerCase()}`);

@@ -116,8 +116,8 @@ export class Thread {
   }
 
   /**
-   * Ends the worker. Nothing more is reported of it. A worker that native code holds is left alone after a while, and
-   * ends later.
+   * Ends the worker. Nothing more is reported about it. A worker that native code holds is left alone after a while,
+   * and ends later.
    * @param {number} [milliseconds] how long to wait for its end at most
    * @returns {Promise<boolean>} whether it has ended
    */

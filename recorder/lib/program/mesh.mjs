@@ -1,5 +1,5 @@
 // Hidden ports between each two threads of a program. What is posted there waits until the other thread looks: no event
-// loop takes it. By them a thread is started, and buffers become known.
+// loop takes it. Threads are started by them, and learn about buffers.
 
 import threads from "node:worker_threads";
 import { WORD } from "../memory/layout.mjs";

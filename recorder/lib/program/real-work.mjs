@@ -99,7 +99,8 @@ export class RealWork {
   close() {
     if (this.#used.length === 0) return;
     activeHandles().forEach((handle) => {
-      // Of all that node lists here, only sockets can be destroyed, and only servers and sockets for datagrams have these.
+      // Of all that node lists here, only sockets can be destroyed, and only servers and sockets for datagrams have
+      // these methods.
       if (typeof handle.destroy === "function") handle.destroy();
       else if (typeof handle.address === "function") handle.close();
     });

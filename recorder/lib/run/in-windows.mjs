@@ -107,7 +107,7 @@ class Placing {
       return { ...placed, from: first, to: first + SIZES[kind] };
     }
     const place = this.windows.placeOf(block, from);
-    // Of a window it is the part that is there.
+    // A window has only a part of what its buffer had in it.
     const end = kind === HELD ? Math.min(to, this.windows.at(block, from)?.to ?? to) : to;
     return {
       block: place.block, from: place.byte, to: place.byte + end - from,

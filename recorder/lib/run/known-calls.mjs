@@ -20,7 +20,7 @@ const MOST = 8_192;
 /** @type {{ fingerprint: Int32Array, call: KnownCall }[]} */
 const NONE_ALIKE = [];
 
-/** Of all calls whose names and lengths of blocks are the same. */
+/** For all calls with the same names and lengths of blocks. */
 export class KnownCalls {
   /** @type {Map<number, { fingerprint: Int32Array, call: KnownCall }[]>} by a number that equal calls share */
   #known = new Map();

@@ -33,7 +33,7 @@ export class Meetings {
     this.own = [];
     /** @type {Set<number>} the pairs that were seen */
     this.pairs = new Set();
-    /** Of how many accesses of the run that was added last the position isn't known. */
+    /** For how many accesses of the run that was added last the position isn't known. */
     this.unplaced = 0;
   }
 

@@ -1,4 +1,4 @@
-// What is asked of one run, and what comes of it: types alone.
+// What is asked of one run, and its outcome: only types.
 
 /** @typedef {"finished" | "deadlock" | "stuck" | "failed" | "check" | "race" | "bound"} Ending */
 
@@ -97,7 +97,7 @@
  * @property {boolean} isInScript whether the script has all of them, and no others
  */
 
-/** @typedef {{ outcome: Outcome, judgement?: Judgement, aside: Aside }} One all that is reported of one run */
+/** @typedef {{ outcome: Outcome, judgement?: Judgement, aside: Aside }} One all that is reported about one run */
 
 /** @typedef {Omit<Judgement, "events"> & { events?: Int32Array }} SentJudgement without the events if they are copied */
 

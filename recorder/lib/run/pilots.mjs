@@ -22,7 +22,7 @@ export const PILOT_SECONDS = 2;
 const MANY_EVENTS = 50_000;
 const MANY_ACCESSES = 200_000;
 
-/** Of a program's calls so many have to be private in each pilot, or nothing is gained by the next one. */
+/** So many of a program's calls have to be private in each pilot, or nothing is gained by the next one. */
 const WORTH = 0.25;
 
 /** All agents, as bits. */

@@ -65,7 +65,7 @@ export class ProgramState {
     this.places.begin();
   }
 
-  /** Nothing is known of its memory. */
+  /** Nothing is known about its memory. */
   forget() {
     this.places.forget();
   }

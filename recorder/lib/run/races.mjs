@@ -212,7 +212,7 @@ export class Judge {
         heads[byte] = NONE;
         written[byte] = NONE;
       }
-      // Of accesses of one agent that are alike the latest is enough: what happens before the others, does before it.
+      // The latest of one agent's like accesses is enough: the others happen before all that it happens before.
       let at = heads[byte] === NONE ? NONE : this.#meet(event, agent, sort, source, byte, onRace);
       if (at === ENOUGH) return false;
       if (at === NONE) {
@@ -363,8 +363,8 @@ class Pairs {
 const placeAt = (place) => ({ block: Math.floor(place / SCRIPT_LIMITS.bytes), byte: place % SCRIPT_LIMITS.bytes });
 
 /**
- * The races of a run: of each two accesses that are alike in agent, line of code and what they do, one. Of an access
- * whose line isn't known those of the same view are alike.
+ * The races of a run: only one of those whose accesses are alike in agent, line of code and what they do. Accesses
+ * whose line isn't known are alike if they are by the same view.
  * @param {Log} log
  * @param {number} agents how many
  * @param {number} [blocks] how many numbers of blocks there are

@@ -67,7 +67,9 @@ import { unseenText } from "./unseen.mjs";
 const GRACE_MILLISECONDS = 200;
 const ENDLESS = "didn't come to its end";
 
-/** What is said of code that isn't synchronous has a place in it, if one is known. What was thrown has its own stack. */
+/**
+ * A message about code that isn't synchronous has a place in it, if one is known. What was thrown has its own stack.
+ */
 const NOT_SYNCHRONOUS = /^(?:agent \d+ )?(?:goes on later|returned a promise), /;
 
 const NOTHING_TRIED = "no agent has made a call of Atomics, or another access that is seen, on the recorded buffers: nothing was tried";

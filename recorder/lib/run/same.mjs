@@ -7,7 +7,7 @@ import { isLook, moverOf } from "../board/row.mjs";
 /** @typedef {Summary & Pick<Outcome, "real" | "row">} RunSummary with its row if it got real answers */
 
 /**
- * Whether two runs of a seed did the same, as far as every run reports. Of runs that got real answers the rows are
+ * Whether two runs of a seed did the same, as far as every run reports. If they got real answers, their rows are
  * compared too.
  * @param {RunSummary} one
  * @param {RunSummary} other

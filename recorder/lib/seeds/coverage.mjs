@@ -37,7 +37,7 @@ export class Coverage {
     this.last = undefined;
     /** How many seeds in a row have shown none since. */
     this.row = 0;
-    /** Of how many accesses the line isn't known. */
+    /** For how many accesses the line isn't known. */
     this.unplaced = 0;
     /** @type {{ covered: boolean } | undefined} of one that was joined, whether each part has enough */
     this.each = undefined;

@@ -164,8 +164,8 @@ class Reader {
     this.canBlock = script.agents.slice(0, own).map((/** @type {any} */ { block }) => block);
     need(this.canBlock.every((block) => typeof block === "boolean"), "an agent doesn't say whether it can block");
     /**
-     * Of each agent: how many calls have begun, how many of these are its own, the last one if it waits, and its
-     * last draw.
+     * For each agent: how many calls have begun, how many of these are its own, the last one if it waits, and its last
+     * draw.
      * @type {{ begun: number, own: number, waits: Step | undefined, last: Draw | undefined }[]}
      */
     this.at = this.calls.map(() => ({ begun: 0, own: 0, waits: undefined, last: undefined }));

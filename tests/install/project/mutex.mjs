@@ -3,7 +3,7 @@
 const LOCKED = 0;
 const BELL = 1;
 
-/** Its waiters sleep until somebody rings, and who rings before they sleep wakes nobody. */
+/** Its waiters sleep until a ring, and a ring before they sleep wakes nobody. */
 export class BellMutex {
   /** @param {Int32Array} words */
   constructor(words) {
@@ -20,7 +20,7 @@ export class BellMutex {
   }
 }
 
-/** Each ring changes the bell, so who has seen it before doesn't sleep on it afterwards. */
+/** Each ring changes the bell, so a waiter that has seen it before doesn't sleep on it. */
 export class CountingMutex {
   /** @param {Int32Array} words */
   constructor(words) {

@@ -87,7 +87,7 @@ function replaceAccessors() {
 /**
  * The getter of what a view has.
  * @param {(real: object) => unknown} slot
- * @param {"buffer" | "offset" | "length"} member its name in what is known of a watched one
+ * @param {"buffer" | "offset" | "length"} member its name in what is known about a watched one
  */
 const slotGetter = (slot, member) => () => ({
   get asked() {

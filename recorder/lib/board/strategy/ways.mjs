@@ -3,7 +3,7 @@
 
 import { STRATEGIES } from "./table.mjs";
 
-/** In place of a part of the draws: timed waits don't end by themselves. */
+/** In place of a share of the draws: timed waits don't end by themselves. */
 export const NEVER = "never";
 
 /**
@@ -38,7 +38,7 @@ const MIXED = Object.freeze([
 /** Those of pilots: whatever the runs are to do, pilots look at all that the agents may do. */
 export const PILOT_WAYS = Object.freeze(MIXED.map(({ name, likelihood }) => way(name, likelihood, true)));
 
-/** Of a program's mixed runs one in so many draws before each call. */
+/** One in so many of a program's mixed runs draws before each call. */
 const OF_PROGRAM = 8;
 
 /** What names a strategy: P is a likelihood. */

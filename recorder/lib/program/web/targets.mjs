@@ -23,7 +23,7 @@ const EngineEvent = /** @type {any} */ (Event);
  * @property {() => number} now the run's time
  */
 
-/** An error that nobody has caught, as an event. */
+/** An error that no code has caught, as an event. */
 export class ErrorEvent extends EngineEvent {
   /** @param {string} type @param {any} [init] */
   constructor(type, init = {}) {
@@ -208,7 +208,7 @@ export function putMethods(owner, targets) {
 /**
  * Gives objects a property to which a handler is assigned.
  * @param {object} owner
- * @param {string} type of the events, as `message`
+ * @param {string} type of the events, such as `message`
  * @param {Targets} targets
  * @param {(target: any) => void} [assigned] called when one was
  */
