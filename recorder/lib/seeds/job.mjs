@@ -1,6 +1,6 @@
 // One job: a group of workers, and the checks of its runs. The checks are made in this thread, while the group makes
-// the next runs in its own. In the library the job is in this process: so it can call the caller's functions with the
-// buffers, and no process has to be started. It is used as a `RemoteJob` is.
+// the next runs in its own. In the library a single job is in this process: so it can call the caller's functions with
+// the buffers, and no process has to be started. It is used as a `RemoteJob` is.
 
 import { checkedBy } from "../check/check.mjs";
 import { Repeats } from "../check/repeats.mjs";

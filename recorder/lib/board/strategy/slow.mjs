@@ -3,7 +3,7 @@
 
 import { NOBODY, WORD } from "../../memory/layout.mjs";
 
-/** In one of so many draws in which no agent is slow, one becomes slow. */
+/** In what share of the draws in which no agent is slow one becomes slow. */
 const BECOMES = 0.2;
 
 /** For how many draws it is slow. */

@@ -1,4 +1,4 @@
-// What node's own code needs of its globals and ports, and what a program for browsers must not find.
+// What node's own code needs of its globals and ports, but a program for browsers must not find.
 
 import { isCalledByAgents } from "../../agent/frames.mjs";
 import { defineProperty } from "../../primordials.mjs";
