@@ -4,8 +4,8 @@
 //
 // usage: node recorder/bench/shortening.mjs [MODULE ..]
 //
-// Without a module of agents it takes the wrong programs of recorder/tests/known, recorder/examples and, where it is
-// there, recorder/bench/programs. RUNS in the environment says of how many failing runs; 5 if it isn't given.
+// Without a module of agents it takes the wrong programs of recorder/tests/known, recorder/examples and, if it is there,
+// recorder/bench/programs. RUNS in the environment is the number of failing runs; 5 if it isn't given.
 
 import { existsSync, readdirSync } from "node:fs";
 import { pathToFileURL } from "node:url";

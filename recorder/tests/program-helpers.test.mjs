@@ -255,7 +255,7 @@ describe("how many helpers there can be", () => {
     assert.deepEqual(calls.map(({ length }) => length), [1_000, 999]);
     for (const main of [rounds(334, ", 1"), rounds(250, "", notified(2))]) {
       const [outcome] = await runsOf(context, { "main.mjs": `${SHARED}${main}` });
-      assert.match(outcome.noScript ?? "", /^with those that stand for Atomics\.waitAsync there are more than 1000 calls of an agent, which no script/);
+      assert.match(outcome.noScript ?? "", /^with the calls for Atomics\.waitAsync an agent has more than 1000 calls, which no script/);
     }
   });
 });

@@ -27,7 +27,7 @@ const withProgram = { skip: SABSIM === undefined ? "the program wasn't given" : 
 const hasCompiler = spawnSync("tsc", ["--version"]).status === 0;
 const withCompiler = { skip: hasCompiler ? false : "there is no tsc on this machine" };
 
-/** What a summary says of runs that the module has checked. */
+/** What a summary says about runs that the module has checked. */
 const CHECKED =
   /^every run was replayed and judged by sabsim \(module\), except exact repeats: it agrees with the recorder$/m;
 

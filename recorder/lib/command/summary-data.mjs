@@ -26,7 +26,7 @@
 /** @template T @typedef {Listed<T & { early: number }>} FailingListed with how many runs need an early end */
 
 /**
- * @typedef {object} SummaryData what a summary says of many runs: an object of JSON, whose members docs/FORMATS.md
+ * @typedef {object} SummaryData what a summary says about many runs: an object of JSON, whose members docs/FORMATS.md
  * explains
  * @property {Stop | null} stopped
  * @property {import("../seeds/ranges.mjs").Range[]} missing seeds that were asked for, and of which nothing is known

@@ -11,7 +11,7 @@ import { comesBefore } from "../run/order.mjs";
  * @property {number} runs how many they are
  * @property {number} early how many of them fail only after the early end of a timed wait
  * @property {number} first the least seed of the others, or of all if there are no others
- * @property {T} about what else the summary says of the first of them
+ * @property {T} about what else the summary says about the first of them
  */
 
 /** @template T @typedef {Omit<Entry<T>, "early"> & { early?: number }} Joined of other tallies; `early` is 0 if it isn't given */
@@ -41,7 +41,7 @@ export class Tally {
   /**
    * @param {string} key
    * @param {number} seed of the run
-   * @param {T} [about] what else the summary says of the run; that of the first one is kept
+   * @param {T} [about] what else the summary says about the run; that of the first one is kept
    * @param {boolean} [isEarly] whether the run fails only after the early end of a timed wait
    */
   add(key, seed, about, isEarly = false) {

@@ -1,4 +1,4 @@
-// What a test says of a run that failed: the seed and how it ended, how it came to that, and where its files lie.
+// What a test says about a run that failed: the seed and how it ended, how it came to that, and where its files lie.
 
 import { endingText } from "../../page/endings.mjs";
 import { digits } from "../run/words.mjs";

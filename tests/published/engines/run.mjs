@@ -12,7 +12,7 @@ const FEW_SEEDS = 2;
  * @param {Family} family
  * @param {string} test
  * @param {number} seeds
- * @returns {Promise<string[]>} what the recorder says of each run; nothing of one that passes
+ * @returns {Promise<string[]>} what the recorder says about each run; nothing of one that passes
  */
 async function saidOf({ programOf, options, fresh = [] }, test, seeds) {
   const said = [];

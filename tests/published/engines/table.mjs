@@ -5,7 +5,7 @@ import { pageOf } from "./wpt.mjs";
 
 /**
  * @typedef {object} Known a test that doesn't pass, and its reason
- * @property {RegExp} says what the recorder says of each run that fails
+ * @property {RegExp} says what the recorder says about each run that fails
  * @property {string} why
  *
  * @typedef {object} Family

@@ -7,7 +7,7 @@
  * @property {string} file
  * @property {string} from what stands there once
  * @property {string} to
- * @property {RegExp} says what the recorder says of it
+ * @property {RegExp} says what the recorder says about it
  */
 
 /** Nobody is woken. */

@@ -16,7 +16,7 @@ import { ErrorEvent, PromiseRejectionEvent } from "./targets.mjs";
  * @property {string} filename
  * @property {number} lineno
  * @property {number} colno
- * @property {string} text what a failing run says of it
+ * @property {string} text what a failing run says about it
  * @property {boolean} isListenedTo whether anybody has listened by now
  * @property {boolean} [isOfLoading] whether the thread's script or module couldn't be loaded
  */
