@@ -57,11 +57,11 @@ export interface RunOptions {
   args?: string[];
   /** Who moves next; else "mixed". */
   strategy?: "mixed" | "uniform" | "partial-order" | `switch:${number}`;
-  /** Whether agents are switched before each call, also where pilots have shown that no agents can meet. */
+  /** Whether who moves next is drawn before each call, not only before those by which agents meet in pilot runs. */
   everywhere?: boolean;
   /**
-   * From 0 to 1: in how many of the draws the early end of a timed wait is offered while something else can move. 0:
-   * time passes only if nothing else can move. "never": no timed wait ends by itself. Else 0.05.
+   * From 0 to 1: the share of draws that may end a timed wait early, while something else can move. 0: time passes only
+   * if nothing else can move. "never": no timed wait ends by itself. Else 0.05.
    */
   timeouts?: number | "never";
   /** How many moves the run may have, 1 to 100,000; else 100,000. */
@@ -70,10 +70,11 @@ export interface RunOptions {
   seconds?: number;
   /**
    * Whether a run with unordered accesses fails; else "fail". Two accesses of different agents are unordered if they
-   * touch the same byte, one of them writes, they aren't both by Atomics on the same bytes, and nothing orders them.
+   * touch the same byte, at least one writes, they aren't both by Atomics on just the same bytes, and nothing orders
+   * them.
    */
   races?: "fail" | "allow";
-  /** Whether a run that meets a bound fails; else "fail". */
+  /** Whether a run that meets a limit fails; else "fail". */
   bounds?: "fail" | "allow";
   /** The path of the native program, which checks runs in place of the module. False: runs aren't checked. */
   sabsim?: string | boolean;
@@ -94,29 +95,29 @@ export interface OfModule {
   noBlock?: number[];
   /** What is done with ordinary reads and writes; else "watch". */
   ordinary?: "watch" | "store" | "refuse";
-  /** Whether a run fails in which agents use shared memory that isn't recorded, as they make it; else "fail". */
+  /** Whether a run fails if agents use shared memory that isn't recorded, as their own; else "fail". */
   unrecorded?: "fail" | "allow";
-  /** The time that clocks give agents: the run's own or the machine's; else "run". */
+  /** The time that clocks show agents: the run's own or the machine's; else "run". */
   clock?: "run" | "real";
   /** Fills the buffers before the run, in place of the module's `init`. */
   init?: WithBuffers;
   /**
-   * Is called after a run that finished, in place of the module's `check`. What it throws fails the run, and so does
+   * Is called after a run that finished, in place of the module's `check`: what it throws fails the run, as does
    * `false` or an error that it returns.
    */
   check?: WithBuffers;
 }
 
-/** What the runs of a whole program have, which makes its threads and its shared memory itself. */
+/** What the runs of a whole program have, which makes its own threads and shared memory. */
 export interface OfProgram {
   /** The program's main module: a URL, or a path, from the folder of the file that calls `record`. */
   program: string | ModuleUrl;
   module?: undefined;
   /** Whether a run that is stuck fails; else "fail". It is stuck if nothing can move and something keeps it alive. */
   stuck?: "fail" | "allow";
-  /** Whether the program is one for browsers: its main module stands for a page; else it is one of node. */
+  /** Whether the program is for browsers: its main module stands for a page; else it is for node. */
   web?: boolean;
-  /** For which runs it is shown, on standard error, what the program prints; else for the first one. */
+  /** The runs whose output is shown on standard error; else the first one. */
   programOutput?: "all" | "none";
   /** What plain aligned accesses of WebAssembly to shared memory are: C's `volatile` is relaxed; else "ordinary". */
   wasmAccesses?: "ordinary" | "relaxed";
@@ -139,9 +140,9 @@ export interface ManyRuns {
    * With several, `init` and `check` can't be given: they are functions of this process.
    */
   jobs?: number;
-  /** Of the runs that don't fail, one in so many is checked; 0: none is, nor those that fail; else 1, so all. */
+  /** Every run that fails is checked, and one in so many of the others; 0: no run is; else 1, so all. */
   checkEvery?: number;
-  /** Whether the agents' workers are started anew for each seed; else what the module keeps in variables stays. */
+  /** Whether each seed gets new workers; else what the module keeps in variables stays. */
   fresh?: boolean;
   /** Whether the first failing run is the last, unless it fails only after the early end of a timed wait. */
   failFast?: boolean;

@@ -1,5 +1,5 @@
-// Traces of which one byte is changed. A reader that is written from docs/FORMATS.md alone says of each which line is
-// refused, and for what; and where none is, the slow judge says whether it races. Sabsim must say the same.
+// Traces of which one byte is changed. A reader that is written from docs/FORMATS.md alone says which line of each is
+// refused, and for what. If none is, the slow judge says whether it races. Sabsim must say the same.
 
 import assert from "node:assert/strict";
 import { readFileSync } from "node:fs";

@@ -52,7 +52,7 @@ const FAILS = { "late-notify": "failed", "mutex-naive": "deadlock", "node-cwd": 
 /** Why an example isn't recorded here, if so: one is of node's own code. */
 const WHY_NOT = { "node-cwd": process.version.startsWith("v20.") ? false : "README says what node 20 does" };
 
-/** What README says of an example's runs, by their outcomes. */
+/** What README says about an example's runs, by their outcomes. */
 const FOUND = {
   "late-notify": (outcomes) => {
     const failing = outcomes.filter(({ ending }) => ending === "failed");
@@ -93,7 +93,7 @@ const FOUND = {
 
 const README = readFileSync(join(FOLDER, "README.md"), "utf8");
 
-/** What README's table says of an example's runs: its last column. */
+/** What README's table says about an example's runs: its last column. */
 function saidOf(name) {
   const row = README.split("\n").find((line) => line.startsWith(`| [${name}](`));
   return row.slice(0, -" |".length).split(" | ").at(-1);

@@ -28,9 +28,9 @@ const MODULE = `
     Atomics.add(words, 0, 1);
   }`;
 
-/** What a summary's line says of each way. */
+/** What a summary's line says about each way. */
 const SAID = {
-  ending: "ended otherwise (finished, then threw)", bytes: "left other bytes", acts: "did something else",
+  ending: "ended in another way (finished, then threw)", bytes: "left other bytes", acts: "did something else",
 };
 
 const textOf = (way, seed = 1) =>
@@ -135,7 +135,7 @@ test("the two endings are in words for people", () => {
   ];
   for (const [first, again, said] of pairs) {
     const found = differenceBetween(first, again);
-    assert.equal(rememberingText(found).includes(`, and ended otherwise (${said}): `), true, rememberingText(found));
+    assert.equal(rememberingText(found).includes(`, and ended in another way (${said}): `), true, rememberingText(found));
     assert.deepEqual([found.was, found.is], [first.ending, again.ending]);
   }
 });

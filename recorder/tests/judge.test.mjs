@@ -27,7 +27,7 @@ const namesIn = (folder, ending) =>
 /** What `sabsim judge --trace` says. @param {string} trace @param {string[]} [words] */
 const judgedBySabsim = (trace, words = []) => simulated(["judge", "--trace", ...words], trace);
 
-/** Sabsim says of a trace what it must, in words or as JSON. */
+/** Sabsim says about a trace what it must, in words or as JSON. */
 function demandOfSabsim(trace, words, expected) {
   assert.deepEqual(judgedBySabsim(trace, words), { errors: "", ...expected });
 }

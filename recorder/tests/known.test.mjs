@@ -1,6 +1,6 @@
-// Programs with known answers: what each of them comes to in 500 seeds is what its module says in `known`, which was
+// Programs with known answers: how the runs of 500 seeds of each end is what its module says in `known`, which was
 // reasoned out by the standard. `endings` are those that occur, `may` those that need not, and `races` the pairs of
-// lines of code that race: for each side what its line is told by. Nothing else is found, and nothing is missed.
+// lines of code that race: for each side a text that its line has. Nothing else is found, and nothing is missed.
 
 import assert from "node:assert/strict";
 import { readFileSync, readdirSync } from "node:fs";
@@ -52,7 +52,7 @@ const shown = (counts) => [...counts].map(([value, { count, first }]) => `${coun
  * @param {string} place file and line
  */
 function lineAt(place) {
-  const [, file, line] = /^(.*\.mjs):(\d+)$/.exec(place) ?? assert.fail(`no line of code is told: ${place}`);
+  const [, file, line] = /^(.*\.mjs):(\d+)$/.exec(place) ?? assert.fail(`no line of code is reported: ${place}`);
   return readFileSync(new URL(file, FOLDER), "utf8").split("\n")[line - 1].trim();
 }
 
@@ -70,7 +70,7 @@ function demandEndings({ endings, may = [] }, made) {
   assert.deepEqual(needed.sort(), [...endings].sort(), shown(found).join("; "));
 }
 
-/** The pairs of lines that race are the known ones, and each of these is told of by one pair of lines. */
+/** The pairs of lines that race are the known ones, and each of these is reported by one pair of lines. */
 function demandRaces({ races = [] }, made) {
   const withoutColumn = (line) => line.replace(/:\d+$/, "");
   const pairs = made.flatMap((run) =>
@@ -78,13 +78,13 @@ function demandRaces({ races = [] }, made) {
   const found = counted(pairs);
   for (const known of races) {
     const matching = [...found.keys()].filter((pair) => areOf(known, pair.split(" and ")));
-    assert.equal(matching.length, 1, `${known.join(" and ")} is told of ${matching.length} times: ${shown(found)}`);
+    assert.equal(matching.length, 1, `${known.join(" and ")} is reported ${matching.length} times: ${shown(found)}`);
     found.delete(matching[0]);
   }
   assert.deepEqual(shown(found), [], "races that aren't known");
 }
 
-/** Every run that was told whole has a script with all of its ordinary writes, and the simulator has checked it. */
+/** Every run that was handed on whole has a script with all of its ordinary writes, and the simulator has checked it. */
 function demandChecks(made) {
   const whole = made.filter(({ isWhole }) => isWhole);
   assert.deepEqual(whole.filter(({ scriptHolds }) => scriptHolds !== "all").map(({ noScript }) => noScript), []);

@@ -35,9 +35,9 @@ Atomics.add(workerData, 0, 1);`,
 
 const KEEPS = "the program keeps something in globals: try --fresh";
 
-/** What the message says of each way. The first act that differs is in the line where the call begins. */
+/** What the message says about each way. The first act that differs is in the line where the call begins. */
 const SAID = {
-  ending: "ended otherwise (threw, then finished)", bytes: "left other bytes",
+  ending: "ended in another way (threw, then finished)", bytes: "left other bytes",
   acts: "did something else, first at main.mjs:8:9",
 };
 

@@ -224,7 +224,7 @@ describe("a notify in a script", () => {
     const [[there], [elsewhere]] = [
       await runsOf(context, files("Atomics.notify(words, 0);")), await runsOf(context, files("Atomics.notify(words, 1);")),
     ];
-    assert.match(there.noScript ?? "", /^a notify came where a thread that has ended had waited by Atomics\.waitAsync, which no script can have;/);
+    assert.match(there.noScript ?? "", /^a notify came where a thread that has ended had waited by Atomics\.waitAsync, which no script can have:/);
     assert.deepEqual([elsewhere.checked, there.answers], [true, undefined]);
   });
 });
@@ -239,7 +239,7 @@ describe("how many helpers there can be", () => {
     assert.equal(calls.length, 16);
     const [outcome] = await runsOf(context, { "main.mjs": `${SHARED}${waits(16)}` });
     assert.deepEqual([outcome.ending, outcome.checked, outcome.script], ["finished", false, undefined]);
-    assert.match(outcome.noScript ?? "", /^it has more than 16 threads and waits of Atomics\.waitAsync that are pending at once, which no script can have;/);
+    assert.match(outcome.noScript ?? "", /^it has more than 16 threads and waits of Atomics\.waitAsync that are pending at once, which no script can have:/);
   });
 
   it("with at most 1,000 calls each, as the threads with what they hand over", async (context) => {
@@ -255,7 +255,7 @@ describe("how many helpers there can be", () => {
     assert.deepEqual(calls.map(({ length }) => length), [1_000, 999]);
     for (const main of [rounds(334, ", 1"), rounds(250, "", notified(2))]) {
       const [outcome] = await runsOf(context, { "main.mjs": `${SHARED}${main}` });
-      assert.match(outcome.noScript ?? "", /^with those that stand for Atomics\.waitAsync there are more than 1000 calls of an agent, which no script/);
+      assert.match(outcome.noScript ?? "", /^with the calls for Atomics\.waitAsync an agent has more than 1000 calls, which no script/);
     }
   });
 });

@@ -19,7 +19,7 @@ const upTo = (last) => Array.from({ length: last }, (_, at) => at + 1);
 const areFinished = (outcomes) =>
   assert.deepEqual(outcomes.filter(({ ending }) => ending !== "finished").map(({ detail }) => detail), []);
 
-const OTHERWISE = "its input may have come otherwise";
+const OTHERWISE = "its input may have been different";
 
 /**
  * @param {string[]} words of the command line
@@ -291,7 +291,7 @@ describe("a run that can't be repeated", () => {
     const at = lines.indexOf(used);
     assert.deepEqual(lines.slice(at, at + 3), [
       used, "  seed 1 the first, 3 runs: child_process.execSync at main.mjs:3:22",
-      `seed 1 was run once more at the end, and ended otherwise (threw, then finished): ${OTHERWISE}`,
+      `seed 1 was run once more at the end, and ended in another way (threw, then finished): ${OTHERWISE}`,
     ]);
     const notShortened = `not shortened: it couldn't be made again in the same way: ${OTHERWISE}, in 3 runs`;
     assert.ok(lines.includes(notShortened), stdout);

@@ -71,7 +71,7 @@ describe("endless programs run in node until Ctrl-C", () => {
   }
 });
 
-/** What the recorder says of an exit code other than 0, if it isn't that of an exception that nobody catches. */
+/** What the recorder says about an exit code other than 0, if it isn't that of an exception that nobody catches. */
 const CODES = [[/ exited with code (\d+)/, undefined], [/ threw in a listener of uncaughtException/, 7]];
 const THREW = 1;
 

@@ -66,7 +66,7 @@ function racingLines(events) {
   return [...new Set(pairs)].sort();
 }
 
-/** What a trace says of calls, in one line each. */
+/** What a trace says about calls, in one line each. */
 function callLines(events) {
   return events.filter(({ atomic, waiters }) => atomic || waiters).map((event) => {
     const { agent, call, does, block, byte, size, read, write, waiters } = event;

@@ -1,5 +1,5 @@
-// Unordered accesses of a run: what is judged by clocks, against what the standard's memory model says of small runs,
-// and against a second judge on many random lists of events.
+// Unordered accesses of a run: what is judged by clocks, against what the memory model of the standard says about small
+// runs, and against a second judge on many random lists of events.
 
 import assert from "node:assert/strict";
 import { test } from "node:test";

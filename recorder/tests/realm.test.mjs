@@ -1,6 +1,6 @@
-// What agents find around them, and what they do to it: nothing of it may change what a run comes to, and what a run
-// can't have is told. Work that goes on later, a patched language, messages, arrays of their own, modules that break,
-// stacks that come to their end, clocks and random numbers.
+// What agents find around them, and what they do to it: nothing of it may change how a run ends, and what a run
+// can't have is reported. Work that goes on later, a patched language, messages, arrays of their own, modules that break,
+// stacks that overflow, clocks and random numbers.
 
 import assert from "node:assert/strict";
 import { writeFileSync } from "node:fs";
@@ -111,7 +111,7 @@ describe("work that goes on later", () => {
     }`;
   const call = "Atomics.add(words, 1, 1);";
 
-  test("fails the run, before a call and behind the last one, and it is told what goes on", async (context) => {
+  test("fails the run, before a call and after the last one, and the run says what goes on", async (context) => {
     const all = later.flatMap(([name, body, word]) => {
       return [`${body} ${call}`, `${call} ${body}`].map((both) => [name, both, word]);
     });
@@ -126,17 +126,17 @@ describe("work that goes on later", () => {
     });
   });
 
-  test("is told of an agent that is a generator or asynchronous itself", async (context) => {
+  test("is reported of an agent that is a generator or asynchronous itself", async (context) => {
     const kinds = [
       ["function* agent() { throw new Error('never seen'); }", /^agent 0 returned an iterator, whose code nobody runs/],
       ["async function* agent() { throw new Error('never seen'); }", /^agent 0 returned an iterator/],
       ["async function agent() {}", /^agent 0 returned a promise, but an agent must be synchronous$/],
       ["() => ({ then() {} })", /^agent 0 returned a promise/],
     ];
-    for (const [agent, told] of kinds) {
+    for (const [agent, detail] of kinds) {
       const outcome = await recordText(context, `export default ${agent}`);
       assert.equal(outcome.ending, "failed", agent);
-      assert.match(outcome.detail, told, agent);
+      assert.match(outcome.detail, detail, agent);
     }
   });
 
@@ -152,7 +152,7 @@ describe("work that goes on later", () => {
     }
   });
 
-  test("what a listener of an EventTarget throws fails the run, and is told", async (context) => {
+  test("what a listener of an EventTarget throws fails the run, and is reported", async (context) => {
     const listen = "const target = new EventTarget(); target.addEventListener('go', (event) => { BODY });";
     const bodies = [
       `${listen.replace("BODY", "throw new RangeError('mine');")} target.dispatchEvent(new Event('go')); ${call}`,
@@ -160,11 +160,11 @@ describe("work that goes on later", () => {
       `${call} ${listen.replace("BODY", "throw 5;")} target.dispatchEvent(new Event('go'));`,
     ];
     const outcomes = await madeOfEach(bodies, (body) => recordText(context, text(body)));
-    const told = [/: RangeError: mine\n +at .*agents\.mjs:\d+:\d+/, /: TypeError: Cannot read [^\n]*\n +at /, /: 5$/];
+    const thrown = [/: RangeError: mine\n +at .*agents\.mjs:\d+:\d+/, /: TypeError: Cannot read [^\n]*\n +at /, /: 5$/];
     outcomes.forEach(({ ending, detail }, at) => {
       assert.equal(ending, "failed", bodies[at]);
       assert.ok(detail.startsWith("agent 0 has a listener that threw, which nobody catches: "), detail);
-      assert.match(detail, told[at]);
+      assert.match(detail, thrown[at]);
     });
     const quiet = listen.replace("BODY", "Atomics.add(words, 0, 1);");
     const { ending } = await recordText(context, text(`${quiet} target.dispatchEvent(new Event('go'));`));
@@ -231,14 +231,14 @@ describe("a patched language", () => {
     return expected;
   }
 
-  for (const [end, told] of Object.entries(ENDS)) {
+  for (const [end, detail] of Object.entries(ENDS)) {
     test(`no function that is patched changes a run, with the end ${end}`, async () => {
       const expected = await demandSame(FUNCTIONS, end, end === "finished" ? WITH_PILOTS : {});
-      assert.ok(expected.detail.includes(told), expected.detail);
+      assert.ok(expected.detail.includes(detail), expected.detail);
     });
   }
 
-  test("nor where ordinary reads and writes aren't seen", async () => {
+  test("nor if ordinary reads and writes aren't seen", async () => {
     const expected = await demandSame(FUNCTIONS, "finished", { ordinary: "store" });
     assert.equal(expected.ending, "finished");
   });
@@ -250,7 +250,7 @@ describe("a patched language", () => {
   });
 });
 
-test("messages to whoever started the worker change nothing", async (context) => {
+test("messages to the thread that started the worker change nothing", async (context) => {
   const text = (top, body) => `
     import { parentPort } from "node:worker_threads";
     ${top}
@@ -284,20 +284,20 @@ test("messages to whoever started the worker change nothing", async (context) =>
 });
 
 describe("arrays of the program's own", () => {
-  /** Has one agent tell what a body answers, by what it throws. */
-  async function answersOf(context, body, options = {}) {
+  /** What a body returns in one agent, which throws it as the message of an error. */
+  async function returnedBy(context, body, options = {}) {
     const outcome = await recordBody(context, `
       const words = new Int32Array(buffers[0]);
       Atomics.add(words, 0, 1);
-      const told = (() => { ${body} })();
-      throw new Error("told " + JSON.stringify(told));`, { agents: 1, unrecorded: "allow", ...options });
-    const [, told] = /^agent 0 threw Error: told (.*)$/m.exec(outcome.detail) ?? assert.fail(outcome.detail);
-    return { told: JSON.parse(told), outcome };
+      const returned = (() => { ${body} })();
+      throw new Error("returned " + JSON.stringify(returned));`, { agents: 1, unrecorded: "allow", ...options });
+    const [, returned] = /^agent 0 threw Error: returned (.*)$/m.exec(outcome.detail) ?? assert.fail(outcome.detail);
+    return { returned: JSON.parse(returned), outcome };
   }
 
   for (const buffer of ["ArrayBuffer", "SharedArrayBuffer"]) {
     test(`calls on a ${buffer} get the standard's answers, and aren't recorded`, async (context) => {
-      const { told, outcome } = await answersOf(context, `
+      const { returned, outcome } = await returnedBy(context, `
         const own = new Int32Array(new ${buffer}(16));
         const bigs = new BigInt64Array(new ${buffer}(16));
         const answers = [
@@ -315,7 +315,7 @@ describe("arrays of the program's own", () => {
         }
         return answers;`);
       // 5, 5-7 = -2, 9, 4, 4|3 = 7, 7&6 = 6, 6^1 = 7; -0.5 is stored, and answered, as 0.
-      assert.deepEqual(told, [0, 5, 5, -2, 9, 4, 7, 6, 0, 0, "0", 7, "3", "RangeError", "TypeError"]);
+      assert.deepEqual(returned, [0, 5, 5, -2, 9, 4, 7, 6, 0, 0, "0", 7, "3", "RangeError", "TypeError"]);
       assert.deepEqual(outcome.answers, [["0"]]);
       assert.deepEqual([outcome.calls, outcome.moves], [1, 3]);
     });
@@ -323,12 +323,12 @@ describe("arrays of the program's own", () => {
 
   test("who sleeps by a wait on one takes the run's time alone", async (context) => {
     const began = performance.now();
-    const { told, outcome } = await answersOf(context, `
+    const { returned, outcome } = await returnedBy(context, `
       const from = performance.now();
       const own = new Int32Array(new SharedArrayBuffer(4));
       return [Atomics.wait(own, 0, 0, 60_000), Atomics.wait(own, 0, 1, 60_000), performance.now() - from >= 60_000];`,
     { unrecorded: "fail" });
-    assert.deepEqual(told, ["timed-out", "not-equal", true]);
+    assert.deepEqual(returned, ["timed-out", "not-equal", true]);
     assert.deepEqual(outcome.answers, [["0"]]);
     assert.ok(performance.now() - began < 30_000);
   });
@@ -346,9 +346,9 @@ describe("arrays of the program's own", () => {
         const woken = Atomics.wait(own, 0, 0, 4_000);
         const slept = Atomics.wait(own, 0, 1, 50);
         const time = Date.now() - from;
-        throw new Error("told " + JSON.stringify([woken, slept, time >= 140 && time < 4_000]));
+        throw new Error("returned " + JSON.stringify([woken, slept, time >= 140 && time < 4_000]));
       }`, { agents: 1, clock: "real", unrecorded: "allow", seconds: 10 });
-    assert.match(outcome.detail, /^agent 0 threw Error: told \["ok","timed-out",true\]$/m);
+    assert.match(outcome.detail, /^agent 0 threw Error: returned \["ok","timed-out",true\]$/m);
   });
 
   test("the module may be compiled to CommonJS", async (context) => {
@@ -395,18 +395,18 @@ test("a module that breaks while it is loaded is refused with its own error, at 
     ["export const init = 5;", /its export init is no function/],
   ];
   const began = performance.now();
-  const told = await madeOfEach(cases, async ([top]) => {
+  const refusals = await madeOfEach(cases, async ([top]) => {
     const run = recordText(context, `${top}\nexport default function agent() {}\n`);
     return run.then(() => "it was run", (error) => error);
   });
-  told.forEach((error, at) => {
+  refusals.forEach((error, at) => {
     assert.ok(error instanceof Refused, `${cases[at][0]}: ${error}`);
     assert.match(error.message, cases[at][1]);
   });
   assert.ok(performance.now() - began < 15_000, `it took ${performance.now() - began} ms`);
 });
 
-describe("a stack that comes to its end in what an agent asks", () => {
+describe("a stack that overflows in what an agent calls", () => {
   const SEEDS = 60;
   const STEP = 14;
 
@@ -455,7 +455,7 @@ describe("a stack that comes to its end in what an agent asks", () => {
   }
 });
 
-test("a worker that takes the place of another one begins nothing before it is told", async (context) => {
+test("a worker that takes the place of another one begins nothing before it is asked to", async (context) => {
   const path = join(temporaryFolder(context), "agents.mjs");
   writeFileSync(path, `
     let parts = 0;
@@ -497,24 +497,24 @@ describe("clocks", () => {
       ${body}
     }`;
 
-  /** What the agents told by what they threw. */
-  function toldBy({ detail }) {
-    const [, told] = /^agent \d threw Error: told (.*)$/m.exec(detail) ?? assert.fail(detail);
-    return JSON.parse(told);
+  /** The times that the agents threw as the message of an error. */
+  function timesIn({ detail }) {
+    const [, times] = /^agent \d threw Error: times (.*)$/m.exec(detail) ?? assert.fail(detail);
+    return JSON.parse(times);
   }
 
   test("go on with the run, past the end of a wait that timed out, and take no time", async (context) => {
     const began = performance.now();
-    const [before, between, after] = toldBy(await recordText(context, text(`
+    const [before, between, after] = timesIn(await recordText(context, text(`
       const before = clocks();
       Atomics.add(words, 0, 1);
       const between = clocks();
       if (Atomics.wait(words, 1, 0, 3_600_000) !== "timed-out") throw new Error("it was woken");
-      throw new Error("told " + JSON.stringify([before, between, clocks()]));`), { agents: 1 }));
+      throw new Error("times " + JSON.stringify([before, between, clocks()]));`), { agents: 1 }));
     before.forEach((time, which) => {
-      // Those that tell whole milliseconds, or seconds, may tell the same ones.
-      const tells = which < 2 || which > 5 ? "parts" : "whole";
-      assert.ok(tells === "parts" ? between[which] > time : between[which] >= time, `clock ${which}`);
+      // Those that show whole milliseconds, or seconds, may show the same ones.
+      const shown = which < 2 || which > 5 ? "parts" : "whole";
+      assert.ok(shown === "parts" ? between[which] > time : between[which] >= time, `clock ${which}`);
       const passed = after[which] - between[which];
       assert.ok(passed >= 3_600_000 - 1 && passed < 3_602_000, `clock ${which} went on by ${passed} ms`);
     });
@@ -522,7 +522,7 @@ describe("clocks", () => {
     assert.ok(performance.now() - began < 30_000);
   });
 
-  test("fit the answers: where a wait has timed out, its time is over", async (context) => {
+  test("fit the answers: if a wait has timed out, its time is over", async (context) => {
     const body = `
       const until = performance.now() + 5;
       for (;;) {
@@ -538,27 +538,27 @@ describe("clocks", () => {
 
   test("are the same for a seed", async (context) => {
     const body = `
-      const told = [clocks()];
+      const times = [clocks()];
       for (let time = 0; time < 3; time += 1) {
         Atomics.add(words, 0, 1);
         Atomics.wait(words, 1, 0, 10 * Math.random());
-        told.push(clocks());
+        times.push(clocks());
       }
-      if (agent === 1) throw new Error("told " + JSON.stringify(told));`;
+      if (agent === 1) throw new Error("times " + JSON.stringify(times));`;
     const [one, again] = await madeOfEach([5, 5], (seed) => recordText(context, text(body), { seed }));
-    assert.deepEqual(toldBy(one), toldBy(again));
+    assert.deepEqual(timesIn(one), timesIn(again));
   });
 
-  test("are the machine's where that is asked for", async (context) => {
+  test("are the machine's if that is asked for", async (context) => {
     const from = Date.now();
-    const told = toldBy(await recordText(context, text(`
+    const times = timesIn(await recordText(context, text(`
       Atomics.add(words, 0, 1);
       const before = clocks();
       const own = new Int32Array(new SharedArrayBuffer(4));
       Atomics.wait(own, 0, 0, 100);
-      throw new Error("told " + JSON.stringify([before, clocks()]));`), { agents: 1, clock: "real" }));
+      throw new Error("times " + JSON.stringify([before, clocks()]));`), { agents: 1, clock: "real" }));
     const to = Date.now();
-    const [before, after] = told;
+    const [before, after] = times;
     for (const which of [2, 3, 4]) assert.ok(before[which] >= from && after[which] <= to, `clock ${which}`);
     for (const which of [0, 1, 2, 3, 4, 6, 7, 8, 9]) {
       const passed = after[which] - before[which];
@@ -567,15 +567,15 @@ describe("clocks", () => {
   });
 
   test("a date that is given, and what hangs on Date, is the engine's", async (context) => {
-    const told = toldBy(await recordText(context, text(`
+    const found = timesIn(await recordText(context, text(`
       class Day extends Date {}
-      throw new Error("told " + JSON.stringify([
+      throw new Error("times " + JSON.stringify([
         new Date(86_400_000).toISOString(), new Date("2020-02-29").getUTCDate(), Date.UTC(1970, 0, 2),
         new Date(NaN).getTime(), new Date() instanceof Date, Object.prototype.toString.call(new Date()),
         new Day(5).getTime(), new Day() instanceof Day, typeof Date(), Date.length, Date.name,
         new Date().constructor === Date, new Day().constructor === Day,
       ]));`), { agents: 1 }));
-    assert.deepEqual(told, [
+    assert.deepEqual(found, [
       "1970-01-02T00:00:00.000Z", 29, 86_400_000, null, true, "[object Date]", 5, true, "string", 7, "Date", true, true,
     ]);
   });

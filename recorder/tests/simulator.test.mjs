@@ -1,4 +1,4 @@
-// The simulator in this process, sabsim.wasm: what it writes, what it says of bad input, and how its loader meets a
+// The simulator in this process, sabsim.wasm: what it writes, what it says about bad input, and how its loader meets a
 // trap and want of memory.
 
 import assert from "node:assert/strict";

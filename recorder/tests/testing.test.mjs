@@ -1,4 +1,4 @@
-// `sabsim/test` in a test suite: what node's runner says of a module of agents that fails, and of one that doesn't.
+// `sabsim/test` in a test suite: what node's runner says about a module of agents that fails, and of one that doesn't.
 
 import assert from "node:assert/strict";
 import { spawn } from "node:child_process";

@@ -81,7 +81,7 @@ test("a test that fails, and --replay, have the values of the code", async (cont
     const [, acts] = message.split("Its last acts");
     assert.match(acts, /^[ >]+\d+ 0 \d+ write +writes samples\[[01]\], .+ from [\d.]+ to \d\.25, at .+$/m);
     assert.doesNotMatch(message, /ordinary_|\d{12}n/);
-    assert.match(message, /\nin seed-\d+\.explained and seed-\d+\.svg a float [^\n]+ has its bits$/);
+    assert.match(message, /\nin seed-\d+\.explained and seed-\d+\.svg a float [^\n]+ is the whole number with the same bits$/);
     return true;
   });
   const [, seed] = /seed-(\d+)\.html/.exec(readdirSync(out).join());

@@ -88,7 +88,7 @@ function compile({ files, made = {} }, into) {
 }
 
 /**
- * Mends, makes and builds what a source says about the files in a folder.
+ * Mends, makes and builds the files in a folder as a source says.
  * @param {Source} source
  * @param {string} into
  */

@@ -142,7 +142,7 @@ function stateLines(summary) {
 function coverageLines({ coverage }) {
   if (coverage === null) return [];
   const { pairs, last, row, unplaced, covered } = coverage;
-  const seen = `${counted(pairs.length, "pair")} of lines came one after the other at a place, by different agents`;
+  const seen = `${counted(pairs.length, "pair")} of lines that different agents ran one after the other at a place`;
   const newest = last === null ? "" : `the last new one in seed ${last}, `;
   const since = row === null ? "" : `none in ${counted(row, "seed")} since: `;
   const enough = indented(`${newest}${since}${covered ? "" : "not "}covered`);

@@ -26,8 +26,8 @@ const TRACE_ALONE = "which no script can have: sabsim judges only the trace of s
 
 /** Why there is no script of a run whose calls alone are too many, as a program's may be. */
 const BEYOND = `a thread made more than ${SCRIPT_LIMITS.calls} calls, ${TRACE_ALONE}`;
-const BEYOND_WITH_HELPERS = `with those that stand for Atomics.waitAsync there are more than ${SCRIPT_LIMITS.calls} calls `
-  + `of an agent, ${TRACE_ALONE}`;
+const BEYOND_WITH_HELPERS = `with the calls for Atomics.waitAsync an agent has more than ${SCRIPT_LIMITS.calls} calls, `
+  + TRACE_ALONE;
 const TOO_MANY = `it has more than ${SCRIPT_LIMITS.agents} threads and waits of Atomics.waitAsync that are pending at `
   + `once, ${TRACE_ALONE}`;
 

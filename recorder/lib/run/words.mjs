@@ -1,7 +1,7 @@
 // Numbers, as a summary spells them, and what several messages say.
 
-/** Why a run of a program that gets real answers may differ when it is made once more. */
-export const OTHER_INPUT = "its input may have come otherwise";
+/** Why a run of a program that gets real answers may be another one when it is made once more. */
+export const OTHER_INPUT = "its input may have been different";
 
 /** How often such a run is made once more, until it goes the same way. */
 export const TIMES_TRIED = 3;

@@ -37,7 +37,7 @@ const endingOf = (ending, threw) => endingsText(ending, { failed: 1, threw: thre
 
 /** @type {Record<string, (found: Remembering) => string>} */
 const DIFFERENCES = {
-  ending: ({ was, is, threw }) => `ended otherwise (${endingOf(was, threw)}, then ${endingOf(is, threw)})`,
+  ending: ({ was, is, threw }) => `ended in another way (${endingOf(was, threw)}, then ${endingOf(is, threw)})`,
   bytes: () => "left other bytes",
   acts: () => "did something else",
 };

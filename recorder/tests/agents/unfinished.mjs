@@ -22,11 +22,11 @@ export const WAYS = [
   ["goes on later, by a promise", () => void (async () => {
     await undefined;
   })()],
-  ["left a rejected promise, which nobody handles: Error: untold", () => void (async () => {
-    throw new Error("untold");
+  ["left a rejected promise, which nobody handles: Error: uncaught", () => void (async () => {
+    throw new Error("uncaught");
   })()],
-  ["threw Error: told", () => {
-    throw new Error("told");
+  ["threw Error: caught", () => {
+    throw new Error("caught");
   }],
   [undefined, () => clearTimeout(setTimeout(later, 0))],
   [undefined, () => void Promise.resolve(1)],

@@ -127,7 +127,7 @@ export class Hand {
   async settled(care) {
     const end = performance.now() + PATIENCE;
     for (let looks = 0; looks < LOOKS * care && this.answer === null; ) {
-      if (performance.now() >= end) throw new EngineFault("a wait neither answers nor comes to rest");
+      if (performance.now() >= end) throw new EngineFault("a wait neither returns nor sleeps");
       await this.#message(1);
       looks = this.#isAtRest() ? looks + 1 : 0;
     }

@@ -71,7 +71,7 @@ export async function replay(script, crew) {
       if (!(error instanceof TooSlow)) throw error;
     }
   }
-  throw new EngineFault("waits end, again and again, before the schedule comes to their ends: the machine is too slow");
+  throw new EngineFault("waits end, again and again, before the schedule has their ends: the machine is too slow");
 }
 
 /**

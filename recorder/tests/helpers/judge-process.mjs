@@ -12,7 +12,7 @@ const WORDS = ["judge", "--trace", "--format", "json"];
 
 const [, , first, last, step] = process.argv;
 
-/** What each says of a seed's trace, and what it must say. @param {number} seed */
+/** What each says about a seed's trace, and what it must say. @param {number} seed */
 function judgedBy(seed) {
   const trace = randomTrace(seed);
   const events = eventsOfTrace(trace);

@@ -5,7 +5,7 @@
  * @property {number} passed
  * @property {number} failed
  * @property {string[]} skipped for each skipped test, why
- * @property {string} problems what the report says of the tests that failed; the whole report if it names none
+ * @property {string} problems what the report says about the tests that failed; the whole report if it names none
  */
 
 /**

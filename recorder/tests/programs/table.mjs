@@ -35,7 +35,7 @@ const deadlock = (...at) => ({ ending: "deadlock", at });
 /** @param {Line[]} at the lines that keep threads alive @returns {Finding} */
 const stuck = (...at) => ({ ending: "stuck", at });
 
-/** @param {RegExp} says of the message or the exit code @param {Line[]} at @returns {Finding} */
+/** @param {RegExp} says what the message or the exit code must match @param {Line[]} at @returns {Finding} */
 const failed = (says, ...at) => ({ ending: "failed", at, says });
 
 /** @type {(main: string, more?: object) => Omit<Program, "name">} */
