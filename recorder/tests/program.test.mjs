@@ -281,7 +281,7 @@ test("with nothing built every run is checked, and explanation, picture and page
   const endings = ["explained", "html", "json", "report", "svg", "trace.jsonl"];
   const files = readdirSync(out).filter((name) => !name.includes("original"));
   assert.deepEqual(files.sort(), endings.map((ending) => `seed-3.${ending}`));
-  const checked = "every run was replayed and judged by sabsim (module), except exact repeats: "
+  const checked = "every run was replayed and judged by sabsim (WebAssembly module), except exact repeats: "
     + "it agrees with the recorder";
   assert.ok(stdout.split("\n").includes(checked), stdout);
 });

@@ -10,10 +10,9 @@ import { MOST_KEYS, Tally } from "../lib/command/tally.mjs";
 import { counted, digits } from "../lib/run/words.mjs";
 
 const SEEN = { ordinary: "watch", races: "fail", checkedBy: "module 123" };
-/** What it says about checks of so many runs. */
-/** What is said of the runs that the module has checked; one alone is no repeat. */
+/** What it says about the runs that the module has checked; one alone is no repeat. */
 const checkedLine = (which, repeats = ", except exact repeats") =>
-  `${which} replayed and judged by sabsim (module)${repeats}: it agrees with the recorder`;
+  `${which} replayed and judged by sabsim (WebAssembly module)${repeats}: it agrees with the recorder`;
 
 /**
  * An outcome, of which a test says what matters to it.
@@ -452,7 +451,8 @@ test("joined summaries report all checks in one line, with each kind of simulato
   parts.forEach((summary, at) => summary.add(outcome(at, { checked: at < 2 })));
   const joined = new Summary({ ...SEEN, checkedBy: undefined });
   for (const summary of parts.slice(0, 2)) joined.join(summary.data());
-  const how = "replayed and judged by sabsim (module and program), except exact repeats: it agrees with the recorder";
+  const both = "sabsim (WebAssembly module and native program)";
+  const how = `replayed and judged by ${both}, except exact repeats: it agrees with the recorder`;
   assert.ok(joined.text().split("\n").includes(`every run was ${how}`));
   joined.join(parts[2].data());
   assert.ok(joined.text().split("\n").includes(`2 of 3 runs were ${how}`));
@@ -467,14 +467,15 @@ test("only the module isn't asked about runs that are the same again, and one ru
     return summary.text().split("\n").find((line) => line.startsWith("every run was"));
   };
   const judged = "every run was replayed and judged by sabsim";
-  assert.equal(saying("module 123", 2), `${judged} (module), except exact repeats: it agrees with the recorder`);
-  assert.equal(saying("module 123", 1), `${judged} (module): it agrees with the recorder`);
-  assert.equal(saying("program sabsim 0.1.0", 2), `${judged} (program): it agrees with the recorder`);
+  const agrees = "it agrees with the recorder";
+  assert.equal(saying("module 123", 2), `${judged} (WebAssembly module), except exact repeats: ${agrees}`);
+  assert.equal(saying("module 123", 1), `${judged} (WebAssembly module): ${agrees}`);
+  assert.equal(saying("program sabsim 0.1.0", 2), `${judged} (native program): ${agrees}`);
 });
 
 test("of runs whose ordinary accesses aren't watched it isn't said that they were judged", () => {
   const lines = linesOf(seeds(1, 2), { ordinary: "store", checked: 2 });
-  const which = "every run was replayed by sabsim (module), except exact repeats";
+  const which = "every run was replayed by sabsim (WebAssembly module), except exact repeats";
   assert.ok(lines.includes(`${which}: it agrees with the recorder`));
 });
 

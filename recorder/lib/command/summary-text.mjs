@@ -151,15 +151,19 @@ function coverageLines({ coverage }) {
   return [seen, indented(`of ${accesses} the line isn't known, so pairs may be missing`), enough];
 }
 
+/** The forms of the simulator, by the first word of a version. */
+const FORMS = new Map([["module", "WebAssembly module"], ["program", "native program"]]);
+
 /** @param {SummaryData} summary */
 function checkLines({ runs, sabsim: { checked, judges, versions } }) {
   if (checked === 0) return ["no run was checked"];
   const some = `${digits(checked)} of ${counted(runs, "run")} ${checked === 1 ? "was" : "were"}`;
   const which = checked === runs ? "every run was" : some;
   const kinds = [...new Set(versions.map((version) => version.split(" ", 1)[0]))];
+  const forms = kinds.map((kind) => FORMS.get(kind) ?? kind);
   // The text has no number of the runs that repeat one about which the module was asked: it depends on the jobs.
   const repeats = checked > 1 && kinds.includes("module") ? ", except exact repeats" : "";
-  const how = `replayed ${judges ? "and judged " : ""}by sabsim (${kinds.join(" and ")})`;
+  const how = `replayed ${judges ? "and judged " : ""}by sabsim (${forms.join(" and ")})`;
   return [`${which} ${how}${repeats}: it agrees with the recorder`];
 }
 
