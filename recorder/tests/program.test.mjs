@@ -13,7 +13,7 @@ import { CHECKING, NOWHERE, hasSabsim, onLinux } from "./helpers/needs.mjs";
 import { simulated } from "./helpers/simulate.mjs";
 
 /** Which simulator checks the runs of these tests. */
-const KIND = hasSabsim ? "(program)" : "(module), except exact repeats";
+const KIND = hasSabsim ? "(native program)" : "(WebAssembly module), except exact repeats";
 
 /**
  * Runs the command line to its end.

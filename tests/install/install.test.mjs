@@ -29,7 +29,7 @@ const withCompiler = { skip: hasCompiler ? false : "there is no tsc on this mach
 
 /** What a summary says about runs that the module has checked. */
 const CHECKED =
-  /^every run was replayed and judged by sabsim \(module\), except exact repeats: it agrees with the recorder$/m;
+  /^every run was replayed and judged by sabsim \(WebAssembly module\), except exact repeats: it agrees with the recorder$/m;
 
 const room = mkdtempSync(join(tmpdir(), "sabsim-package-"));
 after(() => rmSync(room, { recursive: true, force: true }));
