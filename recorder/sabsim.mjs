@@ -25,7 +25,8 @@ const PROGRAMS = [`../program/${process.platform}-${process.arch}/sabsim`, "../c
 const VERSION = /^(-V|--version)$/;
 const TRUST = `This is the module sabsim.wasm, of the same proved sources. The kit's clang compiled it for
 WebAssembly, with a heap of about 100 lines of C, and binaryen lowered it. The proof covers
-none of these three. The module was compared with the native program when it was made.
+none of these three, nor the scripts that run them, nor node. The module was compared with the
+native program when it was made.
 `;
 
 /** @type {NodeJS.Signals[]} those that end a program, and that a program can pass on */
