@@ -4,15 +4,19 @@
 // simulator in WebAssembly does the same in this process, except races. This launcher isn't proved.
 
 import { spawn } from "node:child_process";
-import { existsSync, readFileSync } from "node:fs";
+import { closeSync, existsSync, openSync, readFileSync, readSync } from "node:fs";
 import { constants } from "node:os";
 import { fileURLToPath } from "node:url";
+import { SCRIPT_LIMITS } from "./script/limits.mjs";
 import { Simulator } from "./wasm/simulator.mjs";
 
 const NOT_RUN = 2;
 // The status of the program if a write failed.
 const NOT_WRITTEN = 3;
 const MODULE = new URL("./wasm/sabsim.wasm", import.meta.url);
+
+// The simulator refuses a script that has so many bytes, whatever comes behind them.
+const MOST_OF_SCRIPT = SCRIPT_LIMITS.text + 1;
 
 /** Where the program is: in the package, or where the repository builds it. */
 const PROGRAMS = [`../program/${process.platform}-${process.arch}/sabsim`, "../crates/sabsim/out/sabsim"];
@@ -21,7 +25,8 @@ const PROGRAMS = [`../program/${process.platform}-${process.arch}/sabsim`, "../c
 const VERSION = /^(-V|--version)$/;
 const TRUST = `This is the module sabsim.wasm, of the same proved sources. The kit's clang compiled it for
 WebAssembly, with a heap of about 100 lines of C, and binaryen lowered it. The proof covers
-none of these three. The module was compared with the native program when it was made.
+none of these three, nor the scripts that run them, nor node. The module was compared with the
+native program when it was made.
 `;
 
 /** @type {NodeJS.Signals[]} those that end a program, and that a program can pass on */
@@ -64,13 +69,48 @@ function endBy(signal) {
 }
 
 /**
+ * Reads a script, or as much of it as the simulator needs: standard input may have no end.
+ * @param {string} [file] undefined: standard input
+ * @returns {Uint8Array}
+ */
+function readScript(file) {
+  const from = file === undefined ? 0 : openSync(file);
+  try {
+    const bytes = Buffer.alloc(MOST_OF_SCRIPT);
+    let size = 0;
+    for (let count = 1; count > 0 && size < MOST_OF_SCRIPT; size += count) {
+      count = readSync(from, bytes, size, MOST_OF_SCRIPT - size, null);
+    }
+    return bytes.subarray(0, size);
+  } finally {
+    if (file !== undefined) closeSync(from);
+  }
+}
+
+/**
+ * @param {string[]} words of the command line
+ * @returns {import("./wasm/simulator.mjs").Ended}
+ * @throws {Error} if the module stops in the middle, or can't be compiled
+ */
+function endedBy(words) {
+  const simulator = new Simulator(new WebAssembly.Module(readFileSync(MODULE)));
+  const read = words.includes("--trace") ? (/** @type {string | undefined} */ file) => readFileSync(file ?? 0) : readScript;
+  return simulator.command(words, read, process.stderr.isTTY === true);
+}
+
+/**
  * Does in this process what the program does.
  * @param {string[]} words of the command line
  */
 function runModule(words) {
-  const simulator = new Simulator(new WebAssembly.Module(readFileSync(MODULE)));
-  const isTerminal = process.stderr.isTTY === true;
-  const { status, output, complaint } = simulator.command(words, (file) => readFileSync(file ?? 0), isTerminal);
+  let ended;
+  try {
+    ended = endedBy(words);
+  } catch (error) {
+    refuse(`sabsim: ${error instanceof Error ? error.message : error}\n`);
+    return;
+  }
+  const { status, output, complaint } = ended;
   process.exitCode = status;
   process.stdout.on("error", () => {
     process.stderr.write("sabsim: 17 WriteFailed\n");
@@ -81,6 +121,8 @@ function runModule(words) {
   process.stderr.write(complaint);
 }
 
+// If standard error can't be written, the status alone reports the fault.
+process.stderr.on("error", () => {});
 const path = PROGRAMS.map((place) => fileURLToPath(new URL(place, import.meta.url))).find((place) => existsSync(place));
 const words = process.argv.slice(2);
 if (path === undefined) runModule(words);

@@ -68,10 +68,19 @@ export class SchedulePane {
   }
 
   /**
-   * Does what a button or a key asks for.
+   * Does what a button or a key asks for. If the simulator fails, the schedule stays as it is.
    * @param {string} id of the button
    */
   act(id) {
+    try {
+      this.#act(id);
+    } catch (problem) {
+      this.status.textContent = `Not done: ${/** @type {Error} */ (problem).message}.`;
+    }
+  }
+
+  /** @param {string} id */
+  #act(id) {
     const { editing, host } = this;
     const edit = EDITS.find((each) => each.id === id);
     if (edit !== undefined) this.#change(edit);

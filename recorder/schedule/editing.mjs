@@ -115,10 +115,11 @@ export class Editing {
    * @returns {number | undefined} the turn that was chosen before it; undefined: there is no change
    */
   undo() {
-    const last = this.before.pop();
+    const last = this.before.at(-1);
     if (last === undefined) return undefined;
     const { turns, moves, starts, at } = last;
     this.now = { turns, moves, starts, report: this.#replay(moves) };
+    this.before.pop();
     return at;
   }
 

@@ -57,6 +57,12 @@ const LINES = `[...document.querySelectorAll("#schedule tbody tr")].map((row) =>
   return [...row.cells].map((cell) => cell.textContent).join(" | ");
 })`;
 
+/** The marks of differences of which less than their first word is seen. */
+const HIDDEN_MARKS = `[...document.querySelectorAll("#timeline .mark")].filter((mark) => {
+  const [{ left, right }, row] = [mark, mark.closest("[role=option]")].map((each) => each.getBoundingClientRect());
+  return Math.min(right, row.right) - left < 50;
+}).map((mark) => mark.closest("[role=option]").textContent)`;
+
 /** Waits until something is so in a page. */
 async function until(page, expression) {
   for (let time = 0; time < 600; time += 1) {
@@ -161,6 +167,7 @@ for (const [name, { isThere, begin }] of Object.entries(BROWSERS)) {
           })()`);
           assert.equal(scrollWidth, clientWidth);
           assert.deepEqual(await page.value(PALE_TEXTS), []);
+          assert.deepEqual(await page.value(HIDDEN_MARKS), []);
         }
       });
     }

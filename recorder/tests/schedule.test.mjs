@@ -249,6 +249,24 @@ describe("by hand", () => {
     assert.throws(() => new Editing("nothing", simulate), NotReplayed);
   });
 
+  it("while the simulator fails nothing is changed, and nothing is taken back", () => {
+    let isDefective = false;
+    const editing = new Editing(JSON.stringify(HANDED), (...asked) => {
+      if (isDefective) throw new Error("it stopped");
+      return simulate(...asked);
+    });
+    const at = editing.now.turns.findIndex((_, each) => "turns" in later(editing.now, each));
+    assert.deepEqual(editing.change(later, at), { at: at + 1 });
+    const { now } = editing;
+    isDefective = true;
+    assert.throws(() => editing.change(dropped, at), /^Error: it stopped$/);
+    assert.throws(() => editing.undo(), /^Error: it stopped$/);
+    assert.equal(editing.now, now);
+    isDefective = false;
+    assert.equal(editing.undo(), at);
+    assert.equal(editing.isChanged, false);
+  });
+
   it("the changed examples are still scripts with their own layout", () => {
     const text = readFileSync(pathOf("examples/futex-mutex.json"), "utf8");
     const editing = new Editing(text, simulate);

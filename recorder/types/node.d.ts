@@ -249,9 +249,10 @@ declare module "node:fs" {
   export function lstatSync(path: string): Stats;
   export function mkdtempSync(prefix: string): string;
   export function mkdirSync(path: string, options?: { recursive: true; mode?: number }): void;
-  export function openSync(path: string, flags: string): number;
+  export function openSync(path: string, flags?: string): number;
   export function readFileSync(file: string | URL | number, encoding: "base64" | "latin1" | "utf8"): string;
   export function readFileSync(file: string | URL | number): Buffer;
+  export function readSync(file: number, bytes: Uint8Array, from: number, length: number, at: null): number;
   export function readlinkSync(path: string): string;
   export function realpathSync(path: string): string;
   export function renameSync(from: string, to: string): void;

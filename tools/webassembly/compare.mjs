@@ -159,13 +159,13 @@ function isAllowed(came, wanted) {
   return came.status === 1 && wanted.status === 1 && isPart;
 }
 
-/** Each call with memories of several sizes. @param {Input[]} inputs */
-function compareWithSmallMemories(inputs) {
+/** Each call with memories of several sizes. @param {Input[]} inputs @param {string[][]} ways */
+function compareWithSmallMemories(inputs, ways) {
   const bytes = readFileSync(modulePath);
   const modules = MEMORIES.map((pages) => new WebAssembly.Module(limited(bytes, pages)));
   const small = modules.map((module, at) => ({ pages: MEMORIES[at], host: new Simulator(module) }));
   for (const input of inputs) {
-    for (const words of SCRIPT_WAYS) {
+    for (const words of ways) {
       const wanted = simulator.run(jobOf(words), input.bytes);
       for (const { pages, host } of small) {
         counts.calls += 1;
@@ -196,9 +196,11 @@ function compareRefused(input, words) {
 const compared = await compareInputs();
 compareExamples();
 await compareCommandLines();
-const few = [...examples(), ...randomScripts(20)];
-compareWithSmallMemories([...few, ...largeInputs().slice(0, 2)]);
+const [few, traces] = [[...examples(), ...randomScripts(20)], randomTraces(20)];
+compareWithSmallMemories([...few, ...largeInputs().slice(0, 2)], SCRIPT_WAYS);
+compareWithSmallMemories(traces, TRACE_WAYS);
 for (const input of few) for (const words of SCRIPT_WAYS) compareRefused(input, words);
+for (const input of traces) for (const words of TRACE_WAYS) compareRefused(input, words);
 console.log(
   `compared: ${counts.calls} calls (${compared}; ${counts.withoutMemory} ended without memory, ` +
     `${counts.refused} had one request for memory refused), ${counts.different} differ`,

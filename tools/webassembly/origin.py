@@ -37,6 +37,13 @@ def kit():
     return rtlib.text_of(f"{rtlib.KIT}/KIT-ID").strip()
 
 
+def has_logic_of(origin):
+    """Returns whether a module's kit has the logic of this one. Kits of several names have the same logic, and README
+    asks for the logic alone. Whether they make the same code is another question."""
+    made_by, here = (name.partition(" logic ")[2] for name in (origin.get("kit", ""), kit()))
+    return made_by != "" and made_by == here
+
+
 def origin_of(crate, before, module):
     """Returns what is said about a module: `before` is its form before binaryen."""
     return {

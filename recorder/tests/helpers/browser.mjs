@@ -4,6 +4,7 @@ import { spawn, spawnSync } from "node:child_process";
 import { mkdtempSync, rmSync } from "node:fs";
 import { tmpdir } from "node:os";
 import { join } from "node:path";
+import { setTimeout as sleep } from "node:timers/promises";
 import { hasSabsim, needing } from "./needs.mjs";
 
 const NAMES = ["chromium", "chromium-browser", "google-chrome", "google-chrome-stable"];
@@ -25,6 +26,26 @@ const KEY_CODES = {
   ArrowUp: 38, ArrowDown: 40, ArrowLeft: 37, ArrowRight: 39, Home: 36, End: 35, PageUp: 33, PageDown: 34, Tab: 9,
   Enter: 13,
 };
+
+// So many times, and so many milliseconds apart.
+const REMOVALS = 50;
+const REMOVAL_MILLISECONDS = 100;
+
+/**
+ * Removes the folder of a browser that has ended. Processes that it began may still write there for a moment.
+ * @param {string} room
+ */
+export async function removed(room) {
+  for (let left = REMOVALS; ; left -= 1) {
+    try {
+      rmSync(room, { recursive: true, force: true });
+      return;
+    } catch (error) {
+      if (error.code !== "ENOTEMPTY" || left === 0) throw error;
+      await sleep(REMOVAL_MILLISECONDS);
+    }
+  }
+}
 
 export class Browser {
   constructor() {
@@ -91,7 +112,7 @@ export class Browser {
     this.child.kill();
     await this.ended;
     clearTimeout(timer);
-    rmSync(this.room, { recursive: true, force: true, maxRetries: 5 });
+    await removed(this.room);
   }
 }
 

@@ -2,11 +2,12 @@
 // `browser.mjs` can, except for what a screen reader gets.
 
 import { spawn, spawnSync } from "node:child_process";
-import { existsSync, mkdtempSync, readFileSync, rmSync, writeFileSync } from "node:fs";
+import { existsSync, mkdtempSync, readFileSync, writeFileSync } from "node:fs";
 import { connect } from "node:net";
 import { tmpdir } from "node:os";
 import { join } from "node:path";
 import { setTimeout as sleep } from "node:timers/promises";
+import { removed } from "./browser.mjs";
 import { hasSabsim, needing } from "./needs.mjs";
 
 const NAMES = ["firefox-esr", "firefox"];
@@ -169,6 +170,6 @@ export class Firefox {
     this.child.kill();
     await this.ended;
     clearTimeout(timer);
-    rmSync(this.room, { recursive: true, force: true, maxRetries: 5 });
+    await removed(this.room);
   }
 }
