@@ -237,6 +237,34 @@ test("the JSON summary reports a job that died, in its member `problems`", async
   assert.ok(runs < 9, stdout);
 });
 
+test("a shard whose job dies in its first run has a JSON summary, which is joined to the others", async (context) => {
+  const module = agentsOf(temporaryFolder(context), `
+    Atomics.add(new Int32Array(buffers[0]), 0, 1);
+    if (process.env.RECORDER_TEST === "dies") process.kill(process.pid, "SIGKILL");
+  `);
+  const words = [module, "--agents", "1", "--buffers", "4", "--seeds", "1..4", "--check", "0", "--format", "json"];
+  const env = { ...process.env, RECORDER_TEST: "dies" };
+  const [died, other] = await Promise.all([
+    ran([RECORD, ...words, "--shard", "1/2"], { env }), ran([RECORD, ...words, "--shard", "2/2"]),
+  ]);
+  const { problems: [problem], stopped, runs } = JSON.parse(died.stdout);
+  assert.match(problem, /\(SIGKILL\), and nothing is known of the seeds 1 to 2$/);
+  assert.deepEqual([died.status, died.stderr], [3, `record: ${problem}\n`]);
+  assert.deepEqual([runs, stopped], [0, { why: "stopped", wanted: 2 }]);
+  const { status, stdout, stderr } = await ran([MERGE, "-"], { input: died.stdout + other.stdout });
+  assert.deepEqual([status, stderr], [3, `merge: ${problem}\n`]);
+  assert.match(stdout, /^stopped after 2 of 4 runs\n2 runs: 2 finished\n/);
+});
+
+test("a module that is refused when it is loaded has no summary", async (context) => {
+  const module = join(temporaryFolder(context), "agents.mjs");
+  writeFileSync(module, "throw new Error('no agents');\nexport default () => {};\n");
+  const words = [module, "--agents", "1", "--buffers", "4", "--format", "json"];
+  const { status, stdout, stderr } = await ran([RECORD, ...words]);
+  assert.deepEqual([status, stdout], [2, ""]);
+  assert.match(stderr, /^record: .*agents\.mjs can't be loaded: /);
+});
+
 const hasParallel = spawnSync("parallel", ["--version"]).status === 0;
 const withParallel = needing("GNU parallel", hasParallel);
 
