@@ -1,0 +1,21 @@
+// One memory for the boards of tests that make thousands of them, one after the other, in one thread: to get new memory
+// takes longer than what is tried on a board.
+
+import assert from "node:assert/strict";
+import { after } from "node:test";
+import { Board } from "../../lib/board/board.mjs";
+
+const MEMORY = Board.memory();
+
+// What is large isn't written to, as long as nothing is known about places, and no run goes by a row or wants its own.
+const { places, row, ...written } = MEMORY;
+
+after(() => {
+  for (const buffer of [places, ...Object.values(row)]) assert.ok(Buffer.from(buffer).every((byte) => byte === 0));
+});
+
+/** @returns {import("../../lib/board/board.mjs").BoardMemory} as new; no board that had it before may be in use */
+export function emptyMemory() {
+  for (const buffer of Object.values(written)) new Uint8Array(buffer).fill(0);
+  return MEMORY;
+}
