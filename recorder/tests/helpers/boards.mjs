@@ -7,11 +7,11 @@ import { Board } from "../../lib/board/board.mjs";
 
 const MEMORY = Board.memory();
 
-// What is large isn't written to, as long as nothing is known about places, and no run goes by a row or wants its own.
-const { places, row, ...written } = MEMORY;
+// What is large isn't written to as long as no run ends, goes by a row or wants its own, and nothing is known of places.
+const { text, reasons, places, row, ...written } = MEMORY;
 
 after(() => {
-  for (const buffer of [places, ...Object.values(row)]) assert.ok(Buffer.from(buffer).every((byte) => byte === 0));
+  for (const buffer of [text, reasons, places, ...Object.values(row)]) assert.ok(Buffer.from(buffer).every((byte) => byte === 0));
 });
 
 /** @returns {import("../../lib/board/board.mjs").BoardMemory} as new; no board that had it before may be in use */
