@@ -1,7 +1,7 @@
 // Programs with known answers: what each of them comes to in 500 seeds is what its module says in `known`, which was
 // reasoned out by the standard. `endings` are those that occur, `may` those that need not, and `races` the pairs of
-// lines of code that race: for each side what its line is told by. Nothing else is found, and nothing is missed. Some of
-// the runs are judged by others, too.
+// lines of code that race: for each side what its line is told by. Nothing else is found, and nothing is missed. Others
+// judge some of the runs, too.
 
 import assert from "node:assert/strict";
 import { readFileSync, readdirSync } from "node:fs";

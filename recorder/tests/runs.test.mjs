@@ -190,7 +190,7 @@ test("if an agent runs out of stack during a call, the run fails with that messa
 
 const REFUSED_LINES = readFileSync(agentsPath("refused"), "utf8").split("\n");
 
-test("each call that no script can have is refused by name and line, even where the agent catches it", async (context) => {
+test("each call that no script can have is refused by name and line, also if the agent catches it", async (context) => {
   const cases = new Cases({ module: agentsPath("refused"), agents: 2, buffers: [16], everywhere: true });
   context.after(() => cases.close());
   const outcomes = await Promise.all(NAMES.map((_, at) => cases.outcomeOf(at)));

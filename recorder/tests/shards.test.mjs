@@ -215,7 +215,7 @@ test("merge.mjs reports wrong words and files with status 2, and prints its help
 test("merge.mjs ends with status 0 if no run of any shard failed", async (context) => {
   const folder = temporaryFolder(context);
   const module = agentsOf(folder, "Atomics.add(new Int32Array(buffers[0]), 0, 1);");
-  const words = [module, "--agents", "2", "--buffers", "4", "--seeds", "1..4", "--check", "0"];
+  const words = [module, "--agents", "2", "--buffers", "4", "--seeds", "1..4", "--check", "0", "--everywhere"];
   const lines = await Promise.all(["1/2", "2/2"].map((shard) => summaryOf([...words, "--shard", shard])));
   const { status, stdout } = await ran([MERGE, "-"], { input: lines.map((line) => JSON.stringify(line)).join("\n") });
   assert.equal(status, 0);

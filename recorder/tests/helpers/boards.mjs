@@ -7,11 +7,13 @@ import { Board } from "../../lib/board/board.mjs";
 
 const MEMORY = Board.memory();
 
-// What is large isn't written to as long as no run ends, goes by a row or wants its own, and nothing is known of places.
+// What is large isn't written to as long as no run ends, none goes by a row or wants its own, and no place is known.
 const { text, reasons, places, row, ...written } = MEMORY;
 
 after(() => {
-  for (const buffer of [text, reasons, places, ...Object.values(row)]) assert.ok(Buffer.from(buffer).every((byte) => byte === 0));
+  for (const buffer of [text, reasons, places, ...Object.values(row)]) {
+    assert.ok(new Uint8Array(buffer).every((byte) => byte === 0));
+  }
 });
 
 /** @returns {import("../../lib/board/board.mjs").BoardMemory} as new; no board that had it before may be in use */
