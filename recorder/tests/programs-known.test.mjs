@@ -88,13 +88,17 @@ function testRare() {
   }
 }
 
+/** In the same threads one program is run after the other. */
+const IN_TURN = { concurrency: 1 };
+
 // One thread of a program goes on at a time. So that this file isn't left alone at the end, two parts go on side by side.
 // More would take longer, since each has threads of its own.
 describe("programs in the recorder", { concurrency: 2 }, () => {
-  describe("with known answers", () => testEach(OF_NODE));
+  describe("with known answers", IN_TURN, () => testEach(OF_NODE));
 
-  describe("of another kind", () => {
-    describe("for browsers, with known answers", () => testEach(PROGRAMS.filter(({ isWeb }) => isWeb), { web: true }));
-    describe("rare ones, if each thread that can go on is as likely", testRare);
+  describe("of another kind", IN_TURN, () => {
+    const ofWeb = PROGRAMS.filter(({ isWeb }) => isWeb === true);
+    describe("for browsers, with known answers", IN_TURN, () => testEach(ofWeb, { web: true }));
+    describe("rare ones, if each thread that can go on is as likely", IN_TURN, testRare);
   });
 });
