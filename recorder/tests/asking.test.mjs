@@ -1,4 +1,4 @@
-// How the recorder asks the simulator: a wrong module fails the check. `known-judged.test.mjs` shows that the
+// How the recorder asks the simulator: a wrong module fails the check. `known.test.mjs` shows that the
 // module and the native program agree.
 
 import assert from "node:assert/strict";

@@ -16,6 +16,7 @@ import { simulated } from "./helpers/simulate.mjs";
 const program = (name, options = {}) =>
   ({ module: agentsPath("checked"), args: [name], agents: 2, everywhere: true, ...options });
 
+// Where the number of agents is given, no worker begins that isn't needed.
 describe("init and check", { concurrency: 2 }, () => {
   it("one line of `check` finds a lost update: a run fails exactly if the count is wrong", async () => {
     const outcomes = await recorded(program("lost"), seedsTo(20));
@@ -144,11 +145,12 @@ describe("init and check", { concurrency: 2 }, () => {
     `);
     const cases = [["7", "finished", ""], ["8", "check", "check returned false"],
       ["error", "check", "check returned RangeError: lost"]];
+    const how = { module: path, agents: 1, sabsim: CHECKER };
     for (const [what, ending, detail] of cases) {
-      const outcome = await record({ module: path, args: [what], sabsim: CHECKER });
+      const outcome = await record({ ...how, args: [what] });
       assert.deepEqual([outcome.ending, outcome.detail], [ending, detail]);
     }
-    const outcome = await record({ module: path, args: ["7"], sabsim: CHECKER, check: () => false });
+    const outcome = await record({ ...how, args: ["7"], check: () => false });
     assert.deepEqual([outcome.ending, outcome.detail], ["check", "check returned false"]);
   });
 
@@ -170,7 +172,7 @@ describe("init and check", { concurrency: 2 }, () => {
       count: /`setup` can't have a member count: there are agents, buffers, noBlock, names$/ };
     for (const [name, refused] of Object.entries(wrong)) {
       write(`{ agents: 2, buffers: [4], ${name}: [0] }`);
-      await assert.rejects(record({ module: path, sabsim: CHECKER }), refused);
+      await assert.rejects(record({ module: path, agents: 1, sabsim: CHECKER }), refused);
     }
   });
 
@@ -204,7 +206,7 @@ describe("init and check", { concurrency: 2 }, () => {
     };
     for (const [setup, refused] of Object.entries(refusals)) {
       writeFileSync(path, `export const setup = ${setup};\nexport default () => {};`);
-      await assert.rejects(record({ module: path, sabsim: false }), (error) => {
+      await assert.rejects(record({ module: path, agents: 1, sabsim: false }), (error) => {
         assert.ok(error instanceof Refused);
         assert.match(error.message, refused);
         return true;

@@ -29,7 +29,9 @@ function run(words, nodeWords = [], options = {}) {
   return { status, stdout, stderr };
 }
 
-const small = (folder, body) => [agentsOf(folder, body), "--agents", "2", "--buffers", "8", "--check", "0"];
+/** The words for two agents, without pilots, which would take twice as many workers, and could end a job before. */
+const small = (folder, body) =>
+  [agentsOf(folder, body), "--agents", "2", "--buffers", "8", "--check", "0", "--everywhere"];
 
 /** The processes whose environment has a word, which all children of a process inherit. */
 function processesWith(word) {
@@ -206,8 +208,7 @@ test("a job whose process dies is reported with status 3, and the summary has th
       process.kill(process.pid, "SIGKILL");
     }
   `);
-  // Pilots would end it before.
-  const { status, stdout, stderr } = run([...words, "--seeds", "1..10", "--everywhere"]);
+  const { status, stdout, stderr } = run([...words, "--seeds", "1..10"]);
   assert.equal(status, 3);
   // The summary doesn't count the fifth run.
   assert.match(stdout, /^stopped after 4 of 10 runs\n4 runs: 4 finished\n/);
@@ -222,7 +223,7 @@ test("a failed run is reported even if the next run kills the job's process at o
     if (globalThis.times === 8) process.kill(process.pid, "SIGKILL");
     new Int32Array(buffers[0])[0] = agent;
   `);
-  const { status, stdout } = run([...words, "--seeds", "1..10", "--everywhere"]);
+  const { status, stdout } = run([...words, "--seeds", "1..10"]);
   assert.equal(status, 3);
   // The first one is made twice, for the lines of its accesses.
   assert.match(stdout, /^stopped after 6 of 10 runs\n6 of 6 runs failed: 6 race\n/);

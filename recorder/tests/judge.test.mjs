@@ -1,5 +1,5 @@
 // Who judges a run's accesses: sabsim, the recorder's own detector, and a slow judge that is written from the
-// definitions alone. On rows by hand and on random traces all say the same. `known-judged.test.mjs` has the runs of
+// definitions alone. On rows by hand and on random traces all say the same. `known.test.mjs` has the runs of
 // known programs judged.
 
 import assert from "node:assert/strict";

@@ -1,23 +1,30 @@
 // Programs with known answers: how the runs of 500 seeds of each end is what its module says in `known`, which was
 // reasoned out by the standard. `endings` are those that occur, `may` those that need not, and `races` the pairs of
-// lines of code that race: for each side a text that its line has. Nothing else is found, and nothing is missed.
+// lines of code that race: for each side a text that its line has. Nothing else is found, and nothing is missed. Other
+// judges look at some of the runs, too.
 
 import assert from "node:assert/strict";
 import { readFileSync, readdirSync } from "node:fs";
-import { after, describe, it } from "node:test";
+import { after, before, describe, it } from "node:test";
 import { keptScript } from "../lib/shorter/kept-script.mjs";
 import { AskedProcesses } from "./helpers/asked-processes.mjs";
+import { demandOfModule, demandOfNative, demandOfSlowJudge } from "./helpers/known-judged.mjs";
+import { withSabsim } from "./helpers/needs.mjs";
 
 /** @typedef {import("./helpers/known-process.mjs").Made} Made */
-/** @typedef {import("../lib/seeds/job.mjs").Checked} Checked */
+/** @typedef {import("./helpers/known-process.mjs").Judged} Judged */
 
 const FOLDER = new URL("./known/", import.meta.url);
 const NAMES = readdirSync(FOLDER).filter((name) => name.endsWith(".mjs"));
 const SEEDS = 500;
 
-// The seeds whose runs are made once more by their rows.
-const AGAIN = [1, 2];
 const CHECKED = 25;
+
+/** Of how many seeds the runs are judged by others; how many of these are asked of the simulator, and made by rows. */
+const JUDGED = 5;
+const ASKED = 2;
+const BY_ROWS = 2;
+
 const LEAST_PROGRAMS = 36;
 
 // Several programs side by side need less than one by one with several jobs each.
@@ -27,12 +34,13 @@ const processes = new AskedProcesses("recorder/tests/helpers/known-process.mjs",
 after(() => processes.end());
 
 /**
- * What the runs of a program come to, and a few of them where they are made once more by their rows.
+ * What the runs of a program come to, a few runs with all that is known of them, and some of these made by their rows.
  * @param {string} name of its file
- * @returns {Promise<{ made: Made[], free: Checked[], forced: Checked[] }>}
+ * @returns {Promise<{ made: Made[], judged: Judged[], forced: Judged[] }>}
  */
-const runsOf = (name) =>
-  processes.ask({ module: new URL(name, FOLDER).href, seeds: SEEDS, checkEvery: CHECKED, again: AGAIN });
+const runsOf = (name) => processes.ask({
+  module: new URL(name, FOLDER).href, seeds: SEEDS, checkEvery: CHECKED, judged: JUDGED, again: BY_ROWS,
+});
 
 /** How often each value occurs, and what it occurred with first. */
 function counted(entries) {
@@ -93,25 +101,39 @@ function demandChecks(made) {
 }
 
 /** A run that is made by its row is the same run, and the row of its script is that row. */
-function demandRows(free, forced) {
-  assert.deepEqual(forced, free);
-  for (const { script, row } of free) {
+function demandRows(judged, forced) {
+  const runOf = (/** @type {Judged} */ { outcome, stray }) => ({ outcome, stray });
+  const free = judged.slice(0, BY_ROWS);
+  assert.deepEqual(forced.map(runOf), free.map(runOf));
+  for (const { outcome: { script, row } } of free) {
     assert.deepEqual(keptScript(script, "it").draws.map(({ agent }) => agent), row);
   }
 }
 
-describe("programs with known answers", { concurrency: SIDE_BY_SIDE }, () => {
-  it("are many", () => assert.ok(NAMES.length >= LEAST_PROGRAMS));
+it("programs with known answers are many", () => assert.ok(NAMES.length >= LEAST_PROGRAMS));
 
+describe("programs with known answers", { concurrency: SIDE_BY_SIDE }, () => {
   for (const name of NAMES) {
-    it(name.replace(".mjs", ""), async () => {
-      const { known } = await import(new URL(name, FOLDER).href);
-      const { made, free, forced } = await runsOf(name);
-      assert.equal(made.length, SEEDS);
-      demandEndings(known, made);
-      demandRaces(known, made);
-      demandChecks(made);
-      demandRows(free, forced);
+    describe(name.replace(".mjs", ""), () => {
+      /** @type {Awaited<ReturnType<typeof runsOf>>} */
+      let runs;
+      before(async () => {
+        runs = await runsOf(name);
+        assert.deepEqual([runs.made.length, runs.judged.length], [SEEDS, JUDGED]);
+      });
+
+      it("ends and races as it is known", async () => {
+        const { known } = await import(new URL(name, FOLDER).href);
+        const { made, judged, forced } = runs;
+        demandEndings(known, made);
+        demandRaces(known, made);
+        demandChecks(made);
+        demandRows(judged, forced);
+      });
+
+      it("races where the slow judge says so", () => runs.judged.forEach(demandOfSlowJudge));
+      it("is for the module what it is for the recorder", () => runs.judged.slice(0, ASKED).forEach(demandOfModule));
+      it("is the same for the native program", withSabsim, () => runs.judged.slice(0, ASKED).forEach(demandOfNative));
     });
   }
 });

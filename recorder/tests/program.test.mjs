@@ -25,7 +25,9 @@ function run(words, options = {}) {
   return { status, stdout, stderr };
 }
 
-const cases = (name, ...words) => [agentsPath("cases"), "--agents", "2", "--buffers", "12", ...words, "--", name];
+/** The words for two agents of `agents/cases.mjs`, without pilots, which would take twice as many workers. */
+const cases = (name, ...words) =>
+  [agentsPath("cases"), "--agents", "2", "--buffers", "12", "--everywhere", ...words, "--", name];
 
 test("if no run fails, the status is 0", () => {
   assert.deepEqual(run(cases("addition", "--seeds", "1..20", ...CHECKING)), {

@@ -8,7 +8,7 @@ import { TableRuns, findingOf } from "./helpers/program-findings.mjs";
 import { PROGRAMS, urlOf } from "./programs/table.mjs";
 
 const SEEDS = 200;
-const PARTS = 2;
+const PARTS = 1;
 
 /** Of a rare program at most one run in so many fails, if each thread that can go on is as likely. */
 const RARE = 50;
@@ -71,18 +71,8 @@ function testEach(all, how = {}) {
 
 const OF_NODE = PROGRAMS.filter(({ isWeb }) => isWeb !== true);
 
-// One thread of a program goes on at a time. So that this file isn't left alone at the end, parts go on side by side.
-describe("programs with known answers in the recorder", { concurrency: PARTS }, () => {
-  for (let part = 0; part < PARTS; part += 1) {
-    describe(`part ${part + 1}`, { concurrency: 1 }, () => testEach(OF_NODE.filter((_, at) => at % PARTS === part)));
-  }
-});
-
-describe("programs for browsers with known answers in the recorder", () => {
-  testEach(PROGRAMS.filter(({ isWeb }) => isWeb === true), { web: true });
-});
-
-describe("rare programs, if each thread that can go on is as likely", () => {
+/** Rare programs under the uniform strategy. */
+function testRare() {
   /** @type {TableRuns} */
   let runs;
   before(async () => { runs = await TableRuns.open({ strategy: "uniform", everywhere: true }); });
@@ -96,4 +86,19 @@ describe("rare programs, if each thread that can go on is as likely", () => {
       demandKnown(program, outcomes);
     });
   }
+}
+
+/** In the same threads one program is run after the other. */
+const IN_TURN = { concurrency: 1 };
+
+// One thread of a program goes on at a time. So that this file isn't left alone at the end, two parts go on side by side.
+// More would take longer, since each has threads of its own.
+describe("programs in the recorder", { concurrency: 2 }, () => {
+  describe("with known answers", IN_TURN, () => testEach(OF_NODE));
+
+  describe("of another kind", IN_TURN, () => {
+    const ofWeb = PROGRAMS.filter(({ isWeb }) => isWeb === true);
+    describe("for browsers, with known answers", IN_TURN, () => testEach(ofWeb, { web: true }));
+    describe("rare ones, if each thread that can go on is as likely", IN_TURN, testRare);
+  });
 });

@@ -9,9 +9,11 @@ import { before, describe, test } from "node:test";
 import { pathToFileURL } from "node:url";
 import { Group } from "../lib/run/group.mjs";
 import { Refused, record } from "../recorder.mjs";
-import { CASE_WORD, Cases } from "./helpers/cases.mjs";
+import { CASE_WORD } from "./helpers/case-word.mjs";
+import { Cases } from "./helpers/cases.mjs";
 import { agentsOf, temporaryFolder } from "./helpers/common.mjs";
 import { CHECKER } from "./helpers/needs.mjs";
+import { recorded } from "./helpers/recorded.mjs";
 
 const AT_ONCE = 4;
 
@@ -104,11 +106,6 @@ describe("work that goes on later", () => {
     import fs from "node:fs";
     import zlib from "node:zlib";
     import { MessageChannel, Worker, receiveMessageOnPort } from "node:worker_threads";`;
-  const text = (body) => `${IMPORTS}
-    export default function agent({ buffers }) {
-      const words = new Int32Array(buffers[0]);
-      ${body}
-    }`;
   const call = "Atomics.add(words, 1, 1);";
 
   test("fails the run, before a call and after the last one, and the run says what goes on", async (context) => {
@@ -141,15 +138,15 @@ describe("work that goes on later", () => {
   });
 
   test("a promise that is rejected, and that nobody handles, fails the run", async (context) => {
-    const cases = [
+    const bodies = [
       "(async () => { Atomics.add(words, 1, 1); throw new Error('mine'); })();",
       "Atomics.add(words, 1, 1); Promise.reject(new Error('mine'));",
     ];
-    for (const body of cases) {
-      const outcome = await recordText(context, text(body));
-      assert.equal(outcome.ending, "failed", body);
-      assert.match(outcome.detail, /^agent 0 left a rejected promise, which nobody handles: Error: mine\n/);
-    }
+    const { outcomes } = await recordBodies(context, { bodies });
+    outcomes.forEach(({ ending, detail }, at) => {
+      assert.equal(ending, "failed", bodies[at]);
+      assert.match(detail, /^agent 0 left a rejected promise, which nobody handles: Error: mine\n/);
+    });
   });
 
   test("what a listener of an EventTarget throws fails the run, and is reported", async (context) => {
@@ -159,16 +156,15 @@ describe("work that goes on later", () => {
       `${call} ${listen.replace("BODY", "null.none;")} try { target.dispatchEvent(new Event('go')); } catch {}`,
       `${call} ${listen.replace("BODY", "throw 5;")} target.dispatchEvent(new Event('go'));`,
     ];
-    const outcomes = await madeOfEach(bodies, (body) => recordText(context, text(body)));
+    const quiet = `${listen.replace("BODY", "Atomics.add(words, 0, 1);")} target.dispatchEvent(new Event('go'));`;
+    const { outcomes } = await recordBodies(context, { bodies: [...bodies, quiet] });
+    assert.equal(outcomes.pop().ending, "finished");
     const thrown = [/: RangeError: mine\n +at .*agents\.mjs:\d+:\d+/, /: TypeError: Cannot read [^\n]*\n +at /, /: 5$/];
     outcomes.forEach(({ ending, detail }, at) => {
       assert.equal(ending, "failed", bodies[at]);
       assert.ok(detail.startsWith("agent 0 has a listener that threw, which nobody catches: "), detail);
       assert.match(detail, thrown[at]);
     });
-    const quiet = listen.replace("BODY", "Atomics.add(words, 0, 1);");
-    const { ending } = await recordText(context, text(`${quiet} target.dispatchEvent(new Event('go'));`));
-    assert.equal(ending, "finished");
   });
 
   test("what has done all of its work at once is no failure", async (context) => {
@@ -223,9 +219,14 @@ describe("a patched language", () => {
     later: "goes on later, by setImmediate",
   };
 
+  /** @type {Map<string, ReturnType<typeof patched>>} the runs without any patch, by their ends and options */
+  const unpatched = new Map();
+
   /** Under each of some patches a run ends as it does without any. */
-  async function demandSame(patches, end, others) {
-    const expected = await patched(NOTHING, end, others);
+  async function demandSame(patches, end, others = {}) {
+    const key = JSON.stringify([end, others]);
+    if (!unpatched.has(key)) unpatched.set(key, patched(NOTHING, end, others));
+    const expected = await unpatched.get(key);
     const outcomes = await madeOfEach(patches, (patch) => patched(patch, end, others));
     outcomes.forEach((outcome, at) => assert.deepEqual(outcome, expected, patches[at].join(" ")));
     return expected;
@@ -532,7 +533,9 @@ describe("clocks", () => {
         if (answer === "timed-out" && performance.now() < until) throw new Error("too early");
       }
       Atomics.notify(words, 1);`;
-    const outcomes = await madeOfEach([1, 2, 3, 4], (seed) => recordText(context, text(body), { agents: 3, seed }));
+    const module = join(temporaryFolder(context), "agents.mjs");
+    writeFileSync(module, text(body));
+    const outcomes = await recorded({ ...HOW, module, agents: 3 }, [1, 2, 3, 4]);
     for (const { ending, detail } of outcomes) assert.deepEqual([ending, detail], ["finished", ""]);
   });
 

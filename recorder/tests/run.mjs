@@ -20,11 +20,13 @@ const BUILT = fileURLToPath(new URL("../../crates/sabsim/out/sabsim", import.met
 
 // The files that take the most processor time begin first, so that none of them is left alone at the end.
 const SLOWEST = [
-  "programs-known", "page-schedule", "known", "realm", "explore", "program", "seeds", "jobs", "examples",
-  "race-programs", "timed", "known-judged", "programs-in-node", "wrong", "bench", "pilots", "program-same", "runs",
-  "checks", "first-again", "shards", "library", "judged", "rows", "judge", "program-library", "program-replay",
-  "testing", "unseen", "shorter", "program-strategy", "program-again", "conversions", "catches-all", "strategy",
-  "written", "unrecorded", "program-output", "replay",
+  "programs-known", "known", "page-schedule", "program", "realm", "jobs", "explore", "seeds", "race-programs",
+  "programs-in-node", "timed", "program-real", "pilots", "examples", "program-threads", "program-web", "shards",
+  "wrong", "runs", "program-replay", "program-same", "rows", "checks", "first-again", "program-beyond", "judge",
+  "bench", "program-windows", "catches-all", "shorter", "library", "program-library", "program-exact",
+  "program-helpers", "judged", "program-pilots", "written", "testing", "program-again", "program-wasm",
+  "referee-thread", "unseen", "conversions", "engine", "spins", "unrecorded", "program-output", "replay",
+  "program-strategy",
 ].map((name) => `${name}.test.mjs`);
 
 /**

@@ -6,6 +6,7 @@ import { test } from "node:test";
 import { Group } from "../lib/run/group.mjs";
 import { Difference, NoSabsim, Refused, record } from "../recorder.mjs";
 import { NAMES } from "./agents/refused.mjs";
+import { Cases } from "./helpers/cases.mjs";
 import { agentsOf, agentsPath, recordCase, temporaryFolder } from "./helpers/common.mjs";
 import { CHECKER } from "./helpers/needs.mjs";
 import { placesOf, recorded } from "./helpers/recorded.mjs";
@@ -189,11 +190,10 @@ test("if an agent runs out of stack during a call, the run fails with that messa
 
 const REFUSED_LINES = readFileSync(agentsPath("refused"), "utf8").split("\n");
 
-test("each call that no script can have is refused by name and line, even where the agent catches it", async () => {
-  const outcomes = await Promise.all(NAMES.map((name) => {
-    const options = { args: [name], agents: 2, buffers: [16], sabsim: false, everywhere: true };
-    return record({ module: agentsPath("refused"), ...options });
-  }));
+test("each call that no script can have is refused by name and line, also if the agent catches it", async (context) => {
+  const cases = new Cases({ module: agentsPath("refused"), agents: 2, buffers: [16], everywhere: true });
+  context.after(() => cases.close());
+  const outcomes = await Promise.all(NAMES.map((_, at) => cases.outcomeOf(at)));
   outcomes.forEach(({ ending, detail }, at) => {
     assert.equal(ending, "failed", NAMES[at]);
     const refusal = /^agent 1 made a call that the recorder can't record: Error: Atomics\.[a-zA-Z]+: .*: .*\n +at /;

@@ -215,7 +215,7 @@ test("merge.mjs reports wrong words and files with status 2, and prints its help
 test("merge.mjs ends with status 0 if no run of any shard failed", async (context) => {
   const folder = temporaryFolder(context);
   const module = agentsOf(folder, "Atomics.add(new Int32Array(buffers[0]), 0, 1);");
-  const words = [module, "--agents", "2", "--buffers", "4", "--seeds", "1..4", "--check", "0"];
+  const words = [module, "--agents", "2", "--buffers", "4", "--seeds", "1..4", "--check", "0", "--everywhere"];
   const lines = await Promise.all(["1/2", "2/2"].map((shard) => summaryOf([...words, "--shard", shard])));
   const { status, stdout } = await ran([MERGE, "-"], { input: lines.map((line) => JSON.stringify(line)).join("\n") });
   assert.equal(status, 0);
@@ -235,6 +235,34 @@ test("the JSON summary reports a job that died, in its member `problems`", async
   assert.deepEqual([status, stderr], [3, `record: ${problem}\n`]);
   assert.deepEqual(stopped, { why: "stopped", wanted: 9 });
   assert.ok(runs < 9, stdout);
+});
+
+test("a shard whose job dies in its first run has a JSON summary, which is joined to the others", async (context) => {
+  const module = agentsOf(temporaryFolder(context), `
+    Atomics.add(new Int32Array(buffers[0]), 0, 1);
+    if (process.env.RECORDER_TEST === "dies") process.kill(process.pid, "SIGKILL");
+  `);
+  const words = [module, "--agents", "1", "--buffers", "4", "--seeds", "1..4", "--check", "0", "--format", "json"];
+  const env = { ...process.env, RECORDER_TEST: "dies" };
+  const [died, other] = await Promise.all([
+    ran([RECORD, ...words, "--shard", "1/2"], { env }), ran([RECORD, ...words, "--shard", "2/2"]),
+  ]);
+  const { problems: [problem], stopped, runs } = JSON.parse(died.stdout);
+  assert.match(problem, /\(SIGKILL\), and nothing is known of the seeds 1 to 2$/);
+  assert.deepEqual([died.status, died.stderr], [3, `record: ${problem}\n`]);
+  assert.deepEqual([runs, stopped], [0, { why: "stopped", wanted: 2 }]);
+  const { status, stdout, stderr } = await ran([MERGE, "-"], { input: died.stdout + other.stdout });
+  assert.deepEqual([status, stderr], [3, `merge: ${problem}\n`]);
+  assert.match(stdout, /^stopped after 2 of 4 runs\n2 runs: 2 finished\n/);
+});
+
+test("a module that is refused when it is loaded has no summary", async (context) => {
+  const module = join(temporaryFolder(context), "agents.mjs");
+  writeFileSync(module, "throw new Error('no agents');\nexport default () => {};\n");
+  const words = [module, "--agents", "1", "--buffers", "4", "--format", "json"];
+  const { status, stdout, stderr } = await ran([RECORD, ...words]);
+  assert.deepEqual([status, stdout], [2, ""]);
+  assert.match(stderr, /^record: .*agents\.mjs can't be loaded: /);
 });
 
 const hasParallel = spawnSync("parallel", ["--version"]).status === 0;

@@ -12,6 +12,7 @@ import { FLAG } from "../lib/memory/log.mjs";
 import { OPTIONS } from "../lib/options/table.mjs";
 import { Pilots } from "../lib/run/pilots.mjs";
 import { Coverage } from "../lib/seeds/coverage.mjs";
+import { emptyMemory } from "./helpers/boards.mjs";
 import { logOf } from "./helpers/logs.mjs";
 
 const { READS, WRITES, WAITERS } = FLAG;
@@ -25,10 +26,11 @@ const call = (word, how) => ({ from: word * 4, to: word * 4 + 4, how });
  * @param {{ from: number, to: number, how: number }[]} calls of each agent
  * @param {{ seed?: number, everywhere?: boolean, timeouts?: number, know?: (places: KnownPlaces) => void }} [options]
  */
-function asking(strategy, calls, { seed = 1, everywhere = false, timeouts = 0.05, know = () => {} } = {}) {
+function asking(strategy, calls, { seed = 1, everywhere = false, timeouts = 0.05, know } = {}) {
   const ways = waysOf(strategy, everywhere);
-  const board = new Board(Board.memory(), { agents: calls.length, ways, maxMoves: 100_000, timeouts });
-  know(board.places);
+  const memory = know === undefined ? emptyMemory() : Board.memory();
+  const board = new Board(memory, { agents: calls.length, ways, maxMoves: 100_000, timeouts });
+  know?.(board.places);
   board.begin(seed);
   for (let agent = 1; agent < calls.length; agent += 1) board.pass(agent - 1);
   calls.forEach(({ from, to, how }, agent) => ask(board, agent, from, to, how));

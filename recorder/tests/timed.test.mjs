@@ -7,6 +7,7 @@ import { tmpdir } from "node:os";
 import { join } from "node:path";
 import { after, describe, it } from "node:test";
 import { Summary } from "../lib/command/summary.mjs";
+import { defaultsOf } from "../lib/options/table.mjs";
 import { durationText, earlyText } from "../lib/run/timed-ends.mjs";
 import { FirstFailing, comesBefore } from "../lib/run/order.mjs";
 import { shorten } from "../lib/shorter/shorten.mjs";
@@ -17,9 +18,21 @@ import { groupOf } from "./helpers/groups.mjs";
 import { runNode } from "./helpers/programs.mjs";
 import { placesOf, recorded, seedsTo, summaryLines } from "./helpers/recorded.mjs";
 
-/** The outcomes of a program. */
-const outcomesOf = (name, seeds, options = {}) =>
-  recorded({ module: agentsPath("timed"), args: [name], ...options }, seedsTo(seeds));
+const { timeouts: DEFAULT_TIMEOUTS } = defaultsOf("record");
+
+/** @type {Map<string, { seeds: number, outcomes: Promise<import("../lib/run/outcome.mjs").Outcome[]> }>} */
+const made = new Map();
+
+/** The outcomes of a program. Tests that ask for the same runs share them. */
+async function outcomesOf(name, seeds, options = {}) {
+  const asked = { module: agentsPath("timed"), args: [name], timeouts: DEFAULT_TIMEOUTS, ...options };
+  const key = JSON.stringify(asked);
+  const known = made.get(key);
+  const isEnough = known !== undefined && known.seeds >= seeds;
+  const { outcomes } = isEnough ? known : { outcomes: recorded(asked, seedsTo(seeds)) };
+  if (!isEnough) made.set(key, { seeds, outcomes });
+  return (await outcomes).slice(0, seeds);
+}
 
 /** The words of the buffer at the end. */
 const wordsOf = ({ bytes }) => [...new Int32Array(Uint8Array.from(Buffer.from(bytes[0], "hex")).buffer)];
@@ -45,7 +58,7 @@ describe("runs with timed waits", { concurrency: 2 }, () => {
   it("a sleeper doesn't starve beside a spin, nor beside an agent that polls", async () => {
     for (const timeouts of [0, 0.05]) {
       for (const name of ["spins", "polls"]) {
-        const outcomes = await outcomesOf(name, 10, { timeouts });
+        const outcomes = await outcomesOf(name, 50, { timeouts });
         assert.deepEqual(endingsOf(outcomes), ["finished"]);
         for (const { calls } of outcomes) assert.ok(calls < 700, `${calls} calls`);
       }

@@ -4,6 +4,7 @@ import { setImmediate as turn } from "node:timers/promises";
 import { Difference } from "../check/difference.mjs";
 import { Keeper, missingFiles } from "../keeping/keep.mjs";
 import { collectGarbage, onceMore, stopGrowth } from "../processes/garbage.mjs";
+import { Refused } from "../options/refused.mjs";
 import { preloads } from "../processes/preloads.mjs";
 import { isFirstOfAll } from "../run/order.mjs";
 import { Coverage } from "../seeds/coverage.mjs";
@@ -178,11 +179,21 @@ export class Session {
 
   /** @param {unknown} stopped why not all runs were made, if so @param {unknown[]} problems all that went wrong */
   async #print(stopped, problems) {
-    const interrupted = stopped instanceof Interrupted;
-    if (stopped !== undefined && !interrupted && this.summary.runs === 0) return;
-    const why = interrupted ? stopped.message : "stopped";
+    if (this.#isWithoutSummary(stopped)) return;
+    const why = stopped instanceof Interrupted ? stopped.message : "stopped";
     const stop = stopped === undefined ? null : { why, wanted: this.wanted };
     await print(formatted(this.#data(stop, problems), this.options.format));
+  }
+
+  /**
+   * Whether no summary is printed, since what went wrong says all. One in JSON reports that itself, and can be joined to
+   * those of other shards.
+   * @param {unknown} stopped why not all runs were made, if so
+   */
+  #isWithoutSummary(stopped) {
+    const { options: { format }, summary } = this;
+    if (stopped === undefined || stopped instanceof Interrupted || summary.runs > 0) return false;
+    return format === "plain" || stopped instanceof Refused;
   }
 
   /**

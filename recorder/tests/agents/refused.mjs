@@ -1,4 +1,6 @@
-// One agent that makes a call which no script can have; the first argument says which.
+// One agent that makes a call which no script can have; a word of the buffer says which.
+
+import { CASE_WORD } from "../helpers/case-word.mjs";
 
 const REFUSED = {
   infinity: (words) => Atomics.store(words, 0, Infinity),
@@ -22,11 +24,11 @@ const REFUSED = {
 
 export const NAMES = Object.keys(REFUSED);
 
-export default function agent({ buffers, agent: number, args }) {
+export default function agent({ buffers, agent: number }) {
   const words = new Int32Array(buffers[0]);
-  if (number === 0) return void Atomics.store(words, 3, 1);
+  if (number === 0) return void Atomics.store(words, 2, 1);
   try {
-    REFUSED[args[0]](words, new BigInt64Array(buffers[0]));
+    REFUSED[NAMES[words[CASE_WORD]]](words, new BigInt64Array(buffers[0]));
   } catch {
     // That it is caught doesn't save the run.
   }

@@ -2,12 +2,10 @@
 
 import { checkedOptions } from "../../lib/library/library-options.mjs";
 import { Job } from "../../lib/seeds/job.mjs";
+import { CASE_WORD } from "./case-word.mjs";
 import { CHECKER } from "./needs.mjs";
 
 /** @typedef {import("../../lib/seeds/job.mjs").Checked} Checked */
-
-/** In this word of the first buffer, of 32 bits, agents find which case they try. */
-export const CASE_WORD = 3;
 
 export class Cases {
   /** @type {Job | undefined} undefined: it isn't there yet, or a run has broken it */

@@ -1,18 +1,25 @@
-// A process that runs known programs, one after the other, each by a job in this process: so no process is started for
+// A process that runs known programs, one after the other, each by a group in this process: so no process is started for
 // a program, and no outcome goes from process to process. What it is asked for is in `known.test.mjs`.
 
+import { checkedBy } from "../../lib/check/check.mjs";
+import { Repeats } from "../../lib/check/repeats.mjs";
 import { collectGarbage, onceMore, stopGrowth } from "../../lib/processes/garbage.mjs";
-import { Job } from "../../lib/seeds/job.mjs";
+import { Group } from "../../lib/run/group.mjs";
+import { simulatorAt } from "../../lib/simulator/chosen.mjs";
 import { CHECKER } from "./needs.mjs";
+import { lasting } from "./recorded.mjs";
 
 /** @typedef {import("../../lib/seeds/job.mjs").Checked} Checked */
+/** @typedef {import("../../lib/run/outcome.mjs").Aside} Aside */
+/** @typedef {import("../../lib/run/outcome.mjs").Judgement} Judgement */
 
 /**
  * @typedef {object} Question
  * @property {string} module the URL of the program
  * @property {number} seeds how many seeds are run, from 1 on
  * @property {number} checkEvery one in so many runs has all members and is checked
- * @property {number[]} again the seeds whose runs are made once more by their rows
+ * @property {number} judged how many seeds are run once more, each with its trace
+ * @property {number} again how many of these are made once more by their rows
  */
 
 /**
@@ -26,46 +33,66 @@ import { CHECKER } from "./needs.mjs";
  * @property {string | undefined} noScript
  */
 
+/** @typedef {{ outcome: Checked, judgement: Judgement, stray: Aside["stray"] }} Judged all that is known of a run */
+
 /** @param {Checked} outcome @returns {Made} */
 const madeOf = ({ seed, ending, races, bytes, checked, scriptHolds, noScript }) =>
   ({ seed, ending, races: races.map(({ lines }) => lines), isWhole: bytes !== undefined, checked, scriptHolds, noScript });
 
-/**
- * Makes runs in a job, each of which becomes something.
- * @template Kept
- * @param {Job} job
- * @param {import("../../lib/run/outcome.mjs").Wanted[]} wanted
- * @param {(outcome: Checked) => Kept} keep
- */
-async function runsOf(job, wanted, keep) {
-  /** @type {Kept[]} */
-  const kept = [];
-  await job.run(wanted, (outcome) => {
-    kept.push(keep(outcome));
-    onceMore();
-  });
-  return kept;
+/** @param {Checked} outcome @param {Judgement} judgement @param {Aside} aside @returns {Judged} */
+const judgedOf = (outcome, judgement, { stray }) => ({ outcome, judgement: lasting(judgement), stray });
+
+/** The runs of a program. */
+class Runs {
+  #simulator = simulatorAt(CHECKER);
+
+  // The native program is asked about each run.
+  #repeats = CHECKER === undefined ? new Repeats() : undefined;
+
+  /** @param {Group} group @param {number} every */
+  constructor(group, every) {
+    this.group = group;
+    this.every = every;
+  }
+
+  /**
+   * Makes runs, checks them, and makes something of each.
+   * @template Kept
+   * @param {import("../../lib/run/outcome.mjs").Wanted[]} wanted
+   * @param {(outcome: Checked, judgement: Judgement, aside: Aside) => Kept} keep
+   * @returns {Promise<Kept[]>}
+   */
+  async made(wanted, keep) {
+    /** @type {Kept[]} */
+    const kept = [];
+    await this.group.run(wanted, (outcome, judgement, aside) => {
+      const checked = checkedBy(this.#simulator, { outcome, judgement, aside }, this.every, this.#repeats);
+      kept.push(keep(checked, judgement, aside));
+      onceMore();
+    });
+    return kept;
+  }
 }
 
 /**
- * How the runs of a program end, and a few runs that are made once more by their rows.
+ * How the runs of a program end, a few runs with all that is known of them, and some of these made by their rows.
  * @param {Question} question
- * @returns {Promise<{ made: Made[], free: Checked[], forced: Checked[] }>}
+ * @returns {Promise<{ made: Made[], judged: Judged[], forced: Judged[] }>}
  */
-async function answerTo({ module, seeds, checkEvery, again }) {
-  const job = new Job();
-  const whole = (/** @type {Checked} */ outcome) => outcome;
+async function answerTo({ module, seeds, checkEvery, judged: most, again }) {
+  const options = { module, args: [], maxMoves: 100_000, seconds: 5, fresh: false };
+  const group = await Group.open(options, () => simulatorAt(CHECKER).prepare());
   try {
-    const checking = { checks: true, checkEvery, sabsim: CHECKER };
-    await job.open({ module, args: [], ...checking, maxMoves: 100_000, seconds: 5, fresh: false });
     stopGrowth();
+    const runs = new Runs(group, checkEvery);
     const wanted = Array.from({ length: seeds }, (_, at) => ({ seed: at + 1, whole: at % checkEvery === 0 }));
-    const made = await runsOf(job, wanted, madeOf);
-    const free = await runsOf(job, again.map((seed) => ({ seed, whole: true, wantsRow: true })), whole);
-    const byRow = free.map(({ seed, row }) => ({ seed, whole: true, wantsRow: true, row, isExact: true }));
-    return { made, free, forced: await runsOf(job, byRow, whole) };
+    const made = await runs.made(wanted, madeOf);
+    const whole = { whole: true, needsTrace: true, wantsRow: true };
+    const judged = await runs.made(wanted.slice(0, most).map(({ seed }) => ({ ...whole, seed })), judgedOf);
+    const rows = judged.slice(0, again).map(({ outcome: { seed, row } }) => ({ ...whole, seed, row, isExact: true }));
+    return { made, judged, forced: await runs.made(rows, judgedOf) };
   } finally {
-    await job.close();
+    await group.close();
   }
 }
 

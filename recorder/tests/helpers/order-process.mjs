@@ -14,9 +14,10 @@ const always = { ...defaultsOf("record"), timeouts, isProgram: true, seconds: 20
 const options = { ...always, ...JSON.parse(own) };
 const group = /** @type {ProgramGroup} */ (await ProgramGroup.open(options));
 for (const url of urls) {
+  group.enter(url);
   for (let seed = 1; seed <= Number(seeds); seed += 1) {
-    group.enter(url);
-    await group.run([{ seed, whole: false }], ({ ending, detail }) => console.log(JSON.stringify({ ending, detail })));
+    const wanted = { seed, whole: false, isShown: true };
+    await group.run([wanted], ({ ending, detail }) => console.log(JSON.stringify({ ending, detail })));
     writeSync(STDERR, "\0\n");
   }
 }

@@ -1,0 +1,23 @@
+// One memory for the boards of tests that make thousands of them, one after the other, in one thread: to get new memory
+// takes longer than what is tried on a board.
+
+import assert from "node:assert/strict";
+import { after } from "node:test";
+import { Board } from "../../lib/board/board.mjs";
+
+const MEMORY = Board.memory();
+
+// What is large isn't written to as long as no run ends, none goes by a row or wants its own, and no place is known.
+const { text, reasons, places, row, ...written } = MEMORY;
+
+after(() => {
+  for (const buffer of [text, reasons, places, ...Object.values(row)]) {
+    assert.ok(new Uint8Array(buffer).every((byte) => byte === 0));
+  }
+});
+
+/** @returns {import("../../lib/board/board.mjs").BoardMemory} as new; no board that had it before may be in use */
+export function emptyMemory() {
+  for (const buffer of Object.values(written)) new Uint8Array(buffer).fill(0);
+  return MEMORY;
+}
