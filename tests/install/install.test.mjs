@@ -345,7 +345,7 @@ test("with a program it replays what was recorded, and checks", withProgram, asy
 
   await the.test("runs are checked by it if it is chosen, and else by the module", () => {
     const chosen = recorded(folder, ["--sabsim", join(place, "sabsim")]);
-    assert.match(chosen.output, /^every run .* by sabsim \(program\): it agrees with the recorder$/m);
+    assert.match(chosen.output, /^every run .* by sabsim \(native program\): it agrees with the recorder$/m);
     const { seed, output } = recorded(folder, ["--out", "found"]);
     assert.match(output, CHECKED);
     const kept = (ending) => join(folder, `found/seed-${seed}.${ending}`);
