@@ -22,7 +22,7 @@ const ORDERS = [[1, 2, 3, 1, 2, 3], [50, 3, 51, 2, 2, 52, 1, 53, 3, 1]];
  */
 async function runsOf(name, seeds) {
   const module = urlOf(PROGRAMS.find((program) => program.name === name) ?? assert.fail(name)).href;
-  const job = new RemoteJob(startJob(true));
+  const job = new RemoteJob(startJob({ isProgram: true }));
   /** @type {Map<number, string[]>} */
   const runs = new Map(COMPARED.map((seed) => [seed, []]));
   try {

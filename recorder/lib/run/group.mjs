@@ -8,7 +8,7 @@ import { waysOf } from "../board/strategy/ways.mjs";
 import { needsRightNames, planOf } from "../options/plan.mjs";
 import { Refused } from "../options/refused.mjs";
 import { defaultsOf } from "../options/table.mjs";
-import { FIRST_AGENTS } from "../processes/first-workers.cjs";
+import { firstWorkers, learns } from "../processes/first-workers.cjs";
 import { framesOf } from "../processes/place-of-thread.mjs";
 import { begunThread } from "../processes/thread.mjs";
 import { problemIn } from "./given-calls.mjs";
@@ -70,22 +70,6 @@ import { within } from "./within.mjs";
 
 const DEFAULT_LOAD_SECONDS = 30;
 const AGENT_MODULE = new URL("../agent/worker.mjs", import.meta.url);
-
-/**
- * How many agents' workers begin before it is known how many agents the module wants.
- * @param {{ agents?: number, everywhere: boolean }} options
- */
-function firstWorkers({ agents, everywhere }) {
-  if (agents === undefined) return FIRST_AGENTS;
-  return Math.min(FIRST_AGENTS, learns(agents, everywhere) ? 2 * agents : agents);
-}
-
-/**
- * Whether pilots are made, after which each agent has another worker. A single agent meets nobody.
- * @param {number} agents
- * @param {boolean} everywhere
- */
-const learns = (agents, everywhere) => !everywhere && agents > 1;
 
 /**
  * A part of a group, which is there when it has started.

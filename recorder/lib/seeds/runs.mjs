@@ -228,7 +228,7 @@ export class Runs {
   }
 
   #newJob() {
-    return new RemoteJob(startJob(this.options.isProgram));
+    return new RemoteJob(startJob(this.options));
   }
 
   /** @param {AnyJob} job */

@@ -4,14 +4,14 @@
 
 const { fork } = require("node:child_process");
 const { fileURLToPath, pathToFileURL } = require("node:url");
-const { FIRST_AGENTS, FIRST_THREADS } = require("../processes/first-workers.cjs");
+const { FIRST_THREADS, firstWorkers } = require("../processes/first-workers.cjs");
 const { GRAPH_FLAGS } = require("../program/graph-flags.cjs");
 
 const own = pathToFileURL(__filename);
 const PROGRAM = fileURLToPath(new URL("../processes/own-process.cjs", own));
 const MODULE = new URL("./job-process.mjs", own).href;
 const REFEREE = new URL("../run/referee.mjs", own).href;
-const AGENTS = [new URL("../agent/worker.mjs", own).href, String(FIRST_AGENTS)];
+const AGENT = new URL("../agent/worker.mjs", own).href;
 const THREADS = [new URL("../program/worker.mjs", own).href, String(FIRST_THREADS), ...GRAPH_FLAGS];
 
 // The words by which node's command line itself has the program, and those that say what kind it is.
@@ -38,14 +38,21 @@ function jobWords(words) {
 }
 
 /**
- * @param {boolean} [isProgram] whether it runs a program of several threads, whose workers begin otherwise
+ * @typedef {object} Known what is known of the runs, so that no more workers begin than are needed
+ * @property {boolean} [isProgram] whether it runs a program of several threads, whose workers begin in another way
+ * @property {number} [agents] how many; undefined: the module says it
+ * @property {boolean} [everywhere] whether no pilots are made
+ */
+
+/**
+ * @param {Known} [known]
  * @returns {import("node:child_process").ChildProcess} which leads a group of processes
  */
-function startJob(isProgram = false) {
+function startJob(known = {}) {
   const stdio = ["ignore", "inherit", "inherit", "ipc"];
   const execArgv = jobWords(process.execArgv);
-  const words = [MODULE, REFEREE, ...(isProgram ? THREADS : AGENTS)];
-  return fork(PROGRAM, words, { stdio, execArgv, serialization: "advanced", detached: true, windowsHide: true });
+  const workers = known.isProgram ? THREADS : [AGENT, String(firstWorkers(known))];
+  return fork(PROGRAM, [MODULE, REFEREE, ...workers], { stdio, execArgv, serialization: "advanced", detached: true, windowsHide: true });
 }
 
 module.exports = { jobWords, startJob };
