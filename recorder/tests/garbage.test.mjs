@@ -20,7 +20,7 @@ function printed(code) {
   return stdout;
 }
 
-test("a process that asks for it collects its garbage once in 2,048 times, and so do its threads", () => {
+test("a process that asks for it collects its garbage once in 1,024 times, and so do its threads", () => {
   assert.equal(printed(`collectGarbage();\n${PRINTING}`), "true false\n");
   assert.equal(printed(PRINTING), "true true\n");
   const inThread = `import("${GARBAGE}").then(async ({ onceMore }) => {${PRINTING}});`;

@@ -10,7 +10,7 @@ import { Script, createContext } from "node:vm";
 import { getEnvironmentData, setEnvironmentData } from "node:worker_threads";
 
 // Collecting takes some milliseconds, so it is done seldom.
-const OFTEN_ENOUGH = 2_048;
+const OFTEN_ENOUGH = 1_024;
 
 /** What shows the engine's own way to collect to all code of contexts that begin from now on, and what ends that. */
 const SHOWN = "--expose-gc";

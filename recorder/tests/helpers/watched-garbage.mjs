@@ -5,7 +5,7 @@ export const WATCHING = `async (onceMore) => {
   const turn = () => new Promise((done) => setImmediate(done));
   const watched = new WeakRef({});
   await turn();
-  for (let time = 1; time < 2_048; time += 1) onceMore();
+  for (let time = 1; time < 1_024; time += 1) onceMore();
   const before = watched.deref() !== undefined;
   await turn();
   onceMore();
