@@ -9,13 +9,11 @@ const { startJob } = require("./lib/seeds/start-job.cjs");
 const words = process.argv.slice(2);
 /** @param {RegExp} pattern @returns {boolean} */
 const hasWord = (pattern) => words.some((word) => pattern.test(word));
-/** @param {string} option @returns {string | undefined} its value, if it is given */
-const valueOf = (option) => /=(.*)/.exec(words.find((word) => word.startsWith(`${option}=`)) ?? "")?.[1]
-  ?? (words.includes(option) ? words[words.indexOf(option) + 1] : undefined);
+const [, agents] = /^--agents[=\n](\d+)$/m.exec(words.join("\n")) ?? [];
 const known = {
   isProgram: hasWord(/^--program(=|$)/),
-  agents: Number(valueOf("--agents")) || undefined,
-  everywhere: words.includes("--everywhere"),
+  agents: agents === undefined ? undefined : Number(agents),
+  everywhere: hasWord(/^--everywhere$/),
 };
 const child = hasWord(/^(-[hV]$|--(help|version|replay))/) ? undefined : startJob(known);
 const { evaluated, ownModules } = require("./lib/processes/own-modules.cjs");

@@ -7,6 +7,7 @@ import { test } from "node:test";
 import { setTimeout as sleep } from "node:timers/promises";
 import { pathToFileURL } from "node:url";
 import { compileFunction } from "node:vm";
+import { firstWorkers } from "../lib/processes/first-workers.cjs";
 import { Thread, beginThreads, begunThread } from "../lib/processes/thread.mjs";
 import { temporaryFolder } from "./helpers/common.mjs";
 
@@ -60,6 +61,12 @@ for (const ownPort of [false, true]) {
     assert.equal(await endOf('throw "words";'), "it threw words");
   });
 }
+
+test("no more agents' workers begin than the options say are needed", () => {
+  const cases = [[{}, 4], [{ everywhere: true }, 4], [{ agents: 1 }, 1], [{ agents: 2 }, 4], [{ agents: 3 }, 4]];
+  cases.push([{ agents: 2, everywhere: true }, 2], [{ agents: 16, everywhere: true }, 4]);
+  for (const [known, count] of cases) assert.equal(firstWorkers(known), count, JSON.stringify(known));
+});
 
 test("the error is kept, and a listener for the end gets it as text", async (context) => {
   const thread = threadOf(context, 'throw new TypeError("mine");');

@@ -3,8 +3,8 @@
 import { setImmediate as turn } from "node:timers/promises";
 import { Difference } from "../check/difference.mjs";
 import { Keeper, missingFiles } from "../keeping/keep.mjs";
-import { collectGarbage, onceMore, stopGrowth } from "../processes/garbage.mjs";
 import { Refused } from "../options/refused.mjs";
+import { collectGarbage, onceMore, stopGrowth } from "../processes/garbage.mjs";
 import { preloads } from "../processes/preloads.mjs";
 import { isFirstOfAll } from "../run/order.mjs";
 import { Coverage } from "../seeds/coverage.mjs";

@@ -1,6 +1,6 @@
-// How a thread of a browser ends: by `close`, or by another thread. An error that nobody catches doesn't end it. It
-// comes to the thread's global object, then to the Worker object for which the thread runs, and so on. If it meets no
-// listener, the run fails.
+// How a thread of a browser ends: by `close`, or by another thread. An error that nobody catches doesn't end it. The
+// thread's global object gets an event, then the Worker object that started the thread, and so on. If none of them has
+// a listener, the run fails.
 
 import process from "node:process";
 import { described } from "../../agent/described.mjs";
