@@ -20,7 +20,7 @@ const SEEDS = 500;
 
 const CHECKED = 25;
 
-/** Of how many seeds the runs are judged by others; how many of these are asked of the simulator, and made by rows. */
+/** For so many seeds others judge the run. About so many of these the simulator is asked; so many are made by rows. */
 const JUDGED = 5;
 const ASKED = 2;
 const BY_ROWS = 2;
@@ -34,7 +34,7 @@ const processes = new AskedProcesses("recorder/tests/helpers/known-process.mjs",
 after(() => processes.end());
 
 /**
- * What the runs of a program come to, a few runs with all that is known of them, and some of these made by their rows.
+ * How the runs of a program end, a few runs with all that is known about them, and some of these made by their rows.
  * @param {string} name of its file
  * @returns {Promise<{ made: Made[], judged: Judged[], forced: Judged[] }>}
  */
@@ -92,7 +92,7 @@ function demandRaces({ races = [] }, made) {
   assert.deepEqual(shown(found), [], "races that aren't known");
 }
 
-/** Every run that was handed on whole has a script with all of its ordinary writes, and the simulator has checked it. */
+/** Every run that was handed on whole has a script with all its ordinary writes, and the simulator has checked it. */
 function demandChecks(made) {
   const whole = made.filter(({ isWhole }) => isWhole);
   assert.deepEqual(whole.filter(({ scriptHolds }) => scriptHolds !== "all").map(({ noScript }) => noScript), []);

@@ -1,4 +1,4 @@
-// `sabsim.mjs` where no program is built: what it reads, and how it ends if it can't do what it is asked for.
+// `sabsim.mjs` if no program is built: what it reads, and how it ends if it can't do what it is asked for.
 
 import assert from "node:assert/strict";
 import { spawn, spawnSync } from "node:child_process";

@@ -1,5 +1,5 @@
-// One memory for the boards of tests that make thousands of them, one after the other, in one thread: to get new memory
-// takes longer than what is tried on a board.
+// One memory for tests that make thousands of boards, one after the other, in one thread. New memory would take longer
+// than what is tried on a board.
 
 import assert from "node:assert/strict";
 import { after } from "node:test";
@@ -7,7 +7,7 @@ import { Board } from "../../lib/board/board.mjs";
 
 const MEMORY = Board.memory();
 
-// What is large isn't written to as long as no run ends, none goes by a row or wants its own, and no place is known.
+// The large parts stay empty in these tests: no run ends or has a row, and no place is known.
 const { text, reasons, places, row, ...written } = MEMORY;
 
 after(() => {

@@ -1,5 +1,5 @@
-// What is demanded of a run of a known program that is judged: it races where the slow judge finds that in its trace, and
-// the simulator's module and the native program say about its script and trace what the recorder does.
+// The demands on a judged run of a known program. It races if the slow judge finds that in its trace. The simulator's
+// module and the native program say the same about its script and trace as the recorder.
 
 import assert from "node:assert/strict";
 import { Log } from "../../lib/memory/log.mjs";
@@ -21,7 +21,7 @@ function sideOf({ agent, read, write, atomic, block, byte, size, call, source })
 }
 
 /**
- * A run has races where the slow judge finds some in its trace, and the first later access is the same.
+ * A run has races exactly if the slow judge finds some in its trace, and the first later access is the same.
  * @param {Judged} run
  */
 export function demandOfSlowJudge({ outcome: { seed, races, trace } }) {
