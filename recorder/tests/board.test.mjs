@@ -1,11 +1,14 @@
 // Turns, waiters, who moves next, and ends, in one thread: the board as its threads would use it.
 
 import assert from "node:assert/strict";
+import { once } from "node:events";
 import { test } from "node:test";
+import { Worker } from "node:worker_threads";
 import { Board } from "../lib/board/board.mjs";
 import { STEP } from "../lib/board/clock.mjs";
 import { JOIN, LEAVE, MAKE, TIME_UP } from "../lib/board/journal.mjs";
 import { waysOf } from "../lib/board/strategy/ways.mjs";
+import { Turn } from "../lib/board/turn.mjs";
 import { ORDER, PHASE, WORD } from "../lib/memory/layout.mjs";
 
 const RULES = { ways: waysOf("uniform", true), maxMoves: 100_000, timeouts: 0.05 };
@@ -150,6 +153,45 @@ test("an earlier run's state starts no agent: an agent begins once for each orde
   assert.notEqual(second, first);
   assert.equal(board.ordered(), ORDER.CHECK);
 });
+
+/** An agent that sleeps until it is sent home. It takes long to learn that, or learns it at once and goes on. */
+const SLEEPER = `
+  import { workerData } from "node:worker_threads";
+  const { url, words, reasons, flags, isSlow } = workerData;
+  const { Turn } = await import(url);
+  const turn = new Turn(words, Buffer.from(reasons), {}, 1);
+  turn.call(0);
+  Atomics.store(flags, 0, 1);
+  Atomics.notify(flags, 0);
+  turn.sleep(0);
+  if (!isSlow) turn.learnsEnd(0);
+  Atomics.wait(flags, 1, 0, isSlow ? 500 : Infinity);
+  turn.goHome(0);
+`;
+
+for (const isSlow of [true, false]) {
+  const name = isSlow ? "an agent that sleeps is waited for until it has learnt that its run is over"
+    : "an agent that goes on when it has learnt that isn't waited for long";
+  test(name, async () => {
+    const { words: shared, reasons } = Board.memory();
+    const words = new Int32Array(shared);
+    const turn = new Turn(words, Buffer.from(reasons), undefined, 1);
+    const flags = new Int32Array(new SharedArrayBuffer(8));
+    const url = new URL("../lib/board/turn.mjs", import.meta.url).href;
+    const module = new URL(`data:text/javascript,${encodeURIComponent(SLEEPER)}`);
+    const worker = new Worker(module, { workerData: { url, words, reasons, flags, isSlow } });
+    await Atomics.waitAsync(flags, 0, 0).value;
+    turn.sendHome(0);
+    const begun = performance.now();
+    assert.equal(turn.isBack(0, 100), isSlow);
+    const took = performance.now() - begun;
+    Atomics.store(flags, 1, 1);
+    Atomics.notify(flags, 1);
+    await once(worker, "exit");
+    assert.ok(isSlow || took < 5_000, `${took} ms`);
+    assert.equal(turn.isBack(0, 0), true);
+  });
+}
 
 test("a script has room for 64 views, and for so much text", () => {
   const board = boardAt([PHASE.RUNS]);

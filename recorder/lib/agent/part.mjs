@@ -210,6 +210,7 @@ export class Part {
 
   /** @returns {never} */
   over() {
+    this.table.board.turn.learnsEnd(this.agent);
     if (this.isOver) this.caught += 1;
     this.table.leave?.();
     if (this.caught > MOST_CAUGHT) this.table.board.turn.park(this.agent);

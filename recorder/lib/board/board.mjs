@@ -113,7 +113,7 @@ export class Board {
     this.end.dismiss();
     for (let agent = 0; agent < this.rules.agents; agent += 1) {
       const phase = this.line.phase(agent);
-      if (phase !== PHASE.RUNS && phase !== PHASE.FINISHED) this.turn.wake(agent);
+      if (phase !== PHASE.RUNS && phase !== PHASE.FINISHED) this.turn.sendHome(agent);
     }
   }
 

@@ -17,6 +17,15 @@ const NEVER = new Int32Array(new SharedArrayBuffer(4));
 // How long an agent that was silent may take to say where it is.
 const MILLISECONDS_TO_ANSWER = 1_000;
 
+// The word GO of an agent: nothing is new to it; it may go on; or its run is over, which it doesn't know yet.
+const NOTHING = 0;
+const GOES_ON = 1;
+const IS_OVER = 2;
+
+// How long an agent may take to learn that its run is over. It has only to get a processor, so that takes long on a slow
+// machine alone. An agent that ran out of stack in a call never learns it.
+const MILLISECONDS_TO_LEARN = 10_000;
+
 export class Turn {
   /**
    * @param {Int32Array} words of the board
@@ -36,7 +45,7 @@ export class Turn {
   /** Nobody has the turn yet, and nobody is to wake up. */
   begin() {
     store(this.words, WORD.TURN, NOBODY);
-    for (let agent = 0; agent < this.agents; agent += 1) store(this.words, wordOf(agent, AGENT_WORD.GO), 0);
+    for (let agent = 0; agent < this.agents; agent += 1) store(this.words, wordOf(agent, AGENT_WORD.GO), NOTHING);
   }
 
   // The part of the agent that has the turn.
@@ -99,16 +108,25 @@ export class Turn {
 
   /** @param {number} agent that sleeps */
   wake(agent) {
-    const word = wordOf(agent, AGENT_WORD.GO);
-    store(this.words, word, 1);
-    notify(this.words, word);
+    this.#wakeFor(agent, GOES_ON);
+  }
+
+  /** @param {number} agent that sleeps, or is about to: its run is over */
+  sendHome(agent) {
+    this.#wakeFor(agent, IS_OVER);
   }
 
   /** @param {number} agent sleeps until it has the turn, or is sent home */
   sleep(agent) {
     const word = wordOf(agent, AGENT_WORD.GO);
-    while (load(this.words, word) === 0) wait(this.words, word, 0);
-    store(this.words, word, 0);
+    while (load(this.words, word) === NOTHING) wait(this.words, word, NOTHING);
+    // One that is sent home notes first where its code is.
+    compareExchange(this.words, word, GOES_ON, NOTHING);
+  }
+
+  /** @param {number} agent knows that its run is over: from here on its own code takes the time */
+  learnsEnd(agent) {
+    store(this.words, wordOf(agent, AGENT_WORD.GO), NOTHING);
   }
 
   /**
@@ -152,14 +170,17 @@ export class Turn {
   /**
    * Whether an agent can run again. One that goes on without an end, is parked, or whose worker died, can't.
    * @param {number} agent
-   * @param {number} milliseconds for how long to wait for it
+   * @param {number} milliseconds for how long to wait for it, from when it knows that its run is over
    */
   isBack(agent, milliseconds) {
     const word = wordOf(agent, AGENT_WORD.STATUS);
-    const until = performance.now() + milliseconds;
+    const begun = performance.now();
+    let until = begun + milliseconds;
     while (load(this.words, word) === STATUS.BUSY) {
-      const left = until - performance.now();
-      if (left <= 0 || wait(this.words, word, STATUS.BUSY, left) === "timed-out") break;
+      const now = performance.now();
+      if (now - begun < MILLISECONDS_TO_LEARN && this.#isToLearn(agent)) until = now + milliseconds;
+      if (now >= until) break;
+      wait(this.words, word, STATUS.BUSY, until - now);
     }
     return load(this.words, word) === STATUS.IDLE;
   }
@@ -214,6 +235,18 @@ export class Turn {
     store(this.words, word, STATUS.DEAD);
     notify(this.words, word);
     this.#dies(agent);
+  }
+
+  /** @param {number} agent that sleeps @param {number} why `GOES_ON` or `IS_OVER` */
+  #wakeFor(agent, why) {
+    const word = wordOf(agent, AGENT_WORD.GO);
+    store(this.words, word, why);
+    notify(this.words, word);
+  }
+
+  /** @param {number} agent @returns {boolean} whether it was sent home, and doesn't know yet that its run is over */
+  #isToLearn(agent) {
+    return load(this.words, wordOf(agent, AGENT_WORD.GO)) === IS_OVER;
   }
 
   /** @param {number} agent that is dead, and has the turn perhaps */

@@ -294,6 +294,7 @@ export class Moves {
     this.count();
     if (!board.pass(agent)) board.turn.sleep(agent);
     if (board.isOverFor(agent)) {
+      board.turn.learnsEnd(agent);
       part.isPlaying = false;
       return false;
     }

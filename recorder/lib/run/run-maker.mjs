@@ -63,7 +63,7 @@ import { unseenText } from "./unseen.mjs";
  * @property {RefereeOptions} options
  */
 
-// How long an agent has to come back after its run has ended, before its worker is started anew.
+// How long an agent's own code has to come to its end when its run has ended, before its worker is started anew.
 const GRACE_MILLISECONDS = 200;
 const ENDLESS = "didn't come to its end";
 
