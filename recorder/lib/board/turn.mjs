@@ -22,8 +22,8 @@ const NOTHING = 0;
 const GOES_ON = 1;
 const IS_OVER = 2;
 
-// How long an agent may take to learn that its run is over. It has only to get a processor, so that takes long on a slow
-// machine alone. An agent that ran out of stack in a call never learns it.
+// How long an agent may take to learn that its run is over. It has only to get a processor, so that takes long on a
+// slow machine alone. An agent that ran out of stack in a call never learns it.
 const MILLISECONDS_TO_LEARN = 10_000;
 
 export class Turn {
