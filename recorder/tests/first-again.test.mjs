@@ -12,6 +12,7 @@ import { Summary } from "../lib/command/summary.mjs";
 import { differenceBetween, rememberingText } from "../lib/seeds/first-again.mjs";
 import { explore } from "../recorder.mjs";
 import { assertAgents } from "../testing.mjs";
+import { commandHere } from "./helpers/command-here.mjs";
 import { RECORD, temporaryFolder } from "./helpers/common.mjs";
 
 const SIDE_BY_SIDE = { concurrency: 4 };
@@ -44,13 +45,24 @@ function moduleIn(context) {
   return module;
 }
 
-/** Runs the command line, and gives its summary as an object of JSON, and the status. */
-function summaryOf(context, way, words) {
-  const all = [RECORD, moduleIn(context), "--format", "json", "--everywhere", ...words, "--", way];
-  return new Promise((done, fail) => {
-    execFile(process.execPath, all, (error, stdout, stderr) => {
-      if (stdout === "") fail(new Error(stderr));
-      else done({ status: error?.code ?? 0, summary: JSON.parse(stdout), text: stdout });
+/**
+ * Runs the command line, and gives its summary as an object of JSON, and the status. One with several jobs has processes
+ * of its own.
+ */
+async function summaryOf(context, way, words) {
+  // No worker begins that isn't needed.
+  const agents = ["--agents", "2", "--everywhere"];
+  const all = [moduleIn(context), "--format", "json", ...agents, ...words, "--", way];
+  const { status, stdout, stderr } = words.includes("--jobs") ? await commandThere(all) : await commandHere(all);
+  if (stdout === "") throw new Error(stderr);
+  return { status, summary: JSON.parse(stdout) };
+}
+
+/** @param {string[]} words */
+function commandThere(words) {
+  return new Promise((done) => {
+    execFile(process.execPath, [RECORD, ...words], (error, stdout, stderr) => {
+      done({ status: error?.code ?? 0, stdout, stderr });
     });
   });
 }
@@ -95,7 +107,7 @@ describe("a module that keeps something from run to run", SIDE_BY_SIDE, () => {
   });
 
   test("is in the last outcome of explore alone", async (context) => {
-    const options = { module: moduleIn(context), seeds: 3, args: ["bytes"], everywhere: true };
+    const options = { module: moduleIn(context), seeds: 3, args: ["bytes"], agents: 2, everywhere: true };
     const outcomes = [];
     for await (const { seed, remembers } of explore(options)) outcomes.push([seed, remembers]);
     const found = { seed: 1, differs: "bytes", was: "finished", is: "finished", threw: false, real: false };
@@ -107,7 +119,7 @@ describe("a module that keeps something from run to run", SIDE_BY_SIDE, () => {
 
   test("is reported if a test of agents fails", async (context) => {
     const out = temporaryFolder(context);
-    const options = { module: moduleIn(context), seeds: 3, args: ["ending"], everywhere: true, out };
+    const options = { module: moduleIn(context), seeds: 3, args: ["ending"], agents: 2, everywhere: true, out };
     await assert.rejects(assertAgents(options), (error) => error.message.includes(textOf("ending")));
   });
 });

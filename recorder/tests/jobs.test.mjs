@@ -127,7 +127,9 @@ test("further jobs are taken while processors are idle, and the outcomes are tho
   Object.assign(os, { availableParallelism: () => 3, cpus: () => [{ times: { idle: idle() } }] });
   syncBuiltinESMExports();
   const taken = async (options) => {
-    const all = { module, args: [], agents: 2, buffers: [4], maxMoves: 100, seconds: 10, fresh: false, checkEvery: 0 };
+    const all = {
+      module, args: [], agents: 2, buffers: [4], maxMoves: 100, seconds: 10, fresh: false, checkEvery: 0, everywhere: true,
+    };
     const runs = new Runs({ ...all, first: 1, ...options });
     const outcomes = [];
     let since = 0;
@@ -159,7 +161,9 @@ test("a further job is worth it if a processor is idle, and the runs would go on
 });
 
 test("with --fail-fast the first failing run is the last, whatever the number of jobs", () => {
-  const words = [agentsPath("naive-mutex"), "--seeds", "1..1000000", "--check", "7", ...CHECKING];
+  // Without pilots, which would take twice as many workers: the seeds are given out in the same way.
+  const alike = ["--agents", "3", "--everywhere"];
+  const words = [agentsPath("naive-mutex"), "--seeds", "1..1000000", "--check", "7", ...alike, ...CHECKING];
   const [one, three] = ["1", "3"].map((jobs) => run([...words, "--fail-fast", "--jobs", jobs]));
   assert.equal(one.status, 1);
   assert.deepEqual(three, one);
@@ -213,10 +217,12 @@ test("a job whose process dies is reported with status 3, and the summary has th
     Atomics.add(words, 0, 1);
     if (globalThis.seeds === 5 && agent === 1) {
       // Meanwhile the fourth run is handed on.
-      for (let count = 0; count < 1e9; count += 1);
+      execSync("sleep 1");
       process.kill(process.pid, "SIGKILL");
     }
   `);
+  const [module] = words;
+  writeFileSync(module, `import { execSync } from "node:child_process";\n${readFileSync(module, "utf8")}`);
   const { status, stdout, stderr } = run([...words, "--seeds", "1..10"]);
   assert.equal(status, 3);
   // The summary doesn't count the fifth run.

@@ -12,6 +12,7 @@ import { optionsOf } from "../lib/command/options.mjs";
 import { Refused } from "../lib/options/refused.mjs";
 import { Coverage } from "../lib/seeds/coverage.mjs";
 import { shardOf, united, without } from "../lib/seeds/ranges.mjs";
+import { commandHere } from "./helpers/command-here.mjs";
 import { RECORD, agentsOf, agentsPath, temporaryFolder } from "./helpers/common.mjs";
 import { CHECKING, needing } from "./helpers/needs.mjs";
 
@@ -30,7 +31,7 @@ function ran(words, options = {}) {
 
 /** The summary of a command line as JSON. @param {string[]} words */
 async function summaryOf(words) {
-  const { stdout, stderr } = await ran([RECORD, ...words, "--format", "json"]);
+  const { stdout, stderr } = await commandHere([...words, "--format", "json"]);
   assert.equal(stderr, "");
   assert.match(stdout, /^[^\n]+\n$/);
   return JSON.parse(stdout);
@@ -80,9 +81,12 @@ async function bothWays(words, of) {
   return { one, joined: merged(parts.reverse().map((summary, at) => ({ name: `part ${at}`, summary }))) };
 }
 
+// The last one makes pilots, which take twice as many workers.
 const MODULES = [
-  ["some deadlock", 4, agentsPath("naive-mutex"), ["--seeds", "20..47", "--check", "7"], ["deadlock", "finished"]],
-  ["some race, and some fail", 3, known("ring-frees-first"), ["--seeds", "30..49"], ["failed", "race", "finished"]],
+  ["some deadlock", 4, agentsPath("naive-mutex"),
+    ["--seeds", "20..47", "--check", "7", "--agents", "3", "--everywhere"], ["deadlock", "finished"]],
+  ["some race, and some fail", 3, known("ring-frees-first"),
+    ["--seeds", "30..49", "--agents", "2", "--everywhere"], ["failed", "race", "finished"]],
   ["none fails", 2, agentsPath("three-state-mutex"), ["--seeds", "1..8", "--ordinary", "store"], ["finished"]],
 ];
 
