@@ -21,7 +21,7 @@ const module = simulatorAt();
 
 /** The run of seed 1 of a module of agents, with what the recorder has judged. */
 async function runOf(context, path) {
-  const group = await groupOf(context, path, { everywhere: true });
+  const group = await groupOf(context, path, { agents: 3, everywhere: true });
   return group.one({ seed: 1, whole: true });
 }
 
@@ -95,7 +95,8 @@ for (const [what, bytes, message] of [
 ]) {
   test(`with a module that ${what} the recorder ends with status 3, and keeps what it was asked`, (context) => {
     const out = join(temporaryFolder(context), "out");
-    const words = [recorderWith(context, bytes), agentsPath("three-state-mutex"), "--seeds", "1..20", "--out", out];
+    const small = ["--agents", "3", "--everywhere"];
+    const words = [recorderWith(context, bytes), agentsPath("three-state-mutex"), "--seeds", "1..20", ...small, "--out", out];
     const env = { ...process.env, SABSIM: "" };
     const { status, stdout, stderr } = spawnSync(process.execPath, words, { env, encoding: "utf8" });
     assert.equal(status, 3, stderr);
@@ -108,7 +109,7 @@ for (const [what, bytes, message] of [
 test("without a check a module that traps makes no explanation, picture or page, and that is said", (context) => {
   const out = join(temporaryFolder(context), "out");
   const words = [recorderWith(context, TRAPPING), agentsPath("cases"), "--seeds", "1", "--check", "0", "--out", out];
-  const group = ["--agents", "2", "--buffers", "12", "--", "waitsForEver"];
+  const group = ["--agents", "2", "--everywhere", "--buffers", "12", "--", "waitsForEver"];
   const { status, stdout, stderr } = spawnSync(process.execPath, [...words, ...group], { encoding: "utf8" });
   assert.deepEqual([status, stderr], [1, ""]);
   const why = "the simulator stopped: unreachable";

@@ -122,6 +122,6 @@ test("an agent sees nothing of what the recorder has handed its worker", async (
       if (found.some((each) => each !== null)) throw new Error("it sees " + Object.keys(found[0] ?? {}));
     };
   `);
-  const { ending, detail } = await record({ module, sabsim: false });
+  const { ending, detail } = await record({ module, agents: 1, sabsim: false });
   assert.deepEqual([ending, detail], ["finished", ""]);
 });

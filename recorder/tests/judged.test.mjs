@@ -14,6 +14,9 @@ import { plainText, statusOf } from "./helpers/verdict-texts.mjs";
 
 const RING = fileURLToPath(new URL("./known/ring-frees-first.mjs", import.meta.url));
 const RACING_SEED = 3;
+
+/** Two agents without pilots, so that no worker begins that isn't needed. */
+const SMALL = { module: RING, agents: 2, everywhere: true };
 const RACE = "data race at byte 1 of block 0: agent 0 writes byte 1 at 2, agent 1 reads byte 1 at 5; " +
   "nothing of agent 0 happens before 5";
 const MEMBERS = [
@@ -43,14 +46,14 @@ function run(...words) {
   return { status, stdout, stderr };
 }
 
-const addition = ["--agents", "2", "--buffers", "12", "--seeds", "7", "--", "addition"];
+const addition = ["--agents", "2", "--everywhere", "--buffers", "12", "--seeds", "7", "--", "addition"];
 
 describe("the judge of checked runs", () => {
   it("is given the run's trace, and says what the slow judge finds in it", async (context) => {
     const folder = temporaryFolder(context);
     for (const seed of [1, RACING_SEED]) {
       const sabsim = judging(folder, `${SIMULATOR_WORDS} judge --trace < ${folder}/given > ${folder}/said; exit $?`);
-      const { checked, races } = await record({ module: RING, seed, sabsim });
+      const { checked, races } = await record({ ...SMALL, seed, sabsim });
       const events = eventsOfTrace(readFileSync(join(folder, "given"), "utf8"));
       const judged = slowJudge(events);
       assert.ok(checked);
@@ -63,7 +66,7 @@ describe("the judge of checked runs", () => {
 
   it("is given the calls of the outcome's trace, without their lines of code", async (context) => {
     const folder = temporaryFolder(context);
-    const options = { module: RING, seed: 1, everywhere: true, trace: true };
+    const options = { ...SMALL, seed: 1, trace: true };
     const { trace, ordinary } = await record({ ...options, sabsim: judging(folder, FINDS_NONE) });
     assert.ok(ordinary > 0);
     const without = trace.replaceAll(/"source":"[^"]*"/g, '"source":null');
@@ -96,7 +99,7 @@ describe("the judge of checked runs", () => {
     const found = /^ {2}the recorder: agent 1 reads slots\[0\] at ring-frees-first\.mjs:32:17, .*; agent 0 writes /;
     const sabsim = judging(temporaryFolder(context), FINDS_NONE);
     for (const races of ["fail", "allow"]) {
-      await assert.rejects(record({ module: RING, seed: RACING_SEED, sabsim, races }), (error) => {
+      await assert.rejects(record({ ...SMALL, seed: RACING_SEED, sabsim, races }), (error) => {
         assert.ok(error instanceof Difference);
         const [title, recorder, other] = error.message.split("\n");
         assert.equal(title, `seed ${RACING_SEED}: the recorder and sabsim differ on unordered accesses`);
@@ -110,7 +113,7 @@ describe("the judge of checked runs", () => {
   it("refuses the trace, or the script's accesses: that is a difference too", async (context) => {
     const sabsim = judging(temporaryFolder(context), "echo 'sabsim: 10 BadShape: line 12' >&2; exit 1");
     const runs = {
-      trace: () => record({ module: RING, sabsim, seed: 1 }),
+      trace: () => record({ ...SMALL, sabsim, seed: 1 }),
       "script's accesses": () => recordCase("addition", { sabsim }),
     };
     for (const [what, run] of Object.entries(runs)) {
@@ -125,7 +128,7 @@ describe("the judge of checked runs", () => {
   it("differs under the command line: status 3, and what both went by is kept", (context) => {
     const folder = temporaryFolder(context);
     const judge = judging(folder, FINDS_ONE);
-    const programs = { json: [agentsPath("cases"), ...addition], "trace.jsonl": [RING, "--seeds", "7"] };
+    const programs = { json: [agentsPath("cases"), ...addition], "trace.jsonl": [RING, "--agents", "2", "--everywhere", "--seeds", "7"] };
     for (const [given, [module, ...words]] of Object.entries(programs)) {
       const out = join(folder, given);
       const { status, stdout, stderr } = run(module, "--sabsim", judge, "--out", out, ...words);

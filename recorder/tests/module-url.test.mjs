@@ -12,7 +12,11 @@ import { temporaryFolder } from "./helpers/common.mjs";
 
 const LIBRARY = new URL("../recorder.mjs", import.meta.url).href;
 
-/** Agents that leave a number in their buffer. @param {number} number */
+/**
+ * An agent that leaves a number in its buffer. Those that call say how many agents there are, so that no worker begins
+ * that isn't needed.
+ * @param {number} number
+ */
 const agentsWith = (number) => `
   export const setup = { agents: 1, buffers: [1] };
   export default ({ buffers: [buffer] }) => Atomics.store(new Uint8Array(buffer), 0, ${number});
@@ -30,7 +34,7 @@ function suite(context) {
     "suite/calls.mjs": `
       import { record } from "${LIBRARY}";
       import { recordHere } from "../helpers/helper.mjs";
-      const options = (module = "./agents.mjs") => ({ module, sabsim: false });
+      const options = (module = "./agents.mjs") => ({ module, agents: 1, sabsim: false });
       export const atOnce = () => record(options());
       export const bare = () => record(options("agents.mjs"));
       export const above = () => record(options("../agents.mjs"));
@@ -61,7 +65,7 @@ function suite(context) {
       export const recordHere = (options) => record(options);
     `,
     "suite/calls.cjs": `
-      exports.common = async () => (await import("${LIBRARY}")).record({ module: "./agents.mjs", sabsim: false });
+      exports.common = async () => (await import("${LIBRARY}")).record({ module: "./agents.mjs", agents: 1, sabsim: false });
     `,
   };
   mkdirSync(join(folder, "suite"));
@@ -93,7 +97,7 @@ test("a relative path is taken from the file that calls the library, however it 
 
 test("code that is typed in is taken to be in the working directory", (context) => {
   const folder = suite(context);
-  const code = `import("${LIBRARY}").then(({ record }) => record({ module: "./agents.mjs", sabsim: false }))
+  const code = `import("${LIBRARY}").then(({ record }) => record({ module: "./agents.mjs", agents: 1, sabsim: false }))
     .then(({ bytes }) => console.log(bytes[0]))`;
   for (const [words, input] of [[["-e", code], ""], [["-"], code]]) {
     const options = { cwd: join(folder, "suite"), encoding: "utf8", input };

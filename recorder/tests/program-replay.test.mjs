@@ -12,6 +12,7 @@ import { Keeper } from "../lib/keeping/keep.mjs";
 import { keepProgram, keptProgram } from "../lib/keeping/kept-program.mjs";
 import { Refused } from "../lib/options/refused.mjs";
 import { explore } from "../recorder.mjs";
+import { commandHere } from "./helpers/command-here.mjs";
 import { RECORD, temporaryFolder } from "./helpers/common.mjs";
 import { programIn, programOf } from "./helpers/whole-programs.mjs";
 
@@ -30,6 +31,7 @@ Atomics.store(workerData, 0, 7);
 `;
 
 /**
+ * Runs the command line in a process of its own. With --replay it makes its run there, so `commandHere` does the same.
  * @param {string[]} words of the command line
  * @param {object} [options]
  */
@@ -82,7 +84,7 @@ test("a kept run of a program is made again from its file alone: the same script
   assert.match(command.script, new RegExp(`${name}\\.program\\.json$`));
 });
 
-test("a run without a script is made again, too, and options of the command line go before the kept ones", (context) => {
+test("a run without a script is made again, too, and options of the command line go before the kept ones", async (context) => {
   const { file, folder } = kept(programOf(context, {
     "main.mjs": `import { Worker } from "node:worker_threads";
       const words = new Int32Array(new SharedArrayBuffer(8));
@@ -94,14 +96,15 @@ test("a run without a script is made again, too, and options of the command line
       for (let woken = 0; woken < 15; woken += Atomics.notify(workerData, 0)) Atomics.wait(workerData, 1, 0, 1);`,
   }), []);
   assert.ok(!readdirSync(folder).some((name) => /^seed-\d+\.json$/.test(name)));
-  const { status, stdout } = recorded(["--replay", file, "--races", "allow"]);
+  const { status, stdout } = await commandHere(["--replay", file, "--races", "allow"]);
   assert.equal(status, 1);
   assert.match(stdout, /^ {2}agent 0 exited with code 3$/m);
   // It has fewer moves than that.
-  assert.match(recorded(["--replay", file, "--max-moves", "2"]).stdout, /^1 of 1 run failed: 1 limit met$/m);
+  const limited = await commandHere(["--replay", file, "--max-moves", "2"]);
+  assert.match(limited.stdout, /^1 of 1 run failed: 1 limit met$/m);
 });
 
-test("a run that waits by waitAsync is made again, and what differs is named as the thread's", (context) => {
+test("a run that waits by waitAsync is made again, and what differs is named as the thread's", async (context) => {
   const { main, file, folder, name } = kept(programOf(context, {
     "main.mjs": `import { Worker } from "node:worker_threads";
       const words = new Int32Array(new SharedArrayBuffer(8));
@@ -113,16 +116,16 @@ test("a run that waits by waitAsync is made again, and what differs is named as 
   }), []);
   const script = readFileSync(join(folder, `${name}.json`), "utf8");
   assert.match(script, /"waitAsync_2_of_0"/);
-  const { status, stdout, stderr } = recorded(["--replay", file, "--out", join(folder, "again")]);
+  const { status, stdout, stderr } = await commandHere(["--replay", file, "--out", join(folder, "again")]);
   assert.deepEqual([status, stderr], [1, ""]);
   assert.match(stdout, /^every run was replayed and judged by sabsim \([\w ]+\): it agrees with the recorder$/m);
   assert.equal(readFileSync(join(folder, "again", `${name}.replayed.json`), "utf8"), script);
   writeFileSync(main, readFileSync(main, "utf8").replace("words, 0, 0", "words, round, 0"));
-  assert.match(recorded(["--replay", file]).stderr,
+  assert.match((await commandHere(["--replay", file])).stderr,
     /: the script has agent 0's call (\d), \["wait", "Int32_b0", 0, 0\] next, and now comes agent 0's call \1, \["wait", "Int32_b0", 1, 0\]$/m);
 });
 
-test("if the code does other things, the first of these is named", () => {
+test("if the code does other things, the first of these is named", async () => {
   const { main, file } = ofMain;
   const files = { main, worker: join(dirname(main), "worker.mjs") };
   const changed = [
@@ -140,7 +143,7 @@ test("if the code does other things, the first of these is named", () => {
     const before = readFileSync(files[name], "utf8");
     assert.notEqual(text, before);
     writeFileSync(files[name], text);
-    const { status, stdout, stderr } = recorded(["--replay", file]);
+    const { status, stdout, stderr } = await commandHere(["--replay", file]);
     writeFileSync(files[name], before);
     assert.deepEqual([status, stdout], [3, ""]);
     assert.match(stderr.trimEnd(), new RegExp(`^record: the code no longer does the same${why.source}`));
@@ -154,16 +157,16 @@ test("an edited row makes another run of the program, or it is said which draw i
   const replayedBy = (row) => {
     const path = join(dirname(file), "edited.program.json");
     writeFileSync(path, JSON.stringify({ ...all, row }));
-    return recorded(["--replay", path]);
+    return commandHere(["--replay", path]);
   };
   for await (const { ending, row } of explore({ program: main, args: ["mine"], seeds: "1..60", timeouts: 0.2 })) {
     if (ending !== "finished") continue;
-    const { status, stdout } = replayedBy(row.map((agent) => [agent, 1]));
+    const { status, stdout } = await replayedBy(row.map((agent) => [agent, 1]));
     assert.equal(status, 0, stdout);
     assert.match(stdout, /^1 run: 1 finished$/m);
     break;
   }
-  const { status, stderr } = replayedBy([[0, 50], [1, 1]]);
+  const { status, stderr } = await replayedBy([[0, 50], [1, 1]]);
   assert.equal(status, 3);
   assert.match(stderr, /^record: the code no longer does the same: agent 0 moved with draw \d+ of the kept run, and now it has nothing to do, or waits; agent 1 could move\n$/);
 });

@@ -66,7 +66,7 @@ const inOrder = (standing) => {
 /** The first run in which two agents wait at the end. @param {object} options */
 async function waitingOutcome(options) {
   const isWait = ({ does }) => does === "waits";
-  const how = { seeds: 100, strategy: "uniform", everywhere: true, sabsim: false };
+  const how = { seeds: 100, strategy: "uniform", agents: 3, everywhere: true, sabsim: false };
   for await (const outcome of explore({ ...how, ...options })) {
     if (outcome.standing?.filter(isWait).length === 2) return outcome;
   }
@@ -83,7 +83,7 @@ test("an outcome has what each agent is at, in a deadlock and at a limit", async
   const body = "export const setup = { agents: 1, buffers: [4] };\n"
     + "export default ({ buffers }) => Atomics.load(new Int32Array(buffers[0]), 0);\n";
   writeFileSync(module, body);
-  assert.equal((await record({ module, sabsim: false, everywhere: true })).standing, undefined);
+  assert.equal((await record({ module, agents: 1, sabsim: false, everywhere: true })).standing, undefined);
 });
 
 test("agents that ask for a call when a limit is met are there too", async (context) => {
@@ -95,7 +95,8 @@ test("agents that ask for a call when a limit is met are there too", async (cont
 });
 
 test("the summary has that of the first failing run as JSON, and so has a joined one", async (context) => {
-  const words = [moduleIn(context), "--seeds", "2..3", "--format", "json", "--", "deadlock"];
+  const small = ["--agents", "3", "--everywhere"];
+  const words = [moduleIn(context), "--seeds", "2..3", "--format", "json", ...small, "--", "deadlock"];
   const { output } = await runNode("recorder/record.mjs", words);
   const summary = JSON.parse(output);
   assert.deepEqual(inOrder(summary.firstFailing.standing), WAITING);
