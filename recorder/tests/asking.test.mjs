@@ -5,7 +5,7 @@ import assert from "node:assert/strict";
 import { spawnSync } from "node:child_process";
 import { cpSync, readFileSync, readdirSync, writeFileSync } from "node:fs";
 import { join } from "node:path";
-import { test } from "node:test";
+import { after, before, test } from "node:test";
 import { fileURLToPath, pathToFileURL } from "node:url";
 import { checkedBy } from "../lib/check/check.mjs";
 import { Difference } from "../lib/check/difference.mjs";
@@ -19,11 +19,19 @@ import { TRAPPING, misspelling } from "./helpers/wrong-modules.mjs";
 const RECORDER = fileURLToPath(new URL("../", import.meta.url));
 const module = simulatorAt();
 
-/** The run of seed 1 of a module of agents, with what the recorder has judged. */
-async function runOf(context, path) {
-  const group = await groupOf(context, path, { agents: 3, everywhere: true });
-  return group.one({ seed: 1, whole: true });
-}
+/**
+ * The run of seed 1 of a module of agents, with what the recorder has judged. All tests ask about the same one.
+ * @type {import("../lib/run/outcome.mjs").One}
+ */
+let run;
+/** @type {(() => Promise<void>)[]} what is done after all tests */
+const ends = [];
+before(async () => {
+  const context = /** @type {any} */ ({ after: (/** @type {() => Promise<void>} */ end) => ends.push(end) });
+  const group = await groupOf(context, agentsPath("three-state-mutex"), { agents: 3, everywhere: true });
+  run = await group.one({ seed: 1, whole: true });
+});
+after(() => Promise.all(ends.map((end) => end())));
 
 /** A simulator whose module has other bytes. @param {import("node:test").TestContext} context @param {Uint8Array} bytes */
 function simulatorOf(context, bytes) {
@@ -66,8 +74,7 @@ test("several simulators of a process have the module compiled once", (context) 
 });
 
 for (const [what, [bytes, why]] of Object.entries(WRONG)) {
-  test(`a module that ${what} fails the check, each time`, async (context) => {
-    const run = await runOf(context, agentsPath("three-state-mutex"));
+  test(`a module that ${what} fails the check, each time`, (context) => {
     assert.ok(checkedBy(module, run).checked);
     const wrong = simulatorOf(context, bytes);
     for (const time of [1, 2]) {

@@ -13,6 +13,7 @@ import { Refused } from "../lib/options/refused.mjs";
 import { NoLongerTheSame } from "../lib/shorter/differing.mjs";
 import { keptScript } from "../lib/shorter/kept-script.mjs";
 import { explore, record } from "../recorder.mjs";
+import { commandHere } from "./helpers/command-here.mjs";
 import { RECORD, temporaryFolder } from "./helpers/common.mjs";
 import { CHECKING } from "./helpers/needs.mjs";
 
@@ -51,7 +52,7 @@ async function keptRun(context) {
   const folder = temporaryFolder(context);
   const module = join(folder, "relay.mjs");
   writeFileSync(module, CODE);
-  kept ??= await record({ module, seed: KEPT_SEED, sabsim: false });
+  kept ??= await record({ module, agents: 2, everywhere: true, seed: KEPT_SEED, sabsim: false });
   assert.equal(kept.ending, "check");
   const file = join(folder, `seed-${KEPT_SEED}.json`);
   writeFileSync(file, kept.script);
@@ -92,11 +93,11 @@ test("the seed is that of the file's name, or of --seeds, or else 1", async (con
   const other = join(folder, "other.json");
   writeFileSync(other, outcome.script);
   const words = [module, "--replay", other, "--check", "0"];
-  const given = replay([...words, "--seeds", "4"]);
+  const given = await commandHere([...words, "--seeds", "4"]);
   assert.equal(given.status, 1);
   assert.ok(given.stdout.startsWith(`replayed ${other}, with the clocks and random numbers of seed 4\n`));
   // With seed 1 agent 1 adds another number, which is reported.
-  const { status, stdout, stderr } = replay(words);
+  const { status, stdout, stderr } = await commandHere(words);
   assert.deepEqual([status, stdout], [3, ""]);
   assert.match(stderr, /^record: the code no longer does the same: agent 1's call \d was \["add", "Int32", 1, \d+\] /);
   await assert.rejects(replayed(module, file, "--seeds", "1"), NoLongerTheSame);
@@ -105,7 +106,7 @@ test("the seed is that of the file's name, or of --seeds, or else 1", async (con
 test("if the code now finishes with the same calls, the status is 0", async (context) => {
   const { module, file } = await keptRun(context);
   writeFileSync(module, CODE.replace("< 0", ">= 0"));
-  const { status, stdout } = replay([module, "--replay", file, "--check", "0"]);
+  const { status, stdout } = await commandHere([module, "--replay", file, "--check", "0"]);
   assert.equal(status, 0);
   assert.match(stdout, /^replayed [^\n]+\n1 run: 1 finished\n/);
 });

@@ -5,7 +5,7 @@ import assert from "node:assert/strict";
 import { spawnSync } from "node:child_process";
 import { readFileSync, readdirSync } from "node:fs";
 import { join } from "node:path";
-import { test } from "node:test";
+import { after, test } from "node:test";
 import { Progress } from "../lib/command/progress.mjs";
 import { shortenedLines, shorteningOf } from "../lib/command/shortened.mjs";
 import { failsAlike } from "../lib/shorter/alike.mjs";
@@ -14,6 +14,7 @@ import { keptScript } from "../lib/shorter/kept-script.mjs";
 import { shorten } from "../lib/shorter/shorten.mjs";
 import { changesOf, joinedFrom, rowOf, shortenedAt, stretchesOf, without } from "../lib/shorter/stretches.mjs";
 import { record } from "../recorder.mjs";
+import { commandHere } from "./helpers/command-here.mjs";
 import { RECORD, agentsOf, agentsPath, temporaryFolder } from "./helpers/common.mjs";
 import { firstFailing, groupOf } from "./helpers/groups.mjs";
 import { CHECKER, CHECKING } from "./helpers/needs.mjs";
@@ -65,10 +66,28 @@ test("draws that touch nothing in common change places, so that an agent goes on
   assert.deepEqual([inOneGo(writes, 0).join(""), inOneGo(writes, 1).join("")], ["0011", "1001"]);
 });
 
+/** @type {(() => Promise<void>)[]} what is done after all tests */
+const ends = [];
+after(() => Promise.all(ends.map((end) => end())));
+
+/** @type {Map<string, ReturnType<typeof groupFailing>>} */
+const groups = new Map();
+
+/** A group of a program, and its first failing run. Tests of the same program have the same one. */
+function groupAndFirst(name, agents) {
+  const key = `${name} ${agents}`;
+  if (!groups.has(key)) groups.set(key, groupFailing(name, agents));
+  return groups.get(key);
+}
+
+async function groupFailing(name, agents) {
+  const group = await groupOf({ after: (end) => ends.push(end) }, MODULE, { args: [name], agents });
+  return { group, first: await firstFailing(group) };
+}
+
 /** The shortest failing run of a program whose shortest is known. */
-async function shortestOf(context, name, agents) {
-  const group = await groupOf(context, MODULE, { args: [name], agents });
-  const first = await firstFailing(group);
+async function shortestOf(name, agents) {
+  const { group, first } = await groupAndFirst(name, agents);
   const { shortest, shortened } = await shorten(group, first, { milliseconds: 60_000 });
   // Where the seed makes the shortest at once, that one stays.
   const { outcome } = shortest ?? await group.one({ seed: first.seed, whole: true, wantsRow: true });
@@ -76,28 +95,28 @@ async function shortestOf(context, name, agents) {
   return { outcome, shortened };
 }
 
-test("a lost wake-up: one looks, the other does all that it does, and the first one waits", async (context) => {
-  const { outcome } = await shortestOf(context, "bell", 2);
+test("a lost wake-up: one looks, the other does all that it does, and the first one waits", async () => {
+  const { outcome } = await shortestOf("bell", 2);
   // Agent 0 counts four times for itself and loads; agent 1 counts four times, stores and notifies; agent 0 waits.
   assert.deepEqual([outcome.ending, outcome.row.join("")], ["deadlock", "000001111110"]);
   assert.equal(outcome.calls, 12);
 });
 
-test("a lost update: one loads, the other counts, and the first one stores", async (context) => {
-  const { outcome } = await shortestOf(context, "count", 2);
+test("a lost update: one loads, the other counts, and the first one stores", async () => {
+  const { outcome } = await shortestOf("count", 2);
   assert.deepEqual([outcome.ending, changesOf(outcome.row), outcome.calls], ["check", 2, 8]);
 });
 
-test("an agent that has no part in the failure moves first, or never if the run ends before", async (context) => {
-  const { outcome: counts } = await shortestOf(context, "count", 3);
+test("an agent that has no part in the failure moves first, or never if the run ends before", async () => {
+  const { outcome: counts } = await shortestOf("count", 3);
   assert.deepEqual([counts.ending, changesOf(counts.row), counts.calls], ["check", 3, 14]);
-  const { outcome: throws } = await shortestOf(context, "assertion", 3);
+  const { outcome: throws } = await shortestOf("assertion", 3);
   assert.deepEqual([throws.ending, throws.row], ["failed", [0, 0, 0, 1, 0]]);
   assert.deepEqual(throws.progress.map(({ calls }) => calls), [4, 1, 0]);
 });
 
-test("two locks in two orders: one takes its first, the other its own, and both wait", async (context) => {
-  const { outcome } = await shortestOf(context, "locks", 2);
+test("two locks in two orders: one takes its first, the other its own, and both wait", async () => {
+  const { outcome } = await shortestOf("locks", 2);
   assert.ok(["000011111100", "111100000011"].includes(outcome.row.join("")), outcome.row.join(""));
   assert.equal(outcome.ending, "deadlock");
 });
@@ -122,9 +141,8 @@ test("runs fail in the same way: by their ending, who waits where, the first pai
   assert.ok(!failsAlike(strayed, waits([0, 4])));
 });
 
-test("shortening ends after so many runs, or so much time, and says so", async (context) => {
-  const group = await groupOf(context, MODULE, { args: ["count"] });
-  const first = await firstFailing(group);
+test("shortening ends after so many runs, or so much time, and says so", async () => {
+  const { group, first } = await groupAndFirst("count", 2);
   const few = await shorten(group, first, { most: 2 });
   assert.deepEqual([few.shortest, few.shortened.runs, few.shortened.stopped], [undefined, 1, "the most that are made"]);
   const late = await shorten(group, first, { milliseconds: 0 });
@@ -160,8 +178,9 @@ test("a run that can't be made again stays as it was found", async (context) => 
     "if (globalThis.runs === 3) throw new Error(`run ${globalThis.runs}`);",
   ].join("\n"));
   const out = join(folder, "out");
-  const words = [module, "--agents", "2", "--buffers", "4", "--seeds", "1..5", "--check", "0", "--out", out];
-  const { status, stdout } = spawnSync(process.execPath, [RECORD, ...words], { encoding: "utf8" });
+  const agents = ["--agents", "2", "--everywhere", "--buffers", "4"];
+  const words = [module, ...agents, "--seeds", "1..5", "--check", "0", "--out", out];
+  const { status, stdout } = await commandHere(words);
   assert.equal(status, 1, stdout);
   const why = "it couldn't be made again in the same way: its agents do something else when they run once more";
   assert.ok(stdout.includes(`\nnot shortened: ${why}, in 1 run\n`), stdout);
@@ -171,11 +190,14 @@ test("a run that can't be made again stays as it was found", async (context) => 
   assert.deepEqual(readdirSync(out).sort(), endings.map((ending) => `seed-3.${ending}`));
 });
 
+/** Runs the command line in a process of its own. @param {string[]} words */
+const commandThere = (words) => spawnSync(process.execPath, [RECORD, ...words], { encoding: "utf8" });
+
 /** Runs the command line on the program `bell` with an own folder, and returns what it kept there. */
-function keptBy(context, ...words) {
+async function keptBy(context, run, ...words) {
   const out = temporaryFolder(context);
-  const all = [RECORD, MODULE, "--seeds", "1..80", ...CHECKING, "--out", out, ...words, "--", "bell"];
-  const { status, stdout, stderr } = spawnSync(process.execPath, all, { encoding: "utf8" });
+  const all = [MODULE, "--seeds", "1..80", ...CHECKING, "--out", out, ...words, "--", "bell"];
+  const { status, stdout, stderr } = await run(all);
   assert.deepEqual([status, stderr], [1, ""], stderr);
   const files = Object.fromEntries(readdirSync(out).map((name) => [name, readFileSync(join(out, name), "utf8")]));
   return { stdout, files };
@@ -183,7 +205,7 @@ function keptBy(context, ...words) {
 
 test("the shortest run is kept with the original beside it, whatever the jobs; --no-shorten keeps one",
   async (context) => {
-    const { stdout, files } = keptBy(context, "--jobs", "2");
+    const { stdout, files } = await keptBy(context, commandThere, "--jobs", "2");
     const [, seed] = /^first failing seed: (\d+), deadlock$/m.exec(stdout);
     const same = "12 calls to 12, in \\d+ runs; sabsim agrees with the recorder";
     assert.match(stdout, new RegExp(`^shortened: \\d+ changes of agents to 2, ${same}$`, "m"));
@@ -200,7 +222,7 @@ test("the shortest run is kept with the original beside it, whatever the jobs; -
     assert.equal(shortest.shortened.calls.after, shortest.calls);
     assert.equal(simulated(["replay"], files[`seed-${seed}.json`]).output, files[`seed-${seed}.report`]);
 
-    const unshortened = keptBy(context, "--no-shorten");
+    const unshortened = await keptBy(context, commandHere, "--no-shorten");
     assert.ok(!unshortened.stdout.includes("shortened"), unshortened.stdout);
     assert.equal(unshortened.files[`seed-${seed}.json`], original.script);
     assert.ok(Object.keys(unshortened.files).every((name) => !name.includes("original")));

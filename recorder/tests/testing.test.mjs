@@ -6,7 +6,7 @@ import {
   existsSync, mkdirSync, readFileSync, readdirSync, rmSync, symlinkSync, writeFileSync,
 } from "node:fs";
 import { join } from "node:path";
-import { test } from "node:test";
+import { after, test } from "node:test";
 import { fileURLToPath } from "node:url";
 import { keptFolder } from "../lib/suite/kept-folder.mjs";
 import { assertAgents } from "../testing.mjs";
@@ -41,6 +41,27 @@ async function suite(context, code, env = {}, reporter = "spec") {
   return { folder, temporary, output, status };
 }
 
+/** @type {(() => void)[]} what is done after all tests */
+const ends = [];
+after(() => ends.forEach((end) => end()));
+
+/** @type {ReturnType<typeof suite> | undefined} */
+let optionsSuite;
+
+/** The suite of the two tests about options, which is run once. */
+function ofOptions() {
+  optionsSuite ??= suite({ after: (end) => ends.push(end) }, `
+    testAgents("fails", { ${ALIKE}, seeds: "29", out: "found", shorten: false });
+    testAgents("passes", { ${ALIKE}, seeds: { first: 3, last: 12 }, jobs: 2 });
+    testAgents("isn't checked", { ${ALIKE}, seeds: 2, sabsim: false });
+    testAgents("wrong", { module: "./agents.mjs", seed: 1 });
+    testAgents("none", { module: "./none.mjs" });
+    testAgents("out", { module: "./agents.mjs", out: 5 });
+    testAgents("right", { ${ALIKE}, seeds: 20 });
+  `, {}, "tap");
+  return optionsSuite;
+}
+
 /** Where a failing run is kept whose test names no folder. @param {string} temporary */
 function keptIn(temporary) {
   const [own] = readdirSync(temporary);
@@ -51,7 +72,7 @@ function keptIn(temporary) {
 }
 
 // All that can move are alike, before each call.
-const ALIKE = 'module: "./agents.mjs", strategy: "uniform", everywhere: true';
+const ALIKE = 'module: "./agents.mjs", agents: 3, strategy: "uniform", everywhere: true';
 const AGENTS = `testAgents("no wake-up is lost", { ${ALIKE}, seeds: "1..200", shorten: false });`;
 
 test("a failing test shows seed, ending, its explained end, and where its files lie", async (the) => {
@@ -82,12 +103,8 @@ test("a failing test shows seed, ending, its explained end, and where its files 
   assert.ok(!output.includes("generatedMessage"));
 });
 
-test("a failing run is kept where `out` says, and a passing test says how many runs were checked", async (the) => {
-  const { folder, output, status, temporary } = await suite(the, `
-    testAgents("fails", { ${ALIKE}, seeds: "29", out: "found", shorten: false });
-    testAgents("passes", { ${ALIKE}, seeds: { first: 3, last: 12 }, jobs: 2 });
-    testAgents("isn't checked", { ${ALIKE}, seeds: 2, sabsim: false });
-  `, {}, "tap");
+test("a failing run is kept where `out` says, and a passing test says how many runs were checked", async () => {
+  const { folder, output, status, temporary } = await ofOptions();
   assert.equal(status, 1);
   assert.match(output, /^not ok 1 - fails$/m);
   assert.match(output, /^ +seed 29: deadlock\n +agent 0 waits at byte 4 of block 0: its call 19, /m);
@@ -119,30 +136,26 @@ test("the shortest run that fails so is shown and kept, with the original beside
   assert.ok(callsOf("seed-29.json").length < callsOf("seed-29.original.json").length);
 });
 
-test("options that can't be fail their test, and others go on", async (the) => {
-  const { output, temporary } = await suite(the, `
-    testAgents("wrong", { module: "./agents.mjs", seed: 1 });
-    testAgents("none", { module: "./none.mjs" });
-    testAgents("out", { module: "./agents.mjs", out: 5 });
-    testAgents("right", { ${ALIKE}, seeds: 20 });
-  `, {}, "tap");
+test("options that can't be fail their test, and others go on", async () => {
+  const { output, temporary } = await ofOptions();
   for (const why of ["there is no option `seed`: is seeds meant?", "`out` must be the path of a folder"]) {
     assert.ok(output.includes(why), output);
   }
   assert.match(output, /error: .*there is no file .*none\.mjs/);
   // Each has the line of its own test, and none of the recorder's.
-  for (const line of [3, 4, 5]) assert.match(output, new RegExp(`^ +file://.*lock\\.test\\.mjs:${line}:5$`, "m"));
+  for (const line of [6, 7, 8]) assert.match(output, new RegExp(`^ +file://.*lock\\.test\\.mjs:${line}:5$`, "m"));
   const lines = output.split("\n").filter((line) => !line.includes("location:"));
   assert.deepEqual(lines.filter((line) => line.includes("/recorder/lib/")), []);
-  assert.match(output, /^ok 4 - right$/m);
+  assert.match(output, /^ok 7 - right$/m);
   assert.match(output, /^# 20 runs passed, 20 checked by sabsim$/m);
-  assert.match(output, /^# fail 3$/m);
+  // Besides these three the one that is kept.
+  assert.match(output, /^# fail 4$/m);
   assert.deepEqual(readdirSync(temporary), []);
 });
 
 test("the failing test of a race marks its two accesses among the last acts, with their lines", async (the) => {
   const module = fileURLToPath(new URL("known/ring-frees-first.mjs", import.meta.url));
-  const { output } = await suite(the, `testAgents("ring", { module: "${module}", seeds: "3", shorten: false });`);
+  const { output } = await suite(the, `testAgents("ring", { module: "${module}", agents: 2, everywhere: true, seeds: "3", shorten: false });`);
   const lines = output.split("\n").map((line) => line.trim());
   assert.ok(lines.some((line) => line.endsWith("and their lines; > marks two accesses that nothing orders:")));
   // The reporter shows a failure twice.
@@ -178,7 +191,7 @@ test("a test's failing run is kept in the same folder each time, which no link l
 
 test("assertAgents fails as an assertion does, in any test", async (the) => {
   const out = join(temporaryFolder(the), "out");
-  const options = { module: "./agents/cases.mjs", agents: 2, buffers: [12], sabsim: false, out };
+  const options = { module: "./agents/cases.mjs", agents: 2, buffers: [12], everywhere: true, sabsim: false, out };
   await assertAgents({ ...options, args: ["addition"], seeds: 5 });
   assert.ok(!existsSync(out));
   await assert.rejects(assertAgents({ ...options, args: ["waitsForEver"], seeds: "4..9" }), (error) => {

@@ -14,6 +14,7 @@ import { KINDS } from "../script/kinds.mjs";
 import { elementText, storedBytes } from "../script/values.mjs";
 import { labelOf, writtenText, writtenView } from "../script/written.mjs";
 import { assertAgents } from "../testing.mjs";
+import { commandHere } from "./helpers/command-here.mjs";
 import { RECORD, agentsPath, temporaryFolder } from "./helpers/common.mjs";
 import { CHECKING } from "./helpers/needs.mjs";
 import { recorded } from "./helpers/recorded.mjs";
@@ -21,6 +22,9 @@ import { simulated } from "./helpers/simulate.mjs";
 
 const RING = agentsPath("sample-ring");
 const BITS = 4598175219545276416n;
+
+/** The ring's two agents without pilots, so that no worker begins that isn't needed. */
+const SMALL = { agents: 2, everywhere: true };
 
 test("a value is written as JavaScript writes it, whatever its kind", () => {
   const bytesOf = (Kind, value) => new Uint8Array(Kind.of(value).buffer);
@@ -58,7 +62,7 @@ test("a store that stands for an ordinary write shows the array and the value of
 });
 
 test("a script has ordinary writes under the code's names and kinds, and the bits of floats", async () => {
-  const [{ script }] = await recorded({ module: RING }, [1]);
+  const [{ script }] = await recorded({ module: RING, ...SMALL }, [1]);
   const { views, agents } = JSON.parse(script);
   assert.deepEqual(views.filter(({ name }) => name.endsWith("samples")), [
     { name: "samples", kind: "Float64", block: 0, offset: 8, length: 2 },
@@ -77,7 +81,7 @@ test("a test that fails, and --replay, have the values of the code", async (cont
   const module = join(folder, "ring.mjs");
   writeFileSync(module, readFileSync(RING, "utf8"));
   const out = join(folder, "found");
-  await assert.rejects(assertAgents({ module, seeds: "1..40", strategy: "uniform", out, jobs: 1 }), ({ message }) => {
+  await assert.rejects(assertAgents({ module, ...SMALL, seeds: "1..40", strategy: "uniform", out, jobs: 1 }), ({ message }) => {
     const [, acts] = message.split("Its last acts");
     assert.match(acts, /^[ >]+\d+ 0 \d+ write +writes samples\[[01]\], .+ from [\d.]+ to \d\.25, at .+$/m);
     assert.doesNotMatch(message, /ordinary_|\d{12}n/);
@@ -86,21 +90,26 @@ test("a test that fails, and --replay, have the values of the code", async (cont
   });
   const [, seed] = /seed-(\d+)\.html/.exec(readdirSync(out).join());
   const script = join(out, `seed-${seed}.json`);
-  const words = [RECORD, module, "--replay", script, ...CHECKING];
-  const again = () => spawnSync(process.execPath, words, { encoding: "utf8" });
-  const same = again();
+  const again = () => commandHere([module, "--replay", script, ...CHECKING]);
+  const same = await again();
   assert.deepEqual([same.status, same.stderr], [1, ""], same.stdout);
   writeFileSync(module, readFileSync(RING, "utf8").replace("= at + 0.25;", "= at + 0.5;"));
-  const other = again();
+  const other = await again();
   assert.equal(other.status, 3);
   assert.match(other.stderr, /ordinary write before its call \d+ was samples\[0\] = 0\.25 in the script, and is now /);
   assert.match(other.stderr, /and is now samples\[0\] = 0\.5\n/);
 });
 
+/** Runs of the ring, each with its trace. @param {object} [more] */
+const ringRuns = (more = {}) => recorded({ module: RING, strategy: "uniform", trace: true, ...more },
+  Array.from({ length: 40 }, (_, at) => at + 1));
+
+/** @type {ReturnType<typeof ringRuns> | undefined} the same runs for several tests */
+let sameRuns;
+
 /** The page of the first run of the ring that fails in a way. @param {string} ending @param {object} [more] */
-async function ringRun(ending, more = {}) {
-  const outcomes = await recorded({ module: RING, strategy: "uniform", trace: true, ...more },
-    Array.from({ length: 40 }, (_, at) => at + 1));
+async function ringRun(ending, more) {
+  const outcomes = await (more === undefined ? (sameRuns ??= ringRuns()) : ringRuns({ ...SMALL, ...more }));
   const outcome = outcomes.find((each) => each.ending === ending);
   assert.notEqual(outcome, undefined, outcomes.map((each) => each.ending).join());
   const { output } = simulated(["replay", "--format", "json"], outcome.script);
@@ -149,10 +158,10 @@ test("what an ordinary read has read is in no trace: sabsim's judge takes no suc
 
 test("the headline of a page and its timeline name an element in the same way, with names and without", async (context) => {
   const code = readFileSync(RING, "utf8");
+  const nameless = join(temporaryFolder(context), "ring.mjs");
+  writeFileSync(nameless, code.replace(/, names: .*\} \};/, " };"));
   for (const names of [true, false]) {
-    const module = join(temporaryFolder(context), "ring.mjs");
-    writeFileSync(module, names ? code : code.replace(/, names: .*\} \};/, " };"));
-    const { outcome: { detail, races: [{ sides }] }, run } = await ringRun("race", { module });
+    const { outcome: { detail, races: [{ sides }] }, run } = await ringRun("race", names ? undefined : { module: nameless });
     const name = names ? "samples" : "Float64_at8";
     for (const [at, step] of run.racing[0].map((index) => run.steps[index]).entries()) {
       assert.match(sides[at].element, new RegExp(`^${name}\\[[01]\\]$`));
@@ -185,7 +194,7 @@ test("an element of each kind, a DataView's too, has the code's kind", async (co
       Atomics.load(new Int32Array(buffer), 0);
     };
   `);
-  const [outcome] = await recorded({ module, trace: true }, [1]);
+  const [outcome] = await recorded({ module, agents: 1, trace: true }, [1]);
   const { output } = simulated(["replay", "--format", "json"], outcome.script);
   const { steps, rows } = new Run(pageData(outcome, output, pathToFileURL(module).href));
   const lines = steps.map(({ text, answer, changes }) => {
