@@ -12,9 +12,11 @@ import { CHECKER, CHECKING } from "./helpers/needs.mjs";
 import { different, recorded, seedsTo } from "./helpers/recorded.mjs";
 import { simulated } from "./helpers/simulate.mjs";
 
-/** A program of `agents/checked.mjs`, without pilots, which would take twice as many workers. */
-const program = (name, options = {}) =>
-  ({ module: agentsPath("checked"), args: [name], agents: 2, everywhere: true, ...options });
+/** Without pilots, which would take twice as many workers; and no worker begins that isn't needed. */
+const SMALL = { agents: 2, everywhere: true };
+
+/** A program of `agents/checked.mjs`. */
+const program = (name, options = {}) => ({ module: agentsPath("checked"), args: [name], ...SMALL, ...options });
 
 // Where the number of agents is given, no worker begins that isn't needed.
 describe("init and check", { concurrency: 2 }, () => {
@@ -33,7 +35,8 @@ describe("init and check", { concurrency: 2 }, () => {
 
   it("a run that fails by its check is kept, and replays", async (context) => {
     const out = temporaryFolder(context);
-    const words = [RECORD, agentsPath("checked"), "--seeds", "1..20", "--out", out, ...CHECKING, "--", "lost"];
+    const small = ["--agents", "2", "--everywhere"];
+    const words = [RECORD, agentsPath("checked"), ...small, "--seeds", "1..20", "--out", out, ...CHECKING, "--", "lost"];
     const { code, stdout } = await new Promise((done) => {
       execFile(process.execPath, words, (error, text) => done({ code: error?.code, stdout: text }));
     });
@@ -119,7 +122,7 @@ describe("init and check", { concurrency: 2 }, () => {
       };
     `);
     const called = join(folder, "called");
-    const [{ ending, trace }] = await recorded({ module: path, args: [called], seconds: 0.5 }, [1]);
+    const [{ ending, trace }] = await recorded({ module: path, args: [called], seconds: 0.5, ...SMALL }, [1]);
     assert.deepEqual([ending, readFileSync(called, "utf8")], ["check", "called"]);
     assert.equal(trace.trimEnd().split("\n").length, 2);
   });
@@ -165,7 +168,7 @@ describe("init and check", { concurrency: 2 }, () => {
       module.exports = agent;
     `);
     write("{ agents: 2, buffers: [4] }");
-    const outcome = await record({ module: path, sabsim: CHECKER });
+    const outcome = await record({ module: path, sabsim: CHECKER, ...SMALL });
     assert.equal(outcome.ending, "check");
     assert.match(outcome.detail, /^check threw Error: 5\n/);
     const wrong = { block: /`setup` can't have a member block: is noBlock meant\?$/,
@@ -188,10 +191,10 @@ describe("init and check", { concurrency: 2 }, () => {
         "default, setup, init, check; give it another name if not)";
       await assert.rejects(recordIt(), (error) => error instanceof Refused && error.message === why);
     }
-    for (const name of ["unit", "int", "checker", "settings", "initial", "agents"]) {
-      write(`export const ${name} = () => false;`);
-      assert.equal((await recordIt()).ending, "finished", name);
-    }
+    const others = ["unit", "int", "checker", "settings", "initial", "agents"];
+    // If any of them were refused, the error would name it.
+    write(others.map((name) => `export const ${name} = () => false;`).join("\n"));
+    assert.equal((await recordIt()).ending, "finished");
     write("export const check = () => true;\nexport const checks = [1];");
     assert.equal((await recordIt()).ending, "finished");
   });
@@ -222,7 +225,8 @@ describe("init and check", { concurrency: 2 }, () => {
       throw new Error("nobody asks for it");
     }, () => {}];
     const options = { init: () => (checks.length === 1 ? rejects() : undefined), check: () => checks.shift()() };
-    const outcomes = await recorded({ module: agentsPath("three-state-mutex"), trace: true, ...options }, seedsTo(3));
+    const outcomes = await recorded({ module: agentsPath("three-state-mutex"), trace: true, ...SMALL, agents: 3, ...options },
+      seedsTo(3));
     assert.deepEqual(outcomes.map(({ ending, fails }) => [ending, fails]), [
       ["check", true], ["check", true], ["failed", true],
     ]);

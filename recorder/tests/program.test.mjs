@@ -8,6 +8,7 @@ import { join } from "node:path";
 import { test } from "node:test";
 import { optionsOf, USAGE } from "../lib/command/options.mjs";
 import { Refused } from "../lib/options/refused.mjs";
+import { commandHere } from "./helpers/command-here.mjs";
 import { RECORD, WITHOUT_SABSIM, agentsOf, agentsPath, temporaryFolder } from "./helpers/common.mjs";
 import { CHECKING, NOWHERE, hasSabsim, onLinux } from "./helpers/needs.mjs";
 import { simulated } from "./helpers/simulate.mjs";
@@ -65,10 +66,11 @@ test("if some runs fail, the status is 1, and the first is kept in --out", (cont
   assert.deepEqual(readdirSync(out).sort(), kept.sort());
 });
 
-test("the explained report that is kept ends with the agents that wait", (context) => {
+test("the explained report that is kept ends with the agents that wait", async (context) => {
   const out = temporaryFolder(context);
-  const alike = ["--strategy", "uniform", "--everywhere", "--no-shorten"];
-  const { stdout } = run([agentsPath("naive-mutex"), "--seeds", "93", ...alike, "--out", out, ...CHECKING]);
+  const alike = ["--agents", "3", "--strategy", "uniform", "--everywhere", "--no-shorten"];
+  const words = [agentsPath("naive-mutex"), "--seeds", "93", ...alike, "--out", out, ...CHECKING];
+  const { stdout } = await commandHere(words);
   const waiting = [...stdout.matchAll(/^  agent (\d) waits at byte 4 of block 0: its call (\d+), /gm)];
   assert.deepEqual(waiting.map(([, agent, call]) => [agent, call]), [["1", "3"], ["0", "8"]]);
   const lines = readFileSync(join(out, "seed-93.explained"), "utf8").split("\n");
@@ -208,15 +210,17 @@ test("a wrong command line is refused with status 2 and one line", async (contex
   writeFileSync(file, "");
   const module = agentsPath("cases");
   const unchecked = ["--check", "0"];
+  // Fewer workers begin before the command line is refused.
+  const few = ["--agents", "1"];
   const wrong = [
-    [["--seeds", "1"], /the agents' module is missing/],
-    [[`${folder}/none.mjs`], /there is no file/],
-    [[folder], /there is no file/],
+    [["--seeds", "1", ...few], /the agents' module is missing/],
+    [[`${folder}/none.mjs`, ...few], /there is no file/],
+    [[folder, ...few], /there is no file/],
     [[module, "--buffers", "4", ...unchecked], /number of agents is missing/],
     [[module, "--agents", "1", ...unchecked], /buffers' bytes are missing/],
     [[module, "--agents", "1", "--buffers", "4", "--no-block", "1", ...unchecked],
       /--no-block\) names agent 1: there is no such agent, only 0 to 0$/m],
-    [[module, "--out", file], /--out .*file can't be used/],
+    [[module, "--out", file, ...few], /--out .*file can't be used/],
   ];
   const ran = await Promise.all(wrong.map(([words]) => new Promise((done) => {
     const answered = (error, stdout, stderr) => done({ status: error?.code, stdout, stderr });
@@ -296,7 +300,7 @@ test("a picture that sabsim doesn't make is reported", (context) => {
     "#!/bin/sh", "cat > /dev/null", 'if [ "$3" = svg ]; then echo "no pictures" >&2; exit 4; fi',
     `if [ "$2" = --format ]; then echo explained; else cat ${folder}/out/*.report; fi`, "",
   ].join("\n"), { mode: 0o755 });
-  const unchecked = ["--seeds", "1", "--out", join(folder, "out")];
+  const unchecked = ["--seeds", "1", "--no-shorten", "--out", join(folder, "out")];
   assert.equal(run(cases("waitsForEver", ...unchecked, "--check", "0")).status, 1);
   const { status, stdout } = run(cases("waitsForEver", ...unchecked, "--sabsim", half));
   assert.equal(status, 1, stdout);
@@ -329,14 +333,15 @@ test("arguments after -- go to the agents, and what they print goes to standard 
   assert.match(run([agents, ...words]).stdout, /agent 0 threw Error: \[0,1,\["--seeds","--","x y"\]\]/);
 });
 
-test("a module's own setup serves, and the command line goes before it", () => {
-  const module = agentsPath("setup");
-  assert.match(run([module, "--seeds", "1", ...CHECKING]).stdout, /: 02000000 \| 0200000001000000$/m);
-  const longer = run([module, "--seeds", "1", "--buffers", "8,8", ...CHECKING]);
+test("a module's own setup serves, and the command line goes before it", async () => {
+  const words = [agentsPath("setup"), "--seeds", "1", "--everywhere", ...CHECKING];
+  assert.match((await commandHere(words)).stdout, /: 02000000 \| 0200000001000000$/m);
+  const longer = await commandHere([...words, "--buffers", "8,8"]);
   assert.match(longer.stdout, /: 0200000000000000 \| 0200000001000000$/m);
-  const three = [module, "--seeds", "1", "--agents", "3", "--buffers", "4,8,4", "--no-block", "0"];
-  assert.match(run([...three, ...CHECKING]).stdout, /^1 of 1 run failed: 1 deadlock$/m);
-  assert.match(run([...three, "--no-block", "1", ...CHECKING]).stdout, /^1 run: 1 finished$/m);
+  const three = [...words, "--agents", "3", "--buffers", "4,8,4", "--no-block", "0"];
+  assert.match((await commandHere(three)).stdout, /^1 of 1 run failed: 1 deadlock$/m);
+  // With a process of its own for the job, which gets what the command line says.
+  assert.match(run([...three, "--no-block", "1"]).stdout, /^1 run: 1 finished$/m);
 });
 
 test("a module that can't be loaded is refused with status 2", (context) => {
@@ -347,7 +352,7 @@ test("a module that can't be loaded is refused with status 2", (context) => {
   assert.match(stderr, /^record: .*bad\.mjs can't be loaded: .*no function as its default export/);
 });
 
-test("the cause of a worker's death while its module is loaded is reported", (context) => {
+test("the cause of a worker's death while its module is loaded is reported", async (context) => {
   const folder = temporaryFolder(context);
   const deaths = {
     "Error: too late": 'setTimeout(() => { throw new Error("too late"); }); await new Promise(() => {});',
@@ -357,7 +362,7 @@ test("the cause of a worker's death while its module is loaded is reported", (co
   for (const [why, code] of Object.entries(deaths)) {
     const module = join(folder, "dies.mjs");
     writeFileSync(module, `${code}\nexport default () => {};\n`);
-    const { status, stderr } = run([module, "--agents", "1", "--buffers", "4", "--check", "0"]);
+    const { status, stderr } = await commandHere([module, "--agents", "1", "--buffers", "4", "--check", "0"]);
     assert.equal(status, 2, why);
     assert.match(stderr, /^record: .*dies\.mjs can't be loaded: /);
     assert.ok(stderr.includes(why), stderr);
