@@ -14,6 +14,7 @@ import { Delivery } from "../lib/seeds/delivery.mjs";
 import { Runs, outcomesOf } from "../lib/seeds/runs.mjs";
 import { isWorthIt } from "../lib/seeds/more-jobs.mjs";
 import { jobWords } from "../lib/seeds/start-job.cjs";
+import { commandHere } from "./helpers/command-here.mjs";
 import { RECORD, agentsOf, agentsPath, temporaryFolder } from "./helpers/common.mjs";
 import { CHECKING, onLinux } from "./helpers/needs.mjs";
 
@@ -81,11 +82,12 @@ test("a command ends when all is written, whatever else would keep its process",
   assert.match(stdout, /^ {2}1 run finished, seed 1 the first: 0200000000000000$/m);
 });
 
-test("one job and several print the same", () => {
+// What several jobs print is compared with what one job prints that is in this process.
+test("one job and several print the same", async () => {
   const words = [agentsPath("naive-mutex"), "--seeds", "1..150", ...CHECKING];
-  const [one, four] = ["1", "4"].map((jobs) => run([...words, "--jobs", jobs]));
+  const one = await commandHere([...words, "--jobs", "1"]);
   assert.equal(one.status, 1);
-  assert.deepEqual(four, one);
+  assert.deepEqual(run([...words, "--jobs", "4"]), one);
 });
 
 test("without --jobs a command that goes on takes further jobs, and prints the same as one", onLinux, async () => {
@@ -103,7 +105,8 @@ test("without --jobs a command that goes on takes further jobs, and prints the s
     child.on("close", done);
   });
   clearInterval(counting);
-  assert.deepEqual({ status, stdout }, (({ stderr, ...rest }) => rest)(run([...words.slice(1), "--jobs", "1"])));
+  const { stderr, ...one } = await commandHere([...words.slice(1), "--jobs", "1"]);
+  assert.deepEqual({ status, stdout }, one);
   // Besides the command itself there is a process for each job. Whether one is added depends on what else is running.
   assert.ok(most >= 2 && most <= 1 + availableParallelism(), `${most} processes`);
   assert.deepEqual(processesWith(mark), []);
@@ -160,13 +163,13 @@ test("a further job is worth it if a processor is idle, and the runs would go on
   assert.equal(isWorthIt({ ...seen, made: 0 }, 1, 500), true);
 });
 
-test("with --fail-fast the first failing run is the last, whatever the number of jobs", () => {
+test("with --fail-fast the first failing run is the last, whatever the number of jobs", async () => {
   // Without pilots, which would take twice as many workers: the seeds are given out in the same way.
   const alike = ["--agents", "3", "--everywhere"];
   const words = [agentsPath("naive-mutex"), "--seeds", "1..1000000", "--check", "7", ...alike, ...CHECKING];
-  const [one, three] = ["1", "3"].map((jobs) => run([...words, "--fail-fast", "--jobs", jobs]));
+  const one = await commandHere([...words, "--fail-fast", "--jobs", "1"]);
   assert.equal(one.status, 1);
-  assert.deepEqual(three, one);
+  assert.deepEqual(run([...words, "--fail-fast", "--jobs", "3"]), one);
   const first = /^1 of ([\d,]+) runs failed: 1 deadlock; [\d,]+ finished\nfirst failing seed: (\d+), /;
   const [, runs, seed] = first.exec(one.stdout);
   assert.equal(runs.replaceAll(",", ""), seed);

@@ -45,19 +45,20 @@ function recorded(words, options = {}) {
  * @param {string} main its path
  * @param {string[]} words
  */
-function kept(main, words) {
+async function kept(main, words) {
   const folder = join(dirname(main), "found");
-  const { status, stderr } = recorded(["--program", main, "--seeds", "1..60", "--fail-fast", "--out", folder, ...words]);
+  const all = ["--program", main, "--seeds", "1..60", "--fail-fast", "--out", folder, ...words];
+  const { status, stderr } = await commandHere(all);
   assert.equal(status, 1, stderr);
   const name = readdirSync(folder).find((each) => each.endsWith(".program.json"));
   return { main, folder, file: join(folder, name ?? "none"), name: (name ?? "").replace(".program.json", "") };
 }
 
-/** @type {ReturnType<typeof kept>} the program above: tests that look at its kept run leave its files as they were */
+/** @type {Awaited<ReturnType<typeof kept>>} the program above: tests that look at its kept run leave its files as they were */
 let ofMain;
 const room = mkdtempSync(join(tmpdir(), "recorder-"));
-before(() => {
-  ofMain = kept(programIn(room, { "main.mjs": MAIN, "worker.mjs": WORKER }), ["--timeouts", "0.2", "--", "mine"]);
+before(async () => {
+  ofMain = await kept(programIn(room, { "main.mjs": MAIN, "worker.mjs": WORKER }), ["--timeouts", "0.2", "--", "mine"]);
 });
 after(() => rmSync(room, { recursive: true, force: true }));
 
@@ -85,7 +86,7 @@ test("a kept run of a program is made again from its file alone: the same script
 });
 
 test("a run without a script is made again, too, and options of the command line go before the kept ones", async (context) => {
-  const { file, folder } = kept(programOf(context, {
+  const { file, folder } = await kept(programOf(context, {
     "main.mjs": `import { Worker } from "node:worker_threads";
       const words = new Int32Array(new SharedArrayBuffer(8));
       const worker = new Worker(new URL("./worker.mjs", import.meta.url), { workerData: words });
@@ -105,7 +106,7 @@ test("a run without a script is made again, too, and options of the command line
 });
 
 test("a run that waits by waitAsync is made again, and what differs is named as the thread's", async (context) => {
-  const { main, file, folder, name } = kept(programOf(context, {
+  const { main, file, folder, name } = await kept(programOf(context, {
     "main.mjs": `import { Worker } from "node:worker_threads";
       const words = new Int32Array(new SharedArrayBuffer(8));
       new Worker(new URL("./worker.mjs", import.meta.url), { workerData: words });
