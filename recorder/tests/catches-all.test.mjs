@@ -6,10 +6,11 @@ import { spawnSync } from "node:child_process";
 import { existsSync, readFileSync, writeFileSync } from "node:fs";
 import { join } from "node:path";
 import { test } from "node:test";
+import { commandHere } from "./helpers/command-here.mjs";
 import { RECORD, agentsOf, agentsPath, temporaryFolder } from "./helpers/common.mjs";
 import { CHECKING } from "./helpers/needs.mjs";
 
-/** Runs the recorder. */
+/** Runs the recorder in a process of its own. What its agents print comes from there. */
 function recorded(words, seconds = 120) {
   const options = { encoding: "utf8", timeout: seconds * 1_000 };
   const { status, stdout, stderr } = spawnSync(process.execPath, [RECORD, ...words], options);
@@ -44,9 +45,9 @@ test("code that catches it and ends soon keeps its worker, and a loop gets anoth
   }
 });
 
-test("if an agent goes on without a call, the trace isn't kept, and the summary says why", (context) => {
+test("if an agent goes on without a call, the trace isn't kept, and the summary says why", async (context) => {
   const out = temporaryFolder(context);
-  const { status, output } = recorded(wordsOf(`${FAILING}`, "--out", out, "--", "stay"));
+  const { status, stdout: output } = await commandHere(wordsOf(`${FAILING}`, "--out", out, "--", "stay"));
   assert.equal(status, 1);
   const why = "agent 1 didn't come to an end after the run, so the run wasn't made once more to learn its lines of code";
   const lines = output.split("\n").filter((line) => line.startsWith("not kept: "));
@@ -54,15 +55,15 @@ test("if an agent goes on without a call, the trace isn't kept, and the summary 
   assert.ok(!existsSync(join(out, `seed-${FAILING}.trace.jsonl`)));
 });
 
-test("if the second run goes another way, the trace isn't kept, and the summary says why", (context) => {
+test("if the second run goes another way, the trace isn't kept, and the summary says why", async (context) => {
   const folder = temporaryFolder(context);
   const module = agentsOf(folder, `
     globalThis.times = (globalThis.times ?? 0) + 1;
     Atomics.store(new Int32Array(buffers[0]), 0, globalThis.times);
     throw new Error("always");`);
   const words = [module, "--agents", "1", "--buffers", "4", "--seeds", "1", "--no-shorten", "--check", "0"];
-  const { output } = recorded([...words, "--out", join(folder, "out")]);
-  assert.match(output, /^not kept: seed-1\.trace\.jsonl: the run went another way when it was made once more /m);
+  const { stdout } = await commandHere([...words, "--out", join(folder, "out")]);
+  assert.match(stdout, /^not kept: seed-1\.trace\.jsonl: the run went another way when it was made once more /m);
 });
 
 test("what `init` prints is printed, also after a run that was over for its agent", (context) => {

@@ -295,6 +295,7 @@ test("a call of native code that takes long holds nothing, nor does what it has 
   const took = performance.now() - begun;
   assert.equal(status, 1);
   assert.match(stdout, /^1 of 1 run failed: 1 limit met\n/);
-  assert.ok(took < 30_000, `it took ${took} ms`);
+  // If anything held it, that would be for the whole minute.
+  assert.ok(took < 50_000, `it took ${took} ms`);
   assert.deepEqual(processesWith(mark), []);
 });

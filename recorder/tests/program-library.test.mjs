@@ -1,14 +1,15 @@
 // Whole programs by the library and by `sabsim/test`: the same runs as those of the command line.
 
 import assert from "node:assert/strict";
-import { spawn, spawnSync } from "node:child_process";
+import { spawn } from "node:child_process";
 import { mkdirSync, readFileSync, readdirSync, writeFileSync } from "node:fs";
 import { dirname, join } from "node:path";
 import { test } from "node:test";
 import { fileURLToPath, pathToFileURL } from "node:url";
 import { Refused, explore, record } from "../recorder.mjs";
 import { assertProgram } from "../testing.mjs";
-import { RECORD, agentsPath, temporaryFolder } from "./helpers/common.mjs";
+import { commandHere } from "./helpers/command-here.mjs";
+import { agentsPath, temporaryFolder } from "./helpers/common.mjs";
 
 /** @param {string} main of a program with a known answer */
 const knownProgram = (main) => fileURLToPath(new URL(`programs/${main}`, import.meta.url));
@@ -26,7 +27,7 @@ const part = ({ seed, ending, fails, detail, moves, calls, ordinary, progress, s
 test("`explore` makes the runs of the command line, with any number of jobs, and `record` each of them alone", async (context) => {
   const found = join(temporaryFolder(context), "found");
   const words = ["--program", TOO_SOON, "--seeds", "1..6", "--format", "json", "--no-shorten", "--out", found];
-  const { stdout } = spawnSync(process.execPath, [RECORD, ...words], { encoding: "utf8" });
+  const { stdout } = await commandHere(words);
   const summary = JSON.parse(stdout);
   const options = { program: TOO_SOON, seeds: "1..6", trace: true };
   const outcomes = [];

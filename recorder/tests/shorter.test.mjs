@@ -196,7 +196,8 @@ const commandThere = (words) => spawnSync(process.execPath, [RECORD, ...words], 
 /** Runs the command line on the program `bell` with an own folder, and returns what it kept there. */
 async function keptBy(context, run, ...words) {
   const out = temporaryFolder(context);
-  const all = [MODULE, "--seeds", "1..80", ...CHECKING, "--out", out, ...words, "--", "bell"];
+  const small = ["--agents", "2", "--everywhere"];
+  const all = [MODULE, ...small, "--seeds", "1..80", ...CHECKING, "--out", out, ...words, "--", "bell"];
   const { status, stdout, stderr } = await run(all);
   assert.deepEqual([status, stderr], [1, ""], stderr);
   const files = Object.fromEntries(readdirSync(out).map((name) => [name, readFileSync(join(out, name), "utf8")]));
@@ -213,7 +214,8 @@ test("the shortest run is kept with the original beside it, whatever the jobs; -
     const endings = [...first, ...first.map((ending) => `original.${ending}`), "explained", "svg", "html"];
     assert.deepEqual(Object.keys(files).sort(), endings.map((ending) => `seed-${seed}.${ending}`).sort());
     assert.ok(stdout.endsWith(`: ${endings.map((ending) => `seed-${seed}.${ending}`).join(", ")}\n`), stdout);
-    const options = { module: MODULE, args: ["bell"], seed: Number(seed), sabsim: CHECKER };
+    const small = { agents: 2, everywhere: true };
+    const options = { module: MODULE, args: ["bell"], ...small, seed: Number(seed), sabsim: CHECKER };
     const { original, ...shortest } = await record({ ...options, shorten: true });
     assert.equal(files[`seed-${seed}.json`], shortest.script);
     assert.equal(files[`seed-${seed}.report`], shortest.report);

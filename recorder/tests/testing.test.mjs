@@ -62,23 +62,43 @@ function ofOptions() {
   return optionsSuite;
 }
 
-/** Where a failing run is kept whose test names no folder. @param {string} temporary */
-function keptIn(temporary) {
+/**
+ * Where the run of a test that names no folder is kept: each of the three tests has a folder of its own.
+ * @param {string} temporary
+ * @param {boolean} isShortened whether it is the one of the two tests of the lock that shortens
+ */
+function keptIn(temporary, isShortened) {
   const [own] = readdirSync(temporary);
   assert.match(own, /^sabsim-\d+$/);
   const tests = readdirSync(join(temporary, own));
-  assert.equal(tests.length, 1);
-  return join(temporary, own, tests[0]);
+  assert.deepEqual(tests.map((test) => test.split("-")[0]).sort(), ["agents.mjs", "agents.mjs", "ring"]);
+  const ofLock = tests.filter((test) => test.startsWith("agents.mjs-")).map((test) => join(temporary, own, test));
+  const found = ofLock.filter((test) => readdirSync(test).some((name) => name.includes("original")) === isShortened);
+  assert.equal(found.length, 1);
+  return found[0];
 }
 
 // All that can move are alike, before each call.
 const ALIKE = 'module: "./agents.mjs", agents: 3, strategy: "uniform", everywhere: true';
 const AGENTS = `testAgents("no wake-up is lost", { ${ALIKE}, seeds: "1..200", shorten: false });`;
+const RING = fileURLToPath(new URL("known/ring-frees-first.mjs", import.meta.url));
 
-test("a failing test shows seed, ending, its explained end, and where its files lie", async (the) => {
-  const { folder, temporary, output, status } = await suite(the, AGENTS);
+/** @type {ReturnType<typeof suite> | undefined} */
+let failingSuite;
+
+/** The suite of the three tests about what a failing test shows, which is run once. */
+function ofFailing() {
+  failingSuite ??= suite({ after: (end) => ends.push(end) }, `${AGENTS}
+    testAgents("shorter", { ${ALIKE}, seeds: "29" });
+    testAgents("ring", { module: "${RING}", agents: 2, everywhere: true, seeds: "3", shorten: false });
+  `);
+  return failingSuite;
+}
+
+test("a failing test shows seed, ending, its explained end, and where its files lie", async () => {
+  const { folder, temporary, output, status } = await ofFailing();
   assert.equal(status, 1);
-  const place = keptIn(temporary);
+  const place = keptIn(temporary, false);
   const names = ["json", "report", "trace.jsonl", "explained", "svg", "html"].map((ending) => `seed-29.${ending}`);
   assert.deepEqual(readdirSync(place).sort(), [...names].sort());
   const explained = readFileSync(join(place, "seed-29.explained"), "utf8").split("\n");
@@ -123,12 +143,12 @@ test("a chosen program that isn't there fails the test", async (the) => {
   assert.match(output, /there is no program sabsim at \/nowhere\/sabsim/);
 });
 
-test("the shortest run that fails so is shown and kept, with the original beside it", async (the) => {
-  const { temporary, output, status } = await suite(the, `testAgents("shorter", { ${ALIKE}, seeds: "29" });`);
+test("the shortest run that fails so is shown and kept, with the original beside it", async () => {
+  const { temporary, output, status } = await ofFailing();
   assert.equal(status, 1);
   const waits = /^ +agent 0 waits at byte 4 of block 0: its call 1, \["wait", "Int32", 1, 0\], at agents\.mjs:12:60$/m;
   assert.match(output, waits);
-  const place = keptIn(temporary);
+  const place = keptIn(temporary, true);
   const texts = ["json", "report", "trace.jsonl"];
   const endings = [...texts, ...texts.map((ending) => `original.${ending}`), "explained", "svg", "html"];
   assert.deepEqual(readdirSync(place).sort(), endings.map((ending) => `seed-29.${ending}`).sort());
@@ -153,9 +173,8 @@ test("options that can't be fail their test, and others go on", async () => {
   assert.deepEqual(readdirSync(temporary), []);
 });
 
-test("the failing test of a race marks its two accesses among the last acts, with their lines", async (the) => {
-  const module = fileURLToPath(new URL("known/ring-frees-first.mjs", import.meta.url));
-  const { output } = await suite(the, `testAgents("ring", { module: "${module}", agents: 2, everywhere: true, seeds: "3", shorten: false });`);
+test("the failing test of a race marks its two accesses among the last acts, with their lines", async () => {
+  const { output } = await ofFailing();
   const lines = output.split("\n").map((line) => line.trim());
   assert.ok(lines.some((line) => line.endsWith("and their lines; > marks two accesses that nothing orders:")));
   // The reporter shows a failure twice.
