@@ -2,12 +2,12 @@
 // module and as options of the library.
 
 import assert from "node:assert/strict";
-import { execFile } from "node:child_process";
 import { readFileSync, readdirSync, writeFileSync } from "node:fs";
 import { join } from "node:path";
 import { describe, it } from "node:test";
 import { Refused, record } from "../recorder.mjs";
-import { RECORD, agentsPath, temporaryFolder } from "./helpers/common.mjs";
+import { commandHere } from "./helpers/command-here.mjs";
+import { agentsPath, temporaryFolder } from "./helpers/common.mjs";
 import { CHECKER, CHECKING } from "./helpers/needs.mjs";
 import { different, recorded, seedsTo } from "./helpers/recorded.mjs";
 import { simulated } from "./helpers/simulate.mjs";
@@ -36,11 +36,9 @@ describe("init and check", { concurrency: 2 }, () => {
   it("a run that fails by its check is kept, and replays", async (context) => {
     const out = temporaryFolder(context);
     const small = ["--agents", "2", "--everywhere"];
-    const words = [RECORD, agentsPath("checked"), ...small, "--seeds", "1..20", "--out", out, ...CHECKING, "--", "lost"];
-    const { code, stdout } = await new Promise((done) => {
-      execFile(process.execPath, words, (error, text) => done({ code: error?.code, stdout: text }));
-    });
-    assert.equal(code, 1);
+    const words = [agentsPath("checked"), ...small, "--seeds", "1..20", "--out", out, ...CHECKING, "--", "lost"];
+    const { status, stdout } = await commandHere(words);
+    assert.equal(status, 1);
     const [, seed] = /^first failing seed: (\d+), check failed\n {2}check threw Error: counted to 1$/m.exec(stdout);
     const kept = (ending) => readFileSync(join(out, `seed-${seed}.${ending}`), "utf8");
     assert.deepEqual(readdirSync(out).sort(), [

@@ -11,6 +11,7 @@ import { Keeper } from "../lib/keeping/keep.mjs";
 import { Refused } from "../lib/options/refused.mjs";
 import { loadProblem } from "../lib/run/load-problem.mjs";
 import { record } from "../recorder.mjs";
+import { commandHere } from "./helpers/command-here.mjs";
 import { RECORD, temporaryFolder } from "./helpers/common.mjs";
 
 const MERGE = fileURLToPath(new URL("../merge.mjs", import.meta.url));
@@ -60,16 +61,16 @@ test("each way to export an agent is taken", async (context) => {
   }
 });
 
-test("if a file that looks like a program throws, the error says what a module of agents is", (context) => {
+test("if a file that looks like a program throws, the error says what a module of agents is", async (context) => {
   const hint = /\nIt looks like a program, or like the file of its Worker\. A module of agents starts no threads: /;
   const thrown = 'throw new RangeError("at once");\nexport default () => {};\n';
   const worker = fileWith(context, "worker.mjs", `import { workerData } from "node:worker_threads";\n${thrown}`);
   const plain = fileWith(context, "plain.mjs", thrown);
   for (const [file, isProgram] of [[worker, true], [plain, false]]) {
-    const { status, errors } = run(RECORD, [file, "--agents", "1", "--buffers", "4"]);
+    const { status, stderr } = await commandHere([file, "--agents", "1", "--buffers", "4"]);
     assert.equal(status, 2);
-    assert.match(errors, /^record: .* can't be loaded: RangeError: at once\n/);
-    assert.equal(hint.test(errors), isProgram, errors);
+    assert.match(stderr, /^record: .* can't be loaded: RangeError: at once\n/);
+    assert.equal(hint.test(stderr), isProgram, stderr);
   }
 });
 

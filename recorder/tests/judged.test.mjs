@@ -7,6 +7,7 @@ import { join } from "node:path";
 import { describe, it } from "node:test";
 import { fileURLToPath } from "node:url";
 import { Difference, NoSabsim, record } from "../recorder.mjs";
+import { commandHere } from "./helpers/command-here.mjs";
 import { RECORD, agentsPath, recordCase, temporaryFolder } from "./helpers/common.mjs";
 import { SIMULATOR_WORDS } from "./helpers/simulate.mjs";
 import { eventsOfTrace, slowJudge } from "./helpers/slow-judge.mjs";
@@ -143,11 +144,11 @@ describe("the judge of checked runs", () => {
     }
   });
 
-  it("isn't asked if ordinary accesses aren't watched, since no races are looked for", (context) => {
+  it("isn't asked if ordinary accesses aren't watched, since no races are looked for", async (context) => {
     const sabsim = judging(temporaryFolder(context), FINDS_ONE);
     for (const ordinary of ["store", "refuse"]) {
       const words = ["--sabsim", sabsim, "--ordinary", ordinary, ...addition];
-      const { status, stdout } = run(agentsPath("cases"), ...words);
+      const { status, stdout } = await commandHere([agentsPath("cases"), ...words]);
       assert.equal(status, 0, stdout);
       assert.match(stdout, /^every run was replayed by sabsim \(native program\): it agrees with the recorder$/m);
     }
@@ -162,22 +163,22 @@ describe("the judge of checked runs", () => {
       assert.match(error.message, tooOld);
       return true;
     });
-    const { status, stderr } = run(agentsPath("cases"), "--sabsim", sabsim, ...addition);
+    const { status, stderr } = await commandHere([agentsPath("cases"), "--sabsim", sabsim, ...addition]);
     assert.equal(status, 3);
     assert.match(stderr.trimEnd(), tooOld);
   });
 
-  it("ends by a signal: that is a difference too", (context) => {
-    const folder = temporaryFolder(context);
-    const { status, stderr } = run(agentsPath("cases"), "--sabsim", judging(folder, "kill -9 $$"), ...addition);
+  it("ends by a signal: that is a difference too", async (context) => {
+    const sabsim = judging(temporaryFolder(context), "kill -9 $$");
+    const { status, stderr } = await commandHere([agentsPath("cases"), "--sabsim", sabsim, ...addition]);
     assert.equal(status, 3);
     assert.match(stderr, /^record: seed 7: sabsim ended with status null on the script's accesses: /m);
   });
 
-  it("isn't asked of a run that isn't checked", (context) => {
+  it("isn't asked of a run that isn't checked", async (context) => {
     const folder = temporaryFolder(context);
     const words = ["--sabsim", judging(folder, FINDS_ONE), "--check", "0", ...addition];
-    assert.equal(run(agentsPath("cases"), ...words).status, 0);
+    assert.equal((await commandHere([agentsPath("cases"), ...words])).status, 0);
     assert.ok(!readdirSync(folder).includes("given"));
   });
 

@@ -292,7 +292,7 @@ test("with nothing built every run is checked, and explanation, picture and page
   assert.ok(stdout.split("\n").includes(checked), stdout);
 });
 
-test("a picture that sabsim doesn't make is reported", (context) => {
+test("a picture that sabsim doesn't make is reported", async (context) => {
   const folder = temporaryFolder(context);
   const half = join(folder, "half");
   // It says the same of the run, whatever it was, and makes no picture.
@@ -301,8 +301,8 @@ test("a picture that sabsim doesn't make is reported", (context) => {
     `if [ "$2" = --format ]; then echo explained; else cat ${folder}/out/*.report; fi`, "",
   ].join("\n"), { mode: 0o755 });
   const unchecked = ["--seeds", "1", "--no-shorten", "--out", join(folder, "out")];
-  assert.equal(run(cases("waitsForEver", ...unchecked, "--check", "0")).status, 1);
-  const { status, stdout } = run(cases("waitsForEver", ...unchecked, "--sabsim", half));
+  assert.equal((await commandHere(cases("waitsForEver", ...unchecked, "--check", "0"))).status, 1);
+  const { status, stdout } = await commandHere(cases("waitsForEver", ...unchecked, "--sabsim", half));
   assert.equal(status, 1, stdout);
   assert.match(stdout, /^every run was replayed and judged by sabsim \(native program\): it agrees with the recorder$/m);
   const left = "\nnot kept: seed-1.svg: sabsim ended with status 4: no pictures\n" +
@@ -322,7 +322,7 @@ test("a difference stops everything with status 3, and is kept", (context) => {
   assert.equal(readFileSync(join(out, "seed-7.sabsim-report"), "utf8"), "0 0 0 begin\n");
 });
 
-test("arguments after -- go to the agents, and what they print goes to standard error at once", (context) => {
+test("arguments after -- go to the agents, and what they print goes to standard error at once", async (context) => {
   const printed = run(cases("prints", "--seeds", "3", "--check", "0"));
   assert.equal(printed.status, 0);
   const lines = printed.stderr.trimEnd().split("\n");
@@ -330,7 +330,7 @@ test("arguments after -- go to the agents, and what they print goes to standard 
   const agents = agentsOf(temporaryFolder(context), "throw new Error(JSON.stringify([agent, agents, args]));");
   const group = ["--agents", "1", "--buffers", "4", "--seeds", "1", "--check", "0"];
   const words = [...group, "--", "--seeds", "--", "x y"];
-  assert.match(run([agents, ...words]).stdout, /agent 0 threw Error: \[0,1,\["--seeds","--","x y"\]\]/);
+  assert.match((await commandHere([agents, ...words])).stdout, /agent 0 threw Error: \[0,1,\["--seeds","--","x y"\]\]/);
 });
 
 test("a module's own setup serves, and the command line goes before it", async () => {

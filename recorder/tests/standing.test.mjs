@@ -7,8 +7,8 @@ import { test } from "node:test";
 import { summaryText } from "../lib/command/summary-text.mjs";
 import { Summary } from "../lib/command/summary.mjs";
 import { explore, record } from "../recorder.mjs";
+import { commandHere } from "./helpers/command-here.mjs";
 import { temporaryFolder } from "./helpers/common.mjs";
-import { runNode } from "./helpers/programs.mjs";
 
 const MODULE = `
 export const setup = { agents: 3, buffers: [12, 8], names: { LOCK: 1 } };
@@ -97,8 +97,8 @@ test("agents that ask for a call when a limit is met are there too", async (cont
 test("the summary has that of the first failing run as JSON, and so has a joined one", async (context) => {
   const small = ["--agents", "3", "--everywhere"];
   const words = [moduleIn(context), "--seeds", "2..3", "--format", "json", ...small, "--", "deadlock"];
-  const { output } = await runNode("recorder/record.mjs", words);
-  const summary = JSON.parse(output);
+  const { stdout } = await commandHere(words);
+  const summary = JSON.parse(stdout);
   assert.deepEqual(inOrder(summary.firstFailing.standing), WAITING);
   const joined = new Summary({ ordinary: "watch", races: "fail" });
   joined.join(summary);
