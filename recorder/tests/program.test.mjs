@@ -26,9 +26,12 @@ function run(words, options = {}) {
   return { status, stdout, stderr };
 }
 
-/** The words for two agents of `agents/cases.mjs`, without pilots, which would take twice as many workers. */
-const cases = (name, ...words) =>
-  [agentsPath("cases"), "--agents", "2", "--buffers", "12", "--everywhere", ...words, "--", name];
+/** The words for agents of `agents/cases.mjs`, without pilots, which would take twice as many workers. */
+const casesOf = (agents, name, ...words) =>
+  [agentsPath("cases"), "--agents", `${agents}`, "--buffers", "12", "--everywhere", ...words, "--", name];
+
+/** The same for two agents. */
+const cases = (name, ...words) => casesOf(2, name, ...words);
 
 test("if no run fails, the status is 0", () => {
   assert.deepEqual(run(cases("addition", "--seeds", "1..20", ...CHECKING)), {
@@ -390,19 +393,20 @@ const soon = async (holds, milliseconds = 20_000) => {
   return holds();
 };
 
-// What the recorder is busy with in two processes when it is killed, what it has printed by then, and what that needs.
+// What the recorder is busy with in two processes when it is killed: how many agents do it in each of them, what it has
+// printed by then, and what that needs.
 const BUSY = {
-  "agents that loop": ["loops", /(it loops\s+){2}/, onLinux],
-  checks: ["prints", /(agent \d says \d+\s+){100}/, onLinux],
+  "agents that loop": [2, "loops", /(it loops\s+){2}/, onLinux],
+  checks: [1, "prints", /(agent \d says \d+\s+){100}/, onLinux],
 };
 
 for (const signal of ["SIGINT", "SIGTERM", "SIGKILL"]) {
-  for (const [what, [name, printed, needs]] of Object.entries(BUSY)) {
+  for (const [what, [agents, name, printed, needs]] of Object.entries(BUSY)) {
     test(`${signal} amid ${what} leaves no worker and no sabsim behind`, needs, async (context) => {
       const mark = randomUUID();
       context.after(() => processesWith(mark).forEach((id) => process.kill(Number(id), "SIGKILL")));
       const seeds = ["--seeds", "1..1000000", "--check", "1", "--seconds", "3600"];
-      const words = cases(name, "--jobs", "2", ...seeds, ...CHECKING);
+      const words = casesOf(agents, name, "--jobs", "2", ...seeds, ...CHECKING);
       const env = { ...process.env, RECORDER_TEST: mark };
       const child = spawn(process.execPath, [RECORD, ...words], { env, stdio: ["ignore", "ignore", "pipe"] });
       const ended = new Promise((done) => {
