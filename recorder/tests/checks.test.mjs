@@ -223,8 +223,8 @@ describe("init and check", { concurrency: 2 }, () => {
       throw new Error("nobody asks for it");
     }, () => {}];
     const options = { init: () => (checks.length === 1 ? rejects() : undefined), check: () => checks.shift()() };
-    const outcomes = await recorded({ module: agentsPath("three-state-mutex"), trace: true, ...SMALL, agents: 3, ...options },
-      seedsTo(3));
+    const module = agentsPath("three-state-mutex");
+    const outcomes = await recorded({ module, trace: true, ...SMALL, agents: 3, ...options }, seedsTo(3));
     assert.deepEqual(outcomes.map(({ ending, fails }) => [ending, fails]), [
       ["check", true], ["check", true], ["failed", true],
     ]);

@@ -46,8 +46,8 @@ function moduleIn(context) {
 }
 
 /**
- * Runs the command line, and gives its summary as an object of JSON, and the status. One with several jobs has processes
- * of its own.
+ * Runs the command line, and gives its summary as an object of JSON, and the status. If it has several jobs, they and it
+ * are processes of their own.
  */
 async function summaryOf(context, way, words) {
   // No worker begins that isn't needed.

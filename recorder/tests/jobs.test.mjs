@@ -130,9 +130,8 @@ test("further jobs are taken while processors are idle, and the outcomes are tho
   Object.assign(os, { availableParallelism: () => 3, cpus: () => [{ times: { idle: idle() } }] });
   syncBuiltinESMExports();
   const taken = async (options) => {
-    const all = {
-      module, args: [], agents: 2, buffers: [4], maxMoves: 100, seconds: 10, fresh: false, checkEvery: 0, everywhere: true,
-    };
+    const group = { module, args: [], agents: 2, buffers: [4], everywhere: true };
+    const all = { ...group, maxMoves: 100, seconds: 10, fresh: false, checkEvery: 0 };
     const runs = new Runs({ ...all, first: 1, ...options });
     const outcomes = [];
     let since = 0;
