@@ -12,10 +12,11 @@ import { CHECKER } from "./helpers/needs.mjs";
 const COUNTS = `const count = new Int32Array(buffers[0]);
 for (let time = 0; time < 5; time += 1) count[0] += 1;`;
 
-/** @param {import("node:test").TestContext} context */
+/** Without pilots, half as many workers are needed. @param {import("node:test").TestContext} context */
 const outcomeOf = (context, body, options = {}) => {
   const module = agentsOf(temporaryFolder(context), body);
-  return record({ module, agents: 2, buffers: [16], sabsim: CHECKER, seconds: 5, ...options });
+  const fixed = { module, agents: 2, buffers: [16], everywhere: true, sabsim: CHECKER, seconds: 5 };
+  return record({ ...fixed, ...options });
 };
 
 describe("agents without a call of Atomics", { concurrency: 4 }, () => {

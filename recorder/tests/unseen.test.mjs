@@ -76,7 +76,8 @@ describe("a script of a run with ordinary accesses", () => {
       export const setup = { agents: 1, buffers: [4] };
       export default ({ buffers }) => { Atomics.wait(new Int32Array(buffers[0]), 0, 0); };
     `);
-    const recording = [RECORD, "agents.mjs", "--seeds", "1", "--out", "out", "--no-shorten", "--check", "0"];
+    const options = ["--agents", "1", "--seeds", "1", "--out", "out", "--no-shorten", "--check", "0"];
+    const recording = [RECORD, "agents.mjs", ...options];
     for (const [nodeWords, names] of [[[], ["Int32"]], [["--require", "./before.cjs"], ["Int32", EMPTY.name]]]) {
       const words = [...nodeWords, ...recording];
       const { status, stderr } = spawnSync(process.execPath, words, { cwd: folder, encoding: "utf8" });
@@ -126,8 +127,8 @@ describe("a trace of a run", () => {
       };
     `);
     for (const [way, isMarked] of [["waits", true], ["races", false]]) {
-      const recording = [RECORD, "agents.mjs", "--seeds", "1", "--out", way, "--no-shorten", "--check", "0", "--", way];
-      const words = ["--require", "./before.cjs", ...recording];
+      const recording = [RECORD, "agents.mjs", "--agents", "2", "--everywhere", "--seeds", "1", "--out", way];
+      const words = ["--require", "./before.cjs", ...recording, "--no-shorten", "--check", "0", "--", way];
       const { status, stderr } = spawnSync(process.execPath, words, { cwd: folder, encoding: "utf8" });
       assert.equal(status, 1, stderr);
       const trace = readFileSync(join(folder, way, "seed-1.trace.jsonl"), "utf8");
@@ -169,7 +170,7 @@ describe("a script that is full of views", () => {
         if (reads === "reads") words.at(1);
       };
     `);
-    const [[named], [unnamed]] = await Promise.all([[], ["reads"]].map((args) => recorded({ module, args })));
+    const [[named], [unnamed]] = await Promise.all([[], ["reads"]].map((args) => recorded({ module, args, agents: 1 })));
     assert.deepEqual(namesOf(named), Object.keys(names));
     assert.deepEqual(namesOf(unnamed), ["Int32", EMPTY.name]);
   });
