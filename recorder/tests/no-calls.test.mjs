@@ -53,8 +53,9 @@ describe("agents without a call of Atomics", { concurrency: 4 }, () => {
 
   test("aren't shortened, and the summary says why", (context) => {
     const folder = temporaryFolder(context);
-    const words = [RECORD, agentsOf(folder, COUNTS), "--agents", "2", "--buffers", "16", "--seeds", "1..2", "--out"];
-    const { status, stdout } = spawnSync(process.execPath, [...words, join(folder, "out")], { encoding: "utf8" });
+    const agents = ["--agents", "2", "--everywhere", "--buffers", "16"];
+    const words = [RECORD, agentsOf(folder, COUNTS), ...agents, "--seeds", "1..2", "--out", join(folder, "out")];
+    const { status, stdout } = spawnSync(process.execPath, words, { encoding: "utf8" });
     assert.equal(status, 1);
     const lines = stdout.split("\n");
     assert.equal(lines[0], "2 of 2 runs failed: 2 race");

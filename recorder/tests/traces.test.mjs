@@ -54,7 +54,8 @@ const FEW_WORKERS = { agents: 2, everywhere: true };
 describe("traces", { concurrency: 2 }, () => {
   it("beside the script of a racing run lies its trace, in which the same races are found", async (context) => {
     const out = temporaryFolder(context);
-    const words = [knownPath("ring-frees-first"), "--seeds", "1..40", "--out", out, ...CHECKING];
+    const fewWorkers = ["--agents", "2", "--everywhere", "--jobs", "1"];
+    const words = [knownPath("ring-frees-first"), "--seeds", "1..40", "--out", out, ...fewWorkers, ...CHECKING];
     const { status, stdout } = await ran(words);
     assert.equal(status, 1);
     const [, seed] = /^first failing seed: (\d+), race$/m.exec(stdout) ?? assert.fail(stdout);

@@ -26,14 +26,15 @@ const WHY_NOT = `it would have more than ${MOST} views, with ordinary_unseen`;
 const made = new Map();
 
 /**
- * The outcome of a program of `agents/unseen.mjs`, which the simulator checks. Each is made once, and without pilots.
+ * The outcome of a program of `agents/unseen.mjs`, which the simulator checks, with its trace. Each is made once, and
+ * without pilots.
  * @param {string} program
  * @param {object} [options]
  */
 async function outcomeOf(program, options = {}) {
   const key = JSON.stringify([program, Object.entries(options).map(([name, value]) => `${name} ${value}`)]);
-  const all = { module: agentsPath("unseen"), args: program.split(" "), agents: 2, everywhere: true, ...options };
-  if (!made.has(key)) made.set(key, recorded(all));
+  const all = { module: agentsPath("unseen"), args: program.split(" "), agents: 2, everywhere: true, trace: true };
+  if (!made.has(key)) made.set(key, recorded({ ...all, ...options }));
   const [outcome] = await made.get(key);
   return outcome;
 }
@@ -96,7 +97,7 @@ describe("a script of a run with ordinary accesses", () => {
 describe("a trace of a run", () => {
   /** Whether the trace of a program says that it may lack accesses, and the rest of it. */
   async function saysUnseen(program, options = {}) {
-    const { trace } = await outcomeOf(program, { trace: true, ...options });
+    const { trace } = await outcomeOf(program, options);
     assert.ok(trace.endsWith("}\n") && !trace.slice(1).includes(UNSEEN_LINE.trim()));
     return trace.startsWith(UNSEEN_LINE);
   }
@@ -202,7 +203,7 @@ describe("sabsim takes such a script", () => {
   it("not for a verdict, which would be about other accesses than the run's", async () => {
     const programs = [["reads", {}], ["atomics", { ordinary: "store" }], ["atomics", { ordinary: "refuse" }]];
     for (const [program, options] of programs) {
-      const { script, trace, races } = await outcomeOf(program, { trace: true, ...options });
+      const { script, trace, races } = await outcomeOf(program, options);
       for (const words of [["judge"], ["judge", "--format", "json"]]) {
         const { status, output, errors } = simulated(words, script);
         assert.deepEqual([status, output], [1, ""]);
