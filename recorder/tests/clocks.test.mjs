@@ -6,9 +6,9 @@ import { describe, it } from "node:test";
 import { agentsPath } from "./helpers/common.mjs";
 import { recorded, seedsTo } from "./helpers/recorded.mjs";
 
-/** The outcomes of one program. */
+/** The outcomes of one program, without pilots, which would take twice as many workers. */
 const outcomesOf = (name, seeds, options = {}) =>
-  recorded({ module: agentsPath("clocks"), args: [name], ...options }, seeds);
+  recorded({ module: agentsPath("clocks"), args: [name], agents: 2, everywhere: true, ...options }, seeds);
 
 /** The outcomes of several programs with one agent, run by run. */
 const alone = (names, options) =>
@@ -52,7 +52,7 @@ describe("the time of a run and its random numbers", { concurrency: 2 }, () => {
 
   it("a wait's time is up in about one of 20 draws, as it is asked for, or when nothing else can move", async () => {
     // All that can move are alike here, at each call.
-    const alike = { strategy: "uniform", everywhere: true };
+    const alike = { strategy: "uniform" };
     const [usual, never, always] = await Promise.all([
       outcomesOf("naps", seedsTo(8), alike),
       outcomesOf("naps", [1], { ...alike, timeouts: 0 }),

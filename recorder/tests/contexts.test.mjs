@@ -35,7 +35,9 @@ function outcomesOf(context, does, options = {}, seeds = [1]) {
       if (agent === 0) Atomics.wait(words, 0, 0);
       else ${does};
     };`);
-  return recorded({ module, agents: 2, ordinary: "store", timeouts: "never", ...options }, seeds);
+  // Without pilots, half as many workers are needed.
+  const fixed = { module, agents: 2, everywhere: true, ordinary: "store", timeouts: "never" };
+  return recorded({ ...fixed, ...options }, seeds);
 }
 
 describe("a new context in an agent, without watched ordinary accesses", { concurrency: 4 }, () => {

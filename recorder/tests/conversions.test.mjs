@@ -2,11 +2,14 @@
 // same steps of the agents' code in the same order, and a script that has what comes of the conversions.
 
 import assert from "node:assert/strict";
-import { readFileSync } from "node:fs";
+import { mkdtempSync, readFileSync, rmSync, writeFileSync } from "node:fs";
+import { tmpdir } from "node:os";
 import { join } from "node:path";
-import { describe, test } from "node:test";
+import { after, before, describe, test } from "node:test";
 import { explore, record } from "../recorder.mjs";
 import { KIND_NAMES, found } from "./agents/conversions.mjs";
+import { CASE_WORD } from "./helpers/case-word.mjs";
+import { Cases } from "./helpers/cases.mjs";
 import { agentsOf, agentsPath, temporaryFolder } from "./helpers/common.mjs";
 import { CHECKER } from "./helpers/needs.mjs";
 
@@ -167,17 +170,40 @@ describe("an index at the edges of what a Number holds exactly", () => {
     assert.deepEqual(callsOf(outcome)[0].map(([, , index]) => index), all.map(({ index }) => index + 0));
   });
 
-  for (const [name, code] of Object.entries(CALLS)) {
-    test(`2^53 is no index for ${name}: node throws RangeError, and the recorder ends the run at its line`, async (context) => {
-      for (const index of [BEYOND, -BEYOND]) {
+  const beyond = Object.entries(CALLS).flatMap(([name, code]) => [BEYOND, -BEYOND].map((index) => ({ name, code, index })));
+  /** @type {string} the folder of a module whose agents try each of these, in the same workers */
+  let folder;
+  /** @type {Cases} */
+  let cases;
+
+  before(() => {
+    folder = mkdtempSync(join(tmpdir(), "recorder-"));
+    const module = join(folder, "agents.mjs");
+    const calls = beyond.map(({ code, index }) => `(words) => {\nAtomics.${code.replace("AT", `${index}`)}; },\n`);
+    writeFileSync(module, `const CALLS = [${calls.join("")}];
+      export default function agent({ buffers }) {
+        const words = new Int32Array(buffers[0]);
+        CALLS[words[${CASE_WORD}]](words);
+      }`);
+    cases = new Cases({ ...HOW, module });
+  });
+  after(async () => {
+    await cases.close();
+    rmSync(folder, { recursive: true });
+  });
+
+  for (const name of Object.keys(CALLS)) {
+    test(`2^53 is no index for ${name}: node throws RangeError, and the recorder ends the run at its line`, async () => {
+      for (const [at, { name: called, code, index }] of beyond.entries()) {
+        if (called !== name) continue;
         assert.equal(byNode(code, index), "RangeError");
-        const own = `\nconst words = new Int32Array(buffers[0]);\nAtomics.${code.replace("AT", `${index}`)};`;
-        const { ending, fails, detail } = await recordBody(context, own);
+        const { ending, fails, detail } = await cases.outcomeOf(at);
         assert.deepEqual([ending, fails], ["failed", true]);
-        const [what, at] = detail.split("\n");
+        const [what, where] = detail.split("\n");
         assert.equal(what, "agent 0 made a call that the recorder can't record: "
           + `Error: Atomics.${name}: the index ${index} isn't within ±(2^53 - 1): no script can hold it`);
-        assert.match(at, /agents\.mjs:4:9\)?$/);
+        // The code of each has two lines.
+        assert.match(where, new RegExp(`agents\\.mjs:${2 + 2 * at}:9\\)?$`));
       }
     });
   }

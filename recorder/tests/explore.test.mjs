@@ -15,7 +15,8 @@ import { CHECKER, NOWHERE, onLinux } from "./helpers/needs.mjs";
 const LIBRARY = new URL("../recorder.mjs", import.meta.url).href;
 /** Drawn for before each call, so that there are no pilots, which call `init` too. */
 const everywhere = true;
-const naive = { module: agentsPath("naive-mutex"), sabsim: false, strategy: "uniform", everywhere };
+// How many agents there are is given, so that no more workers begin.
+const naive = { module: agentsPath("naive-mutex"), agents: 3, sabsim: false, strategy: "uniform", everywhere };
 const cases = (name) => ({
   module: agentsPath("cases"), agents: 2, buffers: [12], args: [name], sabsim: false, everywhere,
 });
@@ -27,9 +28,13 @@ async function allOf(runs) {
   return all;
 }
 
+/** The outcomes of some seeds, by one job, of which sabsim checks one in four. Two tests look at them. */
+const oneInFour = allOf(explore({ ...naive, sabsim: CHECKER, seeds: "20..60", checkEvery: 4 }));
+oneInFour.catch(() => {});
+
 test("outcomes come in the order of the seeds, and are those of record, whatever the jobs", async () => {
   const options = { ...naive, sabsim: CHECKER };
-  const one = await allOf(explore({ ...options, seeds: "20..60", checkEvery: 4 }));
+  const one = await oneInFour;
   assert.deepEqual(one.map(({ seed }) => seed), Array.from({ length: 41 }, (_, at) => at + 20));
   const three = await allOf(explore({ ...options, seeds: { first: 20, last: 60 }, checkEvery: 4, jobs: 3 }));
   // Each job returns the trace of its own first failing run, and the code that it names.
@@ -42,7 +47,9 @@ test("outcomes come in the order of the seeds, and are those of record, whatever
 });
 
 test("each outcome says whether sabsim has checked it: those that fail, and one in so many", async () => {
-  for (const outcome of await allOf(explore({ ...naive, sabsim: CHECKER, seeds: "20..60", checkEvery: 4 }))) {
+  const outcomes = await oneInFour;
+  assert.equal(outcomes.length, 41);
+  for (const outcome of outcomes) {
     const { seed, fails, checked, unchecked, script } = outcome;
     assert.equal(checked, fails || (seed - 20) % 4 === 0);
     assert.equal(unchecked, checked ? undefined : "one in 4 of the runs that don't fail is checked");
@@ -51,7 +58,10 @@ test("each outcome says whether sabsim has checked it: those that fail, and one 
 });
 
 test("which seeds are meant", async () => {
-  const seedsOf = async (seeds) => (await allOf(explore({ ...cases("addition"), seeds }))).map(({ seed }) => seed);
+  const seedsOf = async (seeds) => {
+    const outcomes = await allOf(explore({ ...cases("addition"), agents: 1, seeds }));
+    return outcomes.map(({ seed }) => seed);
+  };
   assert.deepEqual(await seedsOf(3), [1, 2, 3]);
   assert.deepEqual(await seedsOf("8"), [8]);
   assert.deepEqual(await seedsOf("0..1"), [0, 1]);
@@ -81,7 +91,7 @@ test("options that can't be are refused at once, and a module that can't be when
     assert.throws(() => explore({ module, jobs: 2, [name]: () => {} }), why);
   }
   assert.throws(() => explore({ module, sabsim: NOWHERE }), NoSabsim);
-  for (const jobs of [1, 2]) await assert.rejects(allOf(explore({ module, jobs, agents: 2, sabsim: false })), Refused);
+  for (const jobs of [1, 2]) await assert.rejects(allOf(explore({ module, jobs, agents: 1, sabsim: false })), Refused);
 });
 
 test("a relative path is taken from the file that calls it", async () => {
@@ -188,6 +198,16 @@ function processesWith(word) {
   });
 }
 
+/**
+ * Agents of some jobs. A job in the same process begins all workers that there can be; it takes few to see whether the
+ * processes of several end.
+ * @param {number} jobs
+ */
+const ofJobs = (jobs) => {
+  const options = { module: agentsPath("naive-mutex"), sabsim: CHECKER, jobs };
+  return jobs === 1 ? options : { ...options, agents: 3, everywhere };
+};
+
 const WAYS_OUT = {
   "a break": "for await (const { seed } of runs) if (seed === 20) break;",
   "a throw": 'try { for await (const { seed } of runs) if (seed === 20) throw new Error("mine"); } catch (error) ' +
@@ -200,7 +220,7 @@ for (const [what, code] of Object.entries(WAYS_OUT)) {
     const folder = temporaryFolder(context);
     await Promise.all([1, 2].map(async (jobs) => {
       const mark = randomUUID();
-      const options = { module: agentsPath("naive-mutex"), sabsim: CHECKER, checkEvery: 1, seeds: 40, jobs };
+      const options = { ...ofJobs(jobs), checkEvery: 1, seeds: 40 };
       const file = join(folder, `${jobs}.mjs`);
       writeFileSync(file, `
         import { explore } from "${LIBRARY}";
@@ -232,7 +252,7 @@ test("a signal that is aborted while no outcome is taken ends all the same", onL
     writeFileSync(file, `
       import { explore } from "${LIBRARY}";
       const controller = new AbortController();
-      const options = ${JSON.stringify({ module: agentsPath("naive-mutex"), sabsim: CHECKER, seeds: 1_000_000, jobs })};
+      const options = ${JSON.stringify({ ...ofJobs(jobs), seeds: 1_000_000 })};
       await explore({ ...options, signal: controller.signal }).next();
       controller.abort();
     `);

@@ -81,7 +81,7 @@ test("the module must be named, and options that there aren't are refused by the
 });
 
 test("the strategy is mixed if none is given, and `switch` alone is none", async () => {
-  const given = (options) => recordCase("racy", { agents: 3, seed: 11, trace: false, everywhere: false, ...options });
+  const given = (options) => recordCase("racy", { agents: 3, seed: 11, trace: false, ...options });
   assert.deepEqual(await given({ strategy: "mixed" }), await given({}));
   await assert.rejects(given({ switch: 0.5 }), (error) => {
     return error instanceof Refused && error.message === 'there is no option `switch`: use `strategy: "switch:P"`';
@@ -94,7 +94,7 @@ test("an option that is undefined is one that isn't given", async () => {
 });
 
 test("a module may be given by a path or a URL", async () => {
-  const options = { agents: 2, buffers: [12], args: ["addition"], sabsim: false };
+  const options = { agents: 1, buffers: [12], args: ["addition"], sabsim: false };
   for (const each of [module, pathToFileURL(module), pathToFileURL(module).href]) {
     assert.equal((await record({ ...options, module: each })).ending, "finished");
   }
@@ -138,7 +138,8 @@ async function withSabsimAt(place, act) {
 }
 
 /** An outcome of the library's whose options choose no program. @param {object} [options] */
-const recordAddition = (options = {}) => record({ module, agents: 2, buffers: [12], args: ["addition"], ...options });
+const recordAddition = (options = {}) =>
+  record({ module, agents: 2, buffers: [12], args: ["addition"], everywhere: true, ...options });
 
 test("the environment chooses the program, and the options go before it", () =>
   withSabsimAt(NOWHERE, async () => {
@@ -157,6 +158,7 @@ test("the outcome says whether the simulator has checked the run", async () => {
   // More is written between two calls than a script has calls for.
   const { checked, unchecked, noScript } = await record({
     module: agentsPath("big-writes"), args: ["overwhelms 400"], agents: 2, buffers: [65_536], sabsim: CHECKER,
+    everywhere: true,
   });
   assert.deepEqual([checked, unchecked], [false, `the run has no script: ${noScript}`]);
 });
@@ -233,8 +235,10 @@ const RACY = `
   Atomics.add(words, 1, 1);
 `;
 
+const OF_TWO = { agents: 2, buffers: [8], sabsim: false, everywhere: true };
+
 test("`races` says whether a run with unordered accesses fails", async (context) => {
-  const options = { module: agentsOf(temporaryFolder(context), RACY), agents: 2, buffers: [8], sabsim: false };
+  const options = { module: agentsOf(temporaryFolder(context), RACY), ...OF_TWO };
   const failing = await record(options);
   assert.deepEqual([failing.ending, failing.fails, failing.races.length], ["race", true, 1]);
   const allowed = await record({ ...options, races: "allow" });
@@ -243,7 +247,7 @@ test("`races` says whether a run with unordered accesses fails", async (context)
 });
 
 test("`ordinary` says what is seen of reads and writes", async (context) => {
-  const options = { module: agentsOf(temporaryFolder(context), RACY), agents: 2, buffers: [8], sabsim: false };
+  const options = { module: agentsOf(temporaryFolder(context), RACY), ...OF_TWO };
   const stored = await record({ ...options, ordinary: "store" });
   assert.deepEqual([stored.ending, stored.races], ["finished", []]);
   assert.equal((await record({ ...options, ordinary: "refuse" })).ending, "failed");

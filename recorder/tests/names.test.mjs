@@ -15,13 +15,16 @@ import { simulated } from "./helpers/simulate.mjs";
 const INT32 = KINDS.indexOf("Int32");
 const UINT8 = KINDS.indexOf("Uint8");
 
-/** Records a module of agents, whose every script sabsim replays to the same where it is given. */
+/**
+ * Records a module of agents, whose every script sabsim replays to the same where it is given. Without pilots, and since
+ * it is given how many agents there are, few workers begin.
+ */
 async function recordedModule(context, setup, body, { seeds = [1], ...options } = {}) {
   const path = join(temporaryFolder(context), "agents.mjs");
   const code = `export const setup = ${JSON.stringify(setup)};\n` +
     `export default function agent({ buffers, agent, agents, args }) {\n${body}\n}\n`;
   writeFileSync(path, code);
-  return recorded({ module: path, ...options }, seeds);
+  return recorded({ module: path, agents: setup.agents, everywhere: true, ...options }, seeds);
 }
 
 /** The lines of the explained report of a script, without begins and returns. */

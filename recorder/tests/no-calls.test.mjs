@@ -12,10 +12,11 @@ import { CHECKER } from "./helpers/needs.mjs";
 const COUNTS = `const count = new Int32Array(buffers[0]);
 for (let time = 0; time < 5; time += 1) count[0] += 1;`;
 
-/** @param {import("node:test").TestContext} context */
+/** Without pilots, half as many workers are needed. @param {import("node:test").TestContext} context */
 const outcomeOf = (context, body, options = {}) => {
   const module = agentsOf(temporaryFolder(context), body);
-  return record({ module, agents: 2, buffers: [16], sabsim: CHECKER, seconds: 5, ...options });
+  const fixed = { module, agents: 2, buffers: [16], everywhere: true, sabsim: CHECKER, seconds: 5 };
+  return record({ ...fixed, ...options });
 };
 
 describe("agents without a call of Atomics", { concurrency: 4 }, () => {
@@ -52,8 +53,9 @@ describe("agents without a call of Atomics", { concurrency: 4 }, () => {
 
   test("aren't shortened, and the summary says why", (context) => {
     const folder = temporaryFolder(context);
-    const words = [RECORD, agentsOf(folder, COUNTS), "--agents", "2", "--buffers", "16", "--seeds", "1..2", "--out"];
-    const { status, stdout } = spawnSync(process.execPath, [...words, join(folder, "out")], { encoding: "utf8" });
+    const agents = ["--agents", "2", "--everywhere", "--buffers", "16"];
+    const words = [RECORD, agentsOf(folder, COUNTS), ...agents, "--seeds", "1..2", "--out", join(folder, "out")];
+    const { status, stdout } = spawnSync(process.execPath, words, { encoding: "utf8" });
     assert.equal(status, 1);
     const lines = stdout.split("\n");
     assert.equal(lines[0], "2 of 2 runs failed: 2 race");

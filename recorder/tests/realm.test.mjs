@@ -5,10 +5,11 @@
 import assert from "node:assert/strict";
 import { writeFileSync } from "node:fs";
 import { join } from "node:path";
-import { before, describe, test } from "node:test";
+import { after, before, describe, test } from "node:test";
 import { pathToFileURL } from "node:url";
 import { Group } from "../lib/run/group.mjs";
 import { Refused, record } from "../recorder.mjs";
+import { ASKS } from "./agents/deep.mjs";
 import { CASE_WORD } from "./helpers/case-word.mjs";
 import { Cases } from "./helpers/cases.mjs";
 import { agentsOf, temporaryFolder } from "./helpers/common.mjs";
@@ -131,7 +132,7 @@ describe("work that goes on later", () => {
       ["() => ({ then() {} })", /^agent 0 returned a promise/],
     ];
     for (const [agent, detail] of kinds) {
-      const outcome = await recordText(context, `export default ${agent}`);
+      const outcome = await recordText(context, `export default ${agent}`, { agents: 1 });
       assert.equal(outcome.ending, "failed", agent);
       assert.match(outcome.detail, detail, agent);
     }
@@ -196,58 +197,84 @@ describe("a patched language", () => {
   ];
 
   /**
-   * What is reported about a run under a patch. Sabsim checks the run if it is given.
+   * What is reported about some runs under a patch, which the same workers make. The simulator checks each.
    * @param {[what: string, when: string, how: string]} patch
-   * @param {string} end of the run
+   * @param {number} count how many cases the agents try
    * @param {object} [others] options; with pilots twice as many workers are needed
    */
-  async function patched([what, when, how], end, others = {}) {
+  async function patched([what, when, how], count, others = {}) {
     const agents = new URL("./agents/patched.mjs", import.meta.url);
     agents.search = new URLSearchParams({ what, when, how });
-    const fixed = { module: agents, agents: 3, args: [end], seed: 7, seconds: 5, everywhere: true, sabsim: CHECKER };
-    const options = { ...fixed, ...others };
-    const { trace, races, failure, ...outcome } = await record(options);
-    // The stack of an error has the module's name, and the code may have patched what makes it.
-    return { ...outcome, failure: failure?.message, detail: outcome.detail.split("\n")[0] };
+    const cases = new Cases({ module: agents, agents: 3, seed: 7, everywhere: true, trace: true, ...others });
+    const outcomes = await cases.outcomesOfAll(count);
+    return outcomes.map(({ trace, races, failure, ...outcome }) => {
+      // The stack of an error has the module's name, and the code may have patched what makes it.
+      return { ...outcome, failure: failure?.message, detail: outcome.detail.split("\n")[0] };
+    });
   }
 
   const NOTHING = ["nothing", "top", "throws"];
   const WITH_PILOTS = { everywhere: false };
   const FUNCTIONS = ["top", "agent"].flatMap((when) => ["throws", "lies"].map((how) => ["functions", when, how]));
+  /** How the module's agents end, in the order of its cases, and what is said about it. */
   const ENDS = {
     finished: "", deadlock: "waits at byte 20", failed: "threw Error: as it must be", refused: "the value 9007199254740992",
     later: "goes on later, by setImmediate",
   };
 
-  /** @type {Map<string, ReturnType<typeof patched>>} the runs without any patch, by their ends and options */
-  const unpatched = new Map();
+  const allEnds = (others) =>
+    madeOfEach([NOTHING, ...FUNCTIONS], (patch) => patched(patch, Object.keys(ENDS).length, others));
+  /** @type {Map<object, ReturnType<typeof allEnds>>} by their options */
+  const made = new Map();
 
-  /** Under each of some patches a run ends as it does without any. */
-  async function demandSame(patches, end, others = {}) {
-    const key = JSON.stringify([end, others]);
-    if (!unpatched.has(key)) unpatched.set(key, patched(NOTHING, end, others));
-    const expected = await unpatched.get(key);
-    const outcomes = await madeOfEach(patches, (patch) => patched(patch, end, others));
-    outcomes.forEach((outcome, at) => assert.deepEqual(outcome, expected, patches[at].join(" ")));
+  /** The runs of all ends, without any patch and then under each of functions. The tests share them. */
+  function runsOf(others) {
+    if (!made.has(others)) made.set(others, allEnds(others));
+    return made.get(others);
+  }
+
+  /** Under each patch of functions a run ends as it does without any. */
+  async function demandSame(end, others) {
+    const at = Object.keys(ENDS).indexOf(end);
+    const [expected, ...outcomes] = (await runsOf(others)).map((runs) => runs[at]);
+    assert.equal(outcomes.length, FUNCTIONS.length);
+    outcomes.forEach((outcome, which) => assert.deepEqual(outcome, expected, FUNCTIONS[which].join(" ")));
+    assert.ok(expected.detail.includes(ENDS[end]), expected.detail);
+    assert.equal(expected.checked, true);
     return expected;
   }
 
-  for (const [end, detail] of Object.entries(ENDS)) {
+  const STORES_ONLY = { ordinary: "store" };
+  for (const end of Object.keys(ENDS)) {
     test(`no function that is patched changes a run, with the end ${end}`, async () => {
-      const expected = await demandSame(FUNCTIONS, end, end === "finished" ? WITH_PILOTS : {});
-      assert.ok(expected.detail.includes(detail), expected.detail);
+      await demandSame(end, WITH_PILOTS);
+    });
+
+    test(`nor if ordinary reads and writes aren't seen, with the end ${end}`, async () => {
+      const { ending } = await demandSame(end, STORES_ONLY);
+      if (end === "finished") assert.equal(ending, "finished");
     });
   }
 
-  test("nor if ordinary reads and writes aren't seen", async () => {
-    const expected = await demandSame(FUNCTIONS, "finished", { ordinary: "store" });
-    assert.equal(expected.ending, "finished");
+  test("no global that is replaced while the module is loaded changes a run", async () => {
+    // The threads of an agent alone begin as others do.
+    const [[expected], ...outcomes] = await madeOfEach(["nothing", ...GLOBALS], (name) =>
+      patched([name, "top", "throws"], 1, { agents: 1 }));
+    assert.deepEqual([expected.ending, outcomes.length], ["finished", GLOBALS.length]);
+    outcomes.forEach(([outcome], at) => assert.deepEqual(outcome, expected, GLOBALS[at]));
   });
 
-  test("no global that is replaced changes a run", async () => {
-    await demandSame(GLOBALS.map((name) => [name, "top", "throws"]), "finished");
-    // All at once, where pilots are made too.
-    await demandSame([[GLOBALS.join(), "top", "throws"]], "finished", WITH_PILOTS);
+  test("no global that is replaced while agents run changes a run", async () => {
+    const [expected, outcomes] = await madeOfEach(["nothing", GLOBALS.join()], (names) =>
+      patched([names, "one", "throws"], GLOBALS.length));
+    assert.equal(outcomes.length, GLOBALS.length);
+    outcomes.forEach((outcome, at) => assert.deepEqual(outcome, expected[at], GLOBALS[at]));
+  });
+
+  test("all globals that are replaced at once change no run, where pilots are made too", async () => {
+    const all = await patched([GLOBALS.join(), "top", "throws"], Object.keys(ENDS).length, WITH_PILOTS);
+    const [expected] = await runsOf(WITH_PILOTS);
+    assert.deepEqual(all, expected);
   });
 });
 
@@ -369,12 +396,13 @@ test("a context of node's vm is refused by name and line, and passes where nothi
   const text = (top, body) => `import vm from "node:vm";\n${top}\nexport default function agent({ buffers }) {\n${body}
     Atomics.add(new Int32Array(buffers[0]), 0, 1);\n}\n`;
   const inAgent = text("", '  vm.runInNewContext("1 + 1");');
-  const { ending, detail } = await recordText(context, inAgent);
+  const { ending, detail } = await recordText(context, inAgent, { agents: 1 });
   assert.equal(ending, "failed");
   assert.match(detail, /vm\.runInNewContext makes a context [^]*--ordinary store lets it pass\n.*agents\.mjs:4:6\b/);
-  const whileLoaded = recordText(context, text("export const made = vm.createContext({});", ""));
+  const loading = text("export const made = vm.createContext({});", "");
+  const whileLoaded = recordText(context, loading, { agents: 1 });
   await assert.rejects(whileLoaded, /vm\.createContext makes a context [^]*agents\.mjs:2:\d+/);
-  assert.equal((await recordText(context, inAgent, { ordinary: "store" })).ending, "finished");
+  assert.equal((await recordText(context, inAgent, { agents: 1, ordinary: "store" })).ending, "finished");
 });
 
 test("a module that breaks while it is loaded is refused with its own error, at once", async (context) => {
@@ -397,7 +425,8 @@ test("a module that breaks while it is loaded is refused with its own error, at 
   ];
   const began = performance.now();
   const refusals = await madeOfEach(cases, async ([top]) => {
-    const run = recordText(context, `${top}\nexport default function agent() {}\n`);
+    // One worker at a time loads the module, and the first one breaks.
+    const run = recordText(context, `${top}\nexport default function agent() {}\n`, { agents: 1 });
     return run.then(() => "it was run", (error) => error);
   });
   refusals.forEach((error, at) => {
@@ -411,44 +440,55 @@ describe("a stack that overflows in what an agent calls", () => {
   const SEEDS = 60;
   const STEP = 14;
 
+  /** What agent 0 asks for next, and how far from its stack's end, in its own frames; 0: it doesn't. */
+  const next = { which: 0, depth: 0 };
+
+  const opened = () => Group.open({
+    module: new URL("./agents/deep.mjs", import.meta.url).href, args: [], agents: 3, buffers: [20],
+    maxMoves: 100_000, seconds: 2, fresh: false,
+    init: ([buffer]) => new Int32Array(buffer).set([next.depth, 0, next.depth > 0 ? next.which : 0], 2),
+  });
+
   /**
-   * The outcomes of some seeds in one group. Before each the test says how far from its stack's end agent 0 asks, in
-   * its own frames; 0: it doesn't.
-   * @param {string} asks what it asks for
+   * The outcomes of some seeds.
+   * @param {Group} group
+   * @param {string} asks what agent 0 asks for
    * @param {(seed: number) => number} depthOf
    */
-  async function outcomes(asks, depthOf) {
-    let depth;
+  async function outcomes(group, asks, depthOf) {
     const found = [];
-    const group = await Group.open({
-      module: new URL("./agents/deep.mjs", import.meta.url).href, args: [asks], agents: 3, buffers: [16],
-      maxMoves: 100_000, seconds: 2, fresh: false, init: ([buffer]) => new Int32Array(buffer).fill(depth, 2, 3),
-    });
-    try {
-      for (let seed = 1; seed <= SEEDS; seed += 1) {
-        depth = depthOf(seed);
-        await group.run([{ seed, whole: true }], (outcome) => found.push(outcome));
-      }
-    } finally {
-      await group.close();
+    next.which = Object.keys(ASKS).indexOf(asks);
+    for (let seed = 1; seed <= SEEDS; seed += 1) {
+      next.depth = depthOf(seed);
+      await group.run([{ seed, whole: true }], (outcome) => found.push(outcome));
     }
+    next.depth = 0;
     return found;
   }
 
   /** The outcomes of the same seeds where agent 0 asks for nothing at its stack's end, whatever it would ask for. */
   let calm;
+  /** @type {Group} another one, in which it asks */
+  let group;
   before(async () => {
-    calm = await outcomes("add", () => 0);
+    const other = await opened();
+    calm = await outcomes(other, "add", () => 0);
+    await other.close();
+    group = await opened();
   });
+  after(() => group.close());
 
-  for (const asks of ["add", "wait", "notify", "exchange", "refuse"]) {
+  for (const asks of Object.keys(ASKS)) {
     test(`leaves nothing to the seeds that come after it: ${asks}`, { timeout: 120_000 }, async () => {
-      const deep = await outcomes(asks, (seed) => (seed % 2 === 1 ? seed * STEP : 0));
+      // Agent 0 has a worker in which nothing was called before.
+      await group.replace(0);
+      const deep = await outcomes(group, asks, (seed) => (seed % 2 === 1 ? seed * STEP : 0));
       const hasAsked = [];
       deep.forEach((outcome, at) => {
         if (outcome.seed % 2 === 0) assert.deepEqual(outcome, calm[at], `seed ${outcome.seed}`);
         else hasAsked.push(outcome.ending === "failed" || outcome.script.includes(`["${asks}", "Int32", 3`));
       });
+      assert.equal(deep.length, SEEDS);
       // Right at the end of the stack nothing can be asked, and far from it all.
       assert.deepEqual([hasAsked[0], hasAsked.at(-1)], [false, true]);
       assert.equal(deep.at(-2).ending, asks === "refuse" ? "failed" : "finished");
@@ -469,13 +509,15 @@ test("a worker that takes the place of another one begins nothing before it is a
     }`);
   const group = await Group.open({
     module: pathToFileURL(path).href, args: [], agents: 2, buffers: [4], maxMoves: 100, seconds: 5, fresh: false,
+    everywhere: true,
   });
   const found = [];
   try {
-    await group.run([1, 2, 3, 4].map((seed) => ({ seed, whole: true })), (outcome) => found.push(outcome));
+    await group.run([1, 2, 3, 4, 5].map((seed) => ({ seed, whole: true })), (outcome) => found.push(outcome));
   } finally {
     await group.close();
   }
+  assert.equal(found.length, 5);
   for (const { detail, bytes } of found) {
     assert.match(detail, /^agent 0's worker died: .*exit code 3$/);
     // It is each worker's first part in a run.
@@ -601,16 +643,20 @@ describe("random numbers", () => {
     }`;
   const WAYS = 11;
 
-  /** What each agent drew, of each way. @returns {Promise<number[][]>} */
-  async function drawn(context, seed, options = {}) {
-    const { ending, detail, bytes } = await recordText(context, text, { buffers: [128], seed, ...options });
-    assert.deepEqual([ending, detail], ["finished", ""]);
-    const words = new Uint32Array(new Uint8Array(Buffer.from(bytes[0], "hex")).buffer);
-    return [words.slice(0, WAYS), words.slice(16, 16 + WAYS)].map((part) => [...part]);
+  /** What each agent drew, of each way, in the run of each seed. @returns {Promise<number[][][]>} */
+  async function drawn(context, seeds) {
+    const module = join(temporaryFolder(context), "agents.mjs");
+    writeFileSync(module, text);
+    const outcomes = await recorded({ ...HOW, module, buffers: [128] }, seeds);
+    return outcomes.map(({ ending, detail, bytes }) => {
+      assert.deepEqual([ending, detail], ["finished", ""]);
+      const words = new Uint32Array(new Uint8Array(Buffer.from(bytes[0], "hex")).buffer);
+      return [words.slice(0, WAYS), words.slice(16, 16 + WAYS)].map((part) => [...part]);
+    });
   }
 
   test("are the same for a seed, and differ between agents and between seeds", async (context) => {
-    const [one, again, other] = await madeOfEach([3, 3, 4], (seed) => drawn(context, seed));
+    const [[one], [other, again]] = await madeOfEach([[3], [4, 3]], (seeds) => drawn(context, seeds));
     assert.deepEqual(one, again);
     for (let way = 0; way < WAYS; way += 1) {
       const numbers = [one[0][way], one[1][way], other[0][way], other[1][way]];

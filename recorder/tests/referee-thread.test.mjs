@@ -36,8 +36,13 @@ async function madeBy(opening) {
 
 const FIXED = { args: [], maxMoves: 100_000, seconds: 5, fresh: false };
 
+/** Without pilots, half as many workers are needed. */
+const FEW_WORKERS = { agents: 3, everywhere: true };
+const WITH_PILOTS = { everywhere: false };
+
 /** @param {object} [options] */
-const ofAgents = (options = {}) => Group.open({ ...FIXED, module: moduleUrl(agentsPath("naive-mutex")), ...options });
+const ofAgents = (options = {}) =>
+  Group.open({ ...FIXED, module: moduleUrl(agentsPath("naive-mutex")), ...FEW_WORKERS, ...options });
 
 const ofProgram = () => ProgramGroup.open(/** @type {any} */ ({
   ...defaultsOf("record"), ...FIXED, isProgram: true, module: exampleUrl("count-together"),
@@ -55,10 +60,10 @@ test("a group that begins before the referee of an earlier one has finished has 
 });
 
 test("groups that come one after the other have one referee's thread, and nothing of an earlier group", async () => {
-  const first = await madeBy(ofAgents());
+  const first = await madeBy(ofAgents(WITH_PILOTS));
   assert.ok(first.outcomes.some(({ fails }) => fails) && first.outcomes.some(({ fails }) => !fails));
   const others = [await madeBy(ofProgram()), await madeBy(ofAgents({ trace: true })), await madeBy(ofProgram())];
-  const last = await madeBy(ofAgents());
+  const last = await madeBy(ofAgents(WITH_PILOTS));
   for (const { thread } of [...others, last]) assert.equal(thread, first.thread);
   assert.deepEqual(last.outcomes, first.outcomes);
   assert.deepEqual(others[2].outcomes, others[0].outcomes);
@@ -70,7 +75,7 @@ test("a module that can't be loaded, and a single run of the library, leave the 
   const module = agentsOf(temporaryFolder(context), "}\nexport const setup = 5; {");
   await assert.rejects(ofAgents({ module: moduleUrl(module) }), Refused);
   // It ends as soon as it has the outcome.
-  await record({ module: agentsPath("naive-mutex"), sabsim: false });
+  await record({ module: agentsPath("naive-mutex"), sabsim: false, ...FEW_WORKERS });
   assert.equal((await madeBy(ofAgents())).thread, thread);
 });
 
@@ -91,7 +96,7 @@ test("a referee that is still to make runs is ended with its group", async (cont
 });
 
 test("groups that go on side by side have a thread each", async (context) => {
-  const groups = await Promise.all([1, 2].map(() => groupOf(context, agentsPath("naive-mutex"))));
+  const groups = await Promise.all([1, 2].map(() => groupOf(context, agentsPath("naive-mutex"), FEW_WORKERS)));
   const threads = groups.map(({ referee }) => referee.thread);
   assert.equal(new Set(threads).size, groups.length);
 });

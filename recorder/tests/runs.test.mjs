@@ -24,7 +24,7 @@ for (const part of ["accesses", "errors"]) {
 }
 
 test("waits are answered by the standard's rules, and sabsim agrees", async () => {
-  const options = { module: agentsPath("answers"), args: ["waits"], agents: 2, buffers: [16] };
+  const options = { module: agentsPath("answers"), args: ["waits"], agents: 2, buffers: [16], everywhere: true };
   const outcomes = await recorded(options, [1, 2, 3]);
   assert.equal(outcomes.length, 3);
   for (const outcome of outcomes) {
@@ -36,12 +36,12 @@ test("waits are answered by the standard's rules, and sabsim agrees", async () =
 test("an agent that can't block gets a TypeError of its wait, and the others wait", async () => {
   const [first] = (await recordChecked("setup")).answers;
   assert.deepEqual(first, ["2"]);
-  const outcome = await recordChecked("setup", { args: ["one more"] });
+  const outcome = await recordChecked("setup", { args: ["one more"], agents: 2 });
   assert.deepEqual(outcome.answers, [["3"], ["3", "TypeError", "1"]]);
   assert.deepEqual(outcome.bytes, ["03000000", "0300000001000000"]);
   assert.deepEqual(JSON.parse(outcome.script).blocks, [4, 8]);
   assert.deepEqual(JSON.parse(outcome.script).agents.map((agent) => agent.block), [true, false]);
-  assert.deepEqual((await recordChecked("setup", { noBlock: [] })).ending, "deadlock");
+  assert.deepEqual((await recordChecked("setup", { noBlock: [], agents: 2 })).ending, "deadlock");
 });
 
 test("a run in which all agents return has finished", async () => {
@@ -139,8 +139,18 @@ test("more typed arrays than a script can have are a bound", async () => {
   assert.equal(JSON.parse(outcome.script).views.length, 64);
 });
 
+/** @type {ReturnType<typeof recorded> | undefined} */
+let bySixteen;
+
+/** Two runs of sixteen agents in the same workers: in the first one they add, and in the second one they call at length. */
+const runsOfSixteen = () => {
+  const asked = { module: agentsPath("cases"), args: ["addsThenCallsLong"], agents: 16, buffers: [65_536, 0, 8, 1] };
+  bySixteen ??= recorded({ ...asked, everywhere: true }, [1, 1]);
+  return bySixteen;
+};
+
 test("a script that would be too long is a bound", async () => {
-  const outcome = await recordCase("longCalls", { sabsim: CHECKER, agents: 16, buffers: [65_536] });
+  const [, outcome] = await runsOfSixteen();
   const [limit] = outcome.detail.split("\n");
   assert.equal(outcome.ending, "bound");
   assert.match(limit, /^the script would be longer than 1048576 bytes: agent \d+ is at cases\.mjs:81:\d+$/);
@@ -232,7 +242,7 @@ test("the agents' Atomics look like the engine's", async (context) => {
 });
 
 test("sixteen agents, four buffers and the greatest buffer are served", async () => {
-  const outcome = await recordCase("addition", { sabsim: CHECKER, agents: 16, buffers: [65_536, 0, 8, 1] });
+  const [outcome] = await runsOfSixteen();
   assert.equal(outcome.ending, "finished");
   assert.equal(outcome.bytes[0].slice(0, 128), "03000000".repeat(16));
 });

@@ -6,9 +6,12 @@ import { SCRIPT_LIMITS } from "../script/limits.mjs";
 import { agentsPath } from "./helpers/common.mjs";
 import { placesOf, recorded, seedsTo, summaryLines } from "./helpers/recorded.mjs";
 
-/** The outcomes of some ways to go on, by their names. With a trace each run is made once, and is the next way. */
+/**
+ * The outcomes of some ways to go on, by their names. With a trace each run is made once, and is the next way. There are
+ * no pilots, in which the agents would go on as long.
+ */
 async function outcomesOf(ways, seconds) {
-  const options = { module: agentsPath("spins"), args: ways, trace: true, seconds };
+  const options = { module: agentsPath("spins"), args: ways, agents: 2, everywhere: true, trace: true, seconds };
   const outcomes = await recorded(options, seedsTo(ways.length));
   return Object.fromEntries(ways.map((way, at) => [way, outcomes[at]]));
 }
@@ -71,7 +74,9 @@ describe("agents that go on and on", () => {
   });
 
   it("a limit says who sleeps, where, and at which line", async () => {
-    const [{ ending, detail, failure }] = await recorded({ module: agentsPath("sleeps-beside"), timeouts: "never" });
+    const [{ ending, detail, failure }] = await recorded({
+      module: agentsPath("sleeps-beside"), agents: 3, everywhere: true, timeouts: "never",
+    });
     assert.equal(ending, "bound");
     const [spin, ...sleepers] = detail.split("\n");
     const at = (text) => {

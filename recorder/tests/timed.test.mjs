@@ -23,9 +23,13 @@ const { timeouts: DEFAULT_TIMEOUTS } = defaultsOf("record");
 /** @type {Map<string, { seeds: number, outcomes: Promise<import("../lib/run/outcome.mjs").Outcome[]> }>} */
 const made = new Map();
 
+/** Without pilots, half as many workers are needed. */
+const FEW_WORKERS = { agents: 2, everywhere: true };
+const WITH_PILOTS = { everywhere: false };
+
 /** The outcomes of a program. Tests that ask for the same runs share them. */
 async function outcomesOf(name, seeds, options = {}) {
-  const asked = { module: agentsPath("timed"), args: [name], timeouts: DEFAULT_TIMEOUTS, ...options };
+  const asked = { module: agentsPath("timed"), args: [name], timeouts: DEFAULT_TIMEOUTS, ...FEW_WORKERS, ...options };
   const key = JSON.stringify(asked);
   const known = made.get(key);
   const isEnough = known !== undefined && known.seeds >= seeds;
@@ -56,9 +60,9 @@ describe("runs with timed waits", { concurrency: 2 }, () => {
   });
 
   it("a sleeper doesn't starve beside a spin, nor beside an agent that polls", async () => {
-    for (const timeouts of [0, 0.05]) {
+    for (const options of [{ timeouts: 0, ...WITH_PILOTS }, { timeouts: 0.05 }]) {
       for (const name of ["spins", "polls"]) {
-        const outcomes = await outcomesOf(name, 50, { timeouts });
+        const outcomes = await outcomesOf(name, 50, options);
         assert.deepEqual(endingsOf(outcomes), ["finished"]);
         for (const { calls } of outcomes) assert.ok(calls < 700, `${calls} calls`);
       }
@@ -97,7 +101,7 @@ describe("runs with timed waits", { concurrency: 2 }, () => {
 
   it("a run is shortened to one without an early end, though one that has it is shorter", async (context) => {
     const failing = (await outcomesOf("skips", 100, { timeouts: 1 })).filter(({ fails }) => fails);
-    const group = await groupOf(context, agentsPath("timed"), { args: ["skips"], timeouts: 1 });
+    const group = await groupOf(context, agentsPath("timed"), { args: ["skips"], timeouts: 1, ...FEW_WORKERS });
     for (const isEarly of [false, true]) {
       const found = failing.find(({ onlyIf }) => (onlyIf !== undefined) === isEarly) ?? assert.fail("no such run");
       const { shortest, shortened } = await shorten(group, found);
@@ -112,11 +116,13 @@ describe("runs with timed waits", { concurrency: 2 }, () => {
     const init = () => {
       if (fails) throw new Error("no more");
     };
-    const group = await groupOf(context, agentsPath("timed"), { args: ["early"], init });
-    const early = await group.one({ seed: 3, whole: true });
+    const { seed } = (await outcomesOf("early", 200)).find(({ onlyIf }) => onlyIf !== undefined);
+    const options = { args: ["early"], init, timeouts: DEFAULT_TIMEOUTS, ...FEW_WORKERS };
+    const group = await groupOf(context, agentsPath("timed"), options);
+    const early = await group.one({ seed, whole: true });
     assert.ok(early.outcome.onlyIf !== undefined && early.outcome.served !== undefined);
     fails = true;
-    const { outcome } = await group.one({ seed: 4, whole: true });
+    const { outcome } = await group.one({ seed: seed + 1, whole: true });
     assert.match(outcome.detail, /^init threw Error: no more/);
     assert.deepEqual([outcome.onlyIf, outcome.onlyByTime, outcome.served], [undefined, undefined, undefined]);
   });
@@ -152,9 +158,11 @@ describe("runs with timed waits", { concurrency: 2 }, () => {
 
   it("the same seed gives the same run, and so does its row, with each of the rules", async (context) => {
     const partOf = ({ ending, script, onlyIf, onlyByTime, served }) => ({ ending, script, onlyIf, onlyByTime, served });
-    for (const [name, timeouts] of [["polls", 0], ["spins", 0.05], ["lost", "never"], ["lost", 0], ["early", 1]]) {
-      const found = await outcomesOf(name, 5, { timeouts });
-      const group = await groupOf(context, agentsPath("timed"), { args: [name], timeouts });
+    const rules = [["polls", { timeouts: 0, ...WITH_PILOTS }], ["spins", { timeouts: 0.05 }],
+      ["lost", { timeouts: "never" }], ["lost", { timeouts: 0 }], ["early", { timeouts: 1 }]];
+    for (const [name, options] of rules) {
+      const found = await outcomesOf(name, 5, options);
+      const group = await groupOf(context, agentsPath("timed"), { args: [name], ...FEW_WORKERS, ...options });
       for (const outcome of found) {
         const { seed } = outcome;
         const again = await group.one({ seed, whole: true, wantsRow: true });
@@ -196,7 +204,7 @@ describe("what comes first of failing runs", () => {
 describe("joined, kept and stopped", { concurrency: 2 }, () => {
   const folder = mkdtempSync(join(tmpdir(), "sabsim-timed-"));
   after(() => rmSync(folder, { recursive: true }));
-  const both = { module: agentsPath("timed"), args: ["both"], sabsim: false };
+  const both = { module: agentsPath("timed"), args: ["both"], sabsim: false, ...FEW_WORKERS };
 
   it("`failFast` ends at the first failing run without an early end", async () => {
     const failing = [];
@@ -208,7 +216,7 @@ describe("joined, kept and stopped", { concurrency: 2 }, () => {
 
   it("a test of agents fails by such a run, or by an early one if there is no other", async () => {
     const failed = async (args, seeds) => {
-      const options = { module: both.module, args, seeds, shorten: false, out: join(folder, `${args}`) };
+      const options = { ...FEW_WORKERS, module: both.module, args, seeds, shorten: false, out: join(folder, `${args}`) };
       return assertAgents(options).then(() => assert.fail("none failed"), ({ message }) => message);
     };
     const message = await failed(["both"], "1..100");
@@ -236,7 +244,7 @@ describe("joined, kept and stopped", { concurrency: 2 }, () => {
   });
 
   it("the command line keeps the first one, by one job and by two", async () => {
-    const words = [both.module, "--seeds", "1..100", "--no-shorten", "--format", "json"];
+    const words = [both.module, "--seeds", "1..100", "--no-shorten", "--format", "json", "--agents", "2", "--everywhere"];
     const summaries = await Promise.all([1, 2].map(async (jobs) => {
       const out = join(folder, `jobs-${jobs}`);
       const more = ["--jobs", `${jobs}`, "--out", out, "--", "both"];
@@ -245,6 +253,7 @@ describe("joined, kept and stopped", { concurrency: 2 }, () => {
     }));
     const [one, two] = summaries;
     assert.deepEqual([one.firstFailing, one.early, one.files], [two.firstFailing, two.early, two.files]);
+    assert.ok(one.early > 0);
     assert.equal(one.firstFailing.onlyIf, null);
     const { seed } = one.firstFailing;
     for (const ending of ["json", "report", "trace.jsonl"]) assert.ok(one.files.includes(`seed-${seed}.${ending}`));

@@ -48,10 +48,14 @@ const ran = (words) => new Promise((done) => {
   execFile(process.execPath, [RECORD, ...words], (error, stdout) => done({ status: error?.code ?? 0, stdout }));
 });
 
+/** Without pilots, half as many workers are needed. */
+const FEW_WORKERS = { agents: 2, everywhere: true };
+
 describe("traces", { concurrency: 2 }, () => {
   it("beside the script of a racing run lies its trace, in which the same races are found", async (context) => {
     const out = temporaryFolder(context);
-    const words = [knownPath("ring-frees-first"), "--seeds", "1..40", "--out", out, ...CHECKING];
+    const fewWorkers = ["--agents", "2", "--everywhere", "--jobs", "1"];
+    const words = [knownPath("ring-frees-first"), "--seeds", "1..40", "--out", out, ...fewWorkers, ...CHECKING];
     const { status, stdout } = await ran(words);
     assert.equal(status, 1);
     const [, seed] = /^first failing seed: (\d+), race$/m.exec(stdout) ?? assert.fail(stdout);
@@ -67,7 +71,7 @@ describe("traces", { concurrency: 2 }, () => {
   });
 
   it("the trace of a run that waits for ever has all that its agents did, with their lines", async () => {
-    const [outcome] = await recorded({ module: agentsPath("setup"), noBlock: [], trace: true });
+    const [outcome] = await recorded({ ...FEW_WORKERS, module: agentsPath("setup"), noBlock: [], trace: true });
     assert.equal(outcome.ending, "deadlock");
     const events = eventsOf(outcome.trace);
     const waits = events.filter(({ does }) => does === "wait");
@@ -80,19 +84,20 @@ describe("traces", { concurrency: 2 }, () => {
   });
 
   it("a trace has no ordinary accesses where these aren't watched, and says so", async () => {
-    const [outcome] = await recorded({ module: knownPath("ring"), ordinary: "store", trace: true });
+    const [outcome] = await recorded({ ...FEW_WORKERS, module: knownPath("ring"), ordinary: "store", trace: true });
     assert.ok(seenEventsOf(outcome.trace).every(({ atomic, waiters }) => atomic || waiters));
   });
 
   it("races that are allowed are reported with their lines, and the run passes", async () => {
-    const [outcome] = await recorded({ module: agentsPath("modes"), args: ["unlocked"], races: "allow" });
+    const module = agentsPath("modes");
+    const [outcome] = await recorded({ ...FEW_WORKERS, module, args: ["unlocked"], races: "allow" });
     assert.deepEqual([outcome.ending, outcome.fails, outcome.detail], ["finished", false, ""]);
     assert.ok(outcome.races.length > 0);
     for (const { lines } of outcome.races) for (const line of lines) assert.match(line, /^modes\.mjs:\d+:\d+$/);
   });
 
   it("if a run can't be made again as it was, its races are reported without their lines", async () => {
-    const [first, second] = await recorded({ module: agentsPath("remembers") }, [1, 2]);
+    const [first, second] = await recorded({ ...FEW_WORKERS, module: agentsPath("remembers") }, [1, 2]);
     assert.equal(first.ending, "race");
     // The second run differs: so the report has what the first one did, and not where.
     const [{ lines, sides }] = first.races;
@@ -110,7 +115,7 @@ describe("traces", { concurrency: 2 }, () => {
 
   /** A run, traced, with room for some thousand events that aren't calls. */
   async function recordedInLittleRoom(way) {
-    const options = { module: agentsPath("reads-much"), args: [way], trace: true };
+    const options = { ...FEW_WORKERS, module: agentsPath("reads-much"), args: [way], trace: true };
     // Of a log's room 65,536 events are kept for calls.
     const group = await Group.open({ ...checkedOptions(options), fresh: false, logEvents: 65_536 + 4_000 });
     const outcomes = [];

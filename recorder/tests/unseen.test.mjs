@@ -26,14 +26,15 @@ const WHY_NOT = `it would have more than ${MOST} views, with ordinary_unseen`;
 const made = new Map();
 
 /**
- * The outcome of a program of `agents/unseen.mjs`, which the simulator checks. Each is made once, and without pilots.
+ * The outcome of a program of `agents/unseen.mjs`, which the simulator checks, with its trace. Each is made once, and
+ * without pilots.
  * @param {string} program
  * @param {object} [options]
  */
 async function outcomeOf(program, options = {}) {
   const key = JSON.stringify([program, Object.entries(options).map(([name, value]) => `${name} ${value}`)]);
-  const all = { module: agentsPath("unseen"), args: program.split(" "), agents: 2, everywhere: true, ...options };
-  if (!made.has(key)) made.set(key, recorded(all));
+  const all = { module: agentsPath("unseen"), args: program.split(" "), agents: 2, everywhere: true, trace: true };
+  if (!made.has(key)) made.set(key, recorded({ ...all, ...options }));
   const [outcome] = await made.get(key);
   return outcome;
 }
@@ -76,7 +77,8 @@ describe("a script of a run with ordinary accesses", () => {
       export const setup = { agents: 1, buffers: [4] };
       export default ({ buffers }) => { Atomics.wait(new Int32Array(buffers[0]), 0, 0); };
     `);
-    const recording = [RECORD, "agents.mjs", "--seeds", "1", "--out", "out", "--no-shorten", "--check", "0"];
+    const options = ["--agents", "1", "--seeds", "1", "--out", "out", "--no-shorten", "--check", "0"];
+    const recording = [RECORD, "agents.mjs", ...options];
     for (const [nodeWords, names] of [[[], ["Int32"]], [["--require", "./before.cjs"], ["Int32", EMPTY.name]]]) {
       const words = [...nodeWords, ...recording];
       const { status, stderr } = spawnSync(process.execPath, words, { cwd: folder, encoding: "utf8" });
@@ -95,7 +97,7 @@ describe("a script of a run with ordinary accesses", () => {
 describe("a trace of a run", () => {
   /** Whether the trace of a program says that it may lack accesses, and the rest of it. */
   async function saysUnseen(program, options = {}) {
-    const { trace } = await outcomeOf(program, { trace: true, ...options });
+    const { trace } = await outcomeOf(program, options);
     assert.ok(trace.endsWith("}\n") && !trace.slice(1).includes(UNSEEN_LINE.trim()));
     return trace.startsWith(UNSEEN_LINE);
   }
@@ -126,8 +128,8 @@ describe("a trace of a run", () => {
       };
     `);
     for (const [way, isMarked] of [["waits", true], ["races", false]]) {
-      const recording = [RECORD, "agents.mjs", "--seeds", "1", "--out", way, "--no-shorten", "--check", "0", "--", way];
-      const words = ["--require", "./before.cjs", ...recording];
+      const recording = [RECORD, "agents.mjs", "--agents", "2", "--everywhere", "--seeds", "1", "--out", way];
+      const words = ["--require", "./before.cjs", ...recording, "--no-shorten", "--check", "0", "--", way];
       const { status, stderr } = spawnSync(process.execPath, words, { cwd: folder, encoding: "utf8" });
       assert.equal(status, 1, stderr);
       const trace = readFileSync(join(folder, way, "seed-1.trace.jsonl"), "utf8");
@@ -169,7 +171,7 @@ describe("a script that is full of views", () => {
         if (reads === "reads") words.at(1);
       };
     `);
-    const [[named], [unnamed]] = await Promise.all([[], ["reads"]].map((args) => recorded({ module, args })));
+    const [[named], [unnamed]] = await Promise.all([[], ["reads"]].map((args) => recorded({ module, args, agents: 1 })));
     assert.deepEqual(namesOf(named), Object.keys(names));
     assert.deepEqual(namesOf(unnamed), ["Int32", EMPTY.name]);
   });
@@ -201,7 +203,7 @@ describe("sabsim takes such a script", () => {
   it("not for a verdict, which would be about other accesses than the run's", async () => {
     const programs = [["reads", {}], ["atomics", { ordinary: "store" }], ["atomics", { ordinary: "refuse" }]];
     for (const [program, options] of programs) {
-      const { script, trace, races } = await outcomeOf(program, { trace: true, ...options });
+      const { script, trace, races } = await outcomeOf(program, options);
       for (const words of [["judge"], ["judge", "--format", "json"]]) {
         const { status, output, errors } = simulated(words, script);
         assert.deepEqual([status, output], [1, ""]);

@@ -80,6 +80,12 @@ const CASES = {
     const view = new BigUint64Array(buffers[0], 65_520, 1);
     for (let time = 0; time < 1_000; time += 1) Atomics.compareExchange(view, 0, longest, longest);
   },
+  // In a worker's first run it adds.
+  addsThenCallsLong: (about) => {
+    const make = globalThis.hasAdded ? CASES.longCalls : CASES.addition;
+    globalThis.hasAdded = true;
+    make(about);
+  },
   // Calls at each depth from where the stack came to its end, until one call is made.
   deep: ({ buffers }) => {
     let made = false;

@@ -1,6 +1,7 @@
-// Agents that share a lock. Word 2 says how far from the end of its stack agent 0 asks for something before, in frames.
+// Agents that share a lock. Word 2 says how far from the end of its stack agent 0 asks for something before, in frames,
+// and word 4 says what it asks for.
 
-const ASKS = {
+export const ASKS = {
   add: (words) => Atomics.add(words, 3, 1),
   wait: (words) => Atomics.wait(words, 3, 0, 5),
   notify: (words) => Atomics.notify(words, 3),
@@ -29,10 +30,11 @@ function askDeep(depth, ask) {
   }
 }
 
-export default function agent({ buffers, agent: number, args: [asks] }) {
+export default function agent({ buffers, agent: number }) {
   const words = new Int32Array(buffers[0]);
   const depth = words[2];
-  if (number === 0 && depth > 0) askDeep(depth, () => ASKS[asks](words));
+  const ask = Object.values(ASKS)[words[4]];
+  if (number === 0 && depth > 0) askDeep(depth, () => ask(words));
   for (let time = 0; time < 2; time += 1) {
     while (Atomics.exchange(words, 0, 1) !== 0) Atomics.wait(words, 0, 1);
     words[1] += number;

@@ -1,16 +1,20 @@
 // A program under which the language is patched. The query of the module's URL says what is patched: `what` ("nothing",
-// "functions", or the names of globals), `when` ("top" of the module, or by each "agent") and `how` (what is patched
-// "throws", or "lies" by answering nothing).
+// "functions", or the names of globals), `when` ("top" of the module, by each "agent", or "one" of the globals in each
+// run, until the next one) and `how` (what is patched "throws", or "lies" by answering nothing). A word of the buffer
+// says how the agents end, or which of the globals is patched.
+
+import { CASE_WORD } from "../helpers/case-word.mjs";
 
 const { searchParams } = new URL(import.meta.url);
 const [what, when, how] = ["what", "when", "how"].map((name) => searchParams.get(name));
 
-export const setup = { agents: 3, buffers: [32, 16] };
+export const setup = { agents: 3, buffers: [36, 16] };
 
 // What the program itself, and what patches, uses.
 const { Error: EngineError, Int32Array, BigInt64Array, DataView, Uint8Array } = globalThis;
 const { defineProperty, getOwnPropertyDescriptor, ownKeys } = Reflect;
 const { setInt16, getInt16 } = DataView.prototype;
+const NAMES = what.split(",");
 const OWNERS = [
   Array, Array.prototype, Object.getPrototypeOf([][Symbol.iterator]()), Map.prototype, WeakMap.prototype, Set.prototype,
   Reflect, Object, Object.prototype, Function.prototype, Number, Number.prototype, Math, String, String.prototype, JSON,
@@ -40,10 +44,21 @@ function patchGlobal(name) {
   };
 }
 
+/** Which global is patched, and what it was. */
+let patched = { name: "globalThis", value: globalThis };
+
+/** Patches one of the globals, and no other one. @param {number} at which one */
+function patchOnly(at) {
+  if (what === "nothing") return;
+  globalThis[patched.name] = patched.value;
+  patched = { name: NAMES[at], value: globalThis[NAMES[at]] };
+  patchGlobal(patched.name);
+}
+
 function patch() {
   if (what === "nothing") return;
   if (what !== "functions") {
-    for (const name of what.split(",")) patchGlobal(name);
+    for (let at = 0; at < NAMES.length; at += 1) patchGlobal(NAMES[at]);
     return;
   }
   for (let at = 0; at < OWNERS.length; at += 1) patchFunctions(OWNERS[at]);
@@ -59,7 +74,7 @@ function work(buffers, agent) {
   for (let time = 0; time < 3; time += 1) {
     while (Atomics.compareExchange(words, 0, 0, 1) !== 0) Atomics.wait(words, 0, 1, 5 + time);
     words[2] += agent + 1;
-    words[3] = words[2];
+    words[8] = words[2];
     const view = new DataView(buffers[0], 16, 8);
     view.setInt16(0, time, true);
     if (view.getInt16(0, true) !== time) throw new EngineError("it reads another value than it wrote");
@@ -71,7 +86,7 @@ function work(buffers, agent) {
   // The language converts these, and calls none of its functions that can be patched.
   Atomics.or(words, "5", 0.5);
   Atomics.add(bigs, true, "0x10");
-  Atomics.wait(words, "3", -1.5, "0.5");
+  Atomics.wait(words, "8", -1.5, "0.5");
   Atomics.notify(words, null, null);
   new Uint8Array(buffers[0])[28 + agent] = math.random() * 256;
   Atomics.store(words, 6, performance.now() * 1_000 | 0);
@@ -86,15 +101,22 @@ const kept = { performance: { now: performance.now }, Math: { random: Math.rando
 
 if (when === "top") patch();
 
-export default function agent({ buffers, agent: number, args }) {
-  if (when === "agent") patch();
-  work(buffers, number);
+/** What comes after the work, in the order of the cases. */
+const ENDS = [
+  () => {},
+  (words) => void Atomics.wait(words, 5, 0),
+  () => {
+    throw new EngineError("as it must be");
+  },
+  (words) => void Atomics.store(words, 5, 2 ** 53),
+  () => void setImmediate(() => {}),
+];
+
+export default function agent({ buffers, agent: number }) {
   const words = new Int32Array(buffers[0]);
-  switch (args[0]) {
-    case "deadlock": return void Atomics.wait(words, 5, 0);
-    case "failed": throw new EngineError("as it must be");
-    case "refused": return void Atomics.store(words, 5, 2 ** 53);
-    case "later": return void setImmediate(() => {});
-    default: return undefined;
-  }
+  const which = words[CASE_WORD];
+  if (when === "agent") patch();
+  if (when === "one") patchOnly(which);
+  work(buffers, number);
+  return when === "one" ? undefined : ENDS[which](words);
 }

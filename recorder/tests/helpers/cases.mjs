@@ -17,13 +17,26 @@ export class Cases {
   /** @type {Promise<unknown>} settled when no run is under way */
   #rest = Promise.resolve();
 
-  /** @param {object} options as `record` takes them */
+  /** @param {object} options as `record` takes them; each run has their seed */
   constructor(options) {
     const init = (/** @type {SharedArrayBuffer[]} */ [buffer]) => {
       new Int32Array(buffer)[CASE_WORD] = this.#at;
     };
     const checked = checkedOptions({ seconds: 5, ...options, init }, () => undefined);
     this.options = { ...checked, checks: true, checkEvery: 1, sabsim: CHECKER, fresh: false };
+  }
+
+  /**
+   * Tries the cases one after the other.
+   * @param {number} count how many
+   * @returns {Promise<Checked[]>} the outcome of each, when the workers have ended
+   */
+  async outcomesOfAll(count) {
+    try {
+      return await Promise.all(Array.from({ length: count }, (_, at) => this.outcomeOf(at)));
+    } finally {
+      await this.close();
+    }
   }
 
   /** @param {number} at which case @returns {Promise<Checked>} the outcome of its run, checked by the simulator */
@@ -46,7 +59,7 @@ export class Cases {
     const outcomes = [];
     try {
       await this.#opened();
-      await this.#job?.run([{ seed: 1, whole: true }], (outcome) => void outcomes.push(outcome));
+      await this.#job?.run([{ seed: this.options.seed, whole: true }], (outcome) => void outcomes.push(outcome));
       return outcomes[0];
     } catch (error) {
       // The other cases get another job.
