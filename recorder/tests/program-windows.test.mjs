@@ -310,7 +310,7 @@ describe("unordered accesses", { concurrency: 2 }, () => {
   });
 });
 
-describe("a kept run", { concurrency: 2 }, () => {
+describe("a kept run", () => {
   it("says which bytes are where, is made again, and differs by the program's own bytes", async (context) => {
     const main = programOf(context, RACING);
     const folder = join(dirname(main), "kept");
