@@ -74,7 +74,7 @@ async function made(context, way, options = {}) {
 describe("a failing run that goes another way in fresh threads", { concurrency: 4 }, () => {
   for (const [way, said] of Object.entries(SAID)) {
     it(`is no finding: ${way}`, async (context) => {
-      const { outcomes, problem } = await made(context, way, { everywhere: true });
+      const { outcomes, problem } = await made(context, way);
       const seed = outcomes.length + 1;
       assert.ok(problem instanceof KeepsGlobals && seed > 1, String(problem));
       assert.equal(problem.message, `seed ${seed} was run once more in fresh threads, and ${said}: ${KEEPS}`);
@@ -92,7 +92,7 @@ describe("a failing run that goes another way in fresh threads", { concurrency: 
   });
 
   it("isn't looked for if each run has fresh threads", async (context) => {
-    const { outcomes, problem } = await made(context, "bytes", { fresh: true, everywhere: true });
+    const { outcomes, problem } = await made(context, "bytes", { fresh: true });
     assert.equal(problem, undefined);
     assert.ok(outcomes.some(({ fails }) => fails) && outcomes.length === 8);
   });
