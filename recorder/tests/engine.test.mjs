@@ -20,7 +20,7 @@ const SCRIPTS = 200;
 const TIMED_SCRIPTS = 10;
 
 const crew = new Crew();
-const opinions = new Opinions();
+const opinions = new Opinions(2);
 after(() => {
   opinions.end();
   return crew.end();

@@ -1,9 +1,9 @@
-// Runs that get real answers are made again by their rows: in the same threads, one after the other.
+// Runs that get real answers are made again by their rows. All programs are run in the same threads, one after the other.
 
 import assert from "node:assert/strict";
 import { rmSync, writeFileSync } from "node:fs";
 import { join } from "node:path";
-import { describe, it } from "node:test";
+import { after, describe, it } from "node:test";
 import { pathToFileURL } from "node:url";
 import { LOOK } from "../lib/board/row.mjs";
 import { defaultsOf } from "../lib/options/table.mjs";
@@ -15,6 +15,16 @@ import { CLOSED, LISTENS, ONE_THREAD, RACE } from "./helpers/real-programs.mjs";
 import { temporaryFolder } from "./helpers/common.mjs";
 import { programOf } from "./helpers/whole-programs.mjs";
 
+/** @type {Promise<ProgramGroup> | undefined} */
+let opened;
+after(async () => (await opened)?.close());
+
+/** @param {string} module of the first program @returns {Promise<ProgramGroup>} */
+async function groupWith(module) {
+  const options = { ...defaultsOf("record"), isProgram: true, seconds: 20, module, args: [], programOutput: "none" };
+  return /** @type {ProgramGroup} */ (await ProgramGroup.open(/** @type {any} */ (options)));
+}
+
 /**
  * @param {import("node:test").TestContext} context
  * @param {Record<string, string>} files of a program
@@ -22,9 +32,9 @@ import { programOf } from "./helpers/whole-programs.mjs";
  */
 async function runsBy(context, files) {
   const module = pathToFileURL(programOf(context, files)).href;
-  const options = { ...defaultsOf("record"), isProgram: true, seconds: 20, module, args: [], programOutput: "none" };
-  const group = await ProgramGroup.open(/** @type {any} */ (options));
-  context.after(() => group.close());
+  opened ??= groupWith(module);
+  const group = await opened;
+  group.enter(module);
   return (wanted) => group.one({ seed: 1, whole: true, wantsActs: true, isSilent: true, ...wanted });
 }
 
@@ -53,6 +63,23 @@ async function repeated(context, files, seeds) {
   return rows;
 }
 
+/**
+ * As `RACE`, but the worker gets only one answer, so that its answers can come in no other order. And it never ends by
+ * itself: when a thread does depends on what node has closed, and no row has that.
+ */
+const ENDS = {
+  "main.mjs": `${RACE["main.mjs"].replace('"exit"', '"message"')}
+worker.unref();`,
+  "worker.mjs": `import { spawn } from "node:child_process";
+import { parentPort, workerData } from "node:worker_threads";
+spawn("sh", ["-c", "exit 0"], { stdio: "ignore" }).on("exit", () => {
+  Atomics.store(workerData, 0, 1);
+  parentPort.postMessage("ended");
+});
+parentPort.on("message", () => {});
+parentPort.postMessage("begun");`,
+};
+
 describe("a run with real answers is the same by its row", () => {
   it("in which threads see that a socket has closed, which is no move", async (context) => {
     await repeated(context, CLOSED, 3);
@@ -67,7 +94,7 @@ describe("a run with real answers is the same by its row", () => {
   });
 
   it("in which a process ends while the thread's module is evaluated: that is a move", async (context) => {
-    const rows = await repeated(context, RACE, 12);
+    const rows = await repeated(context, ENDS, 12);
     for (const row of rows) assert.ok(row.includes(LOOK + 1), `${row}`);
   });
 });

@@ -305,7 +305,7 @@ describe("a run that can't be repeated", () => {
     const main = programOf(context, { ...RACE, "main.mjs": `${RACE["main.mjs"]}
 if (Atomics.load(words, 1) === 2) throw new Error("it fails");` });
     const out = temporaryFolder(context);
-    const { status, stdout } = await recorded(["--program", main, "--seeds", "1..60", "--fail-fast", "--out", out]);
+    const { status, stdout } = await recorded(["--program", main, "--seeds", "1..60", "--jobs", "1", "--fail-fast", "--out", out]);
     assert.equal(status, 1, stdout);
     assert.doesNotMatch(stdout, new RegExp(OTHERWISE));
     const kept = readdirSync(out).find((name) => name.endsWith(".program.json"));

@@ -3,14 +3,17 @@
 
 import assert from "node:assert/strict";
 import { execFile } from "node:child_process";
-import { readFileSync, readdirSync, writeFileSync } from "node:fs";
-import { dirname, join } from "node:path";
-import { describe, it } from "node:test";
+import { cpSync, mkdtempSync, readFileSync, readdirSync, rmSync, writeFileSync } from "node:fs";
+import { tmpdir } from "node:os";
+import { join } from "node:path";
+import { after, describe, it } from "node:test";
+import { keptProgram } from "../lib/keeping/kept-program.mjs";
+import { Refused } from "../lib/options/refused.mjs";
 import { windowNames } from "../lib/run/window-names.mjs";
 import { TouchedPages, Windows } from "../lib/run/windows.mjs";
 import { RECORD } from "./helpers/common.mjs";
 import { slowRaces } from "./helpers/second-detector.mjs";
-import { programOf, runsOf } from "./helpers/whole-programs.mjs";
+import { programIn, runsOf } from "./helpers/whole-programs.mjs";
 
 /**
  * A program of two threads.
@@ -310,11 +313,22 @@ describe("unordered accesses", { concurrency: 2 }, () => {
   });
 });
 
-describe("a kept run", { concurrency: 2 }, () => {
-  it("says which bytes are where, is made again, and differs by the program's own bytes", async (context) => {
-    const main = programOf(context, RACING);
-    const folder = join(dirname(main), "kept");
-    const { status, stdout } = await ran("--program", main, "--seeds", "1..8", "--out", folder);
+/** @param {string[]} words @returns {Promise<{ status: number, stdout: string, stderr: string }>} */
+const ran = (...words) => new Promise((done) => {
+  execFile(process.execPath, [RECORD, ...words], (error, stdout, stderr) => {
+    done({ status: Number(error?.code ?? 0), stdout, stderr });
+  });
+});
+
+describe("a kept run", () => {
+  const home = mkdtempSync(join(tmpdir(), "recorder-"));
+  after(() => rmSync(home, { recursive: true, force: true }));
+  const main = programIn(home, RACING);
+  const folder = join(home, "kept");
+  const recorded = ran("--program", main, "--seeds", "1..8", "--jobs", "1", "--out", folder);
+
+  it("says which bytes are where, is made again, and differs by the program's own bytes", async () => {
+    const { status, stdout } = await recorded;
     assert.equal(status, 1, stdout);
     assert.match(stdout, /every run was replayed and judged by sabsim/);
     assert.doesNotMatch(stdout, /not kept|no script/);
@@ -333,18 +347,18 @@ describe("a kept run", { concurrency: 2 }, () => {
     assert.deepEqual([again.status, again.stdout.split("\n")[1].replace(/:.*/, "")], [1, "1 of 1 run failed"]);
     assert.match(again.stdout, /every run was replayed and judged by sabsim/);
     // Another page comes before those that are known, so all that follow stand elsewhere.
-    const text = readFileSync(main, "utf8");
-    writeFileSync(main, text.replace("Atomics.wait", "large[4_000_000] = 1;\nAtomics.wait"));
-    const other = await ran("--replay", kept);
+    const changed = join(home, "changed");
+    cpSync(folder, join(changed, "kept"), { recursive: true });
+    const wait = RACING["main.mjs"].replace("Atomics.wait", "large[4_000_000] = 1;\nAtomics.wait");
+    const otherMain = programIn(changed, { ...RACING, "main.mjs": wait });
+    const other = await ran("--program", otherMain, "--replay", join(changed, "kept", name));
     assert.equal(other.status, 3);
     const now = /the script has agent 1's .* next, and now comes agent 0's ordinary write .*, \w+_at4000000\[0\] = 1/;
     assert.match(other.stderr, now);
   });
 
-  it("is refused if its windows are none", async (context) => {
-    const main = programOf(context, RACING);
-    const folder = join(dirname(main), "kept");
-    await ran("--program", main, "--seeds", "1..8", "--out", folder, "--no-shorten");
+  it("is refused if its windows are none", async () => {
+    await recorded;
     const name = readdirSync(folder).find((each) => each.endsWith(".program.json")) ?? "";
     const kept = join(folder, name);
     const text = readFileSync(kept, "utf8");
@@ -358,19 +372,20 @@ describe("a kept run", { concurrency: 2 }, () => {
       [[[buffer, from, to, block, byte], [second[0], second[1], second[2], block, byte + to - from - 1]], common],
       [[first, [second[0], second[1], second[1], second[3], second[4]]], "one of its script's windows has no byte"],
     ];
-    for (const [pair, says] of wrong) {
-      const windows = JSON.stringify([...pair, ...others]);
-      writeFileSync(kept, text.replace(/"windows":\[\[.*?\]\]/, `"windows":${windows}`));
-      const { status, stderr } = await ran("--replay", kept);
-      assert.deepEqual([status, stderr.trim().replace(/.*kept: /, "")], [2, says]);
+    const texts = wrong.map(([pair]) =>
+      text.replace(/"windows":\[\[.*?\]\]/, `"windows":${JSON.stringify([...pair, ...others])}`));
+    for (const [at, [, says]] of wrong.entries()) {
+      assert.notEqual(texts[at], text);
+      assert.throws(() => keptProgram(texts[at], kept), (thrown) => {
+        assert.ok(thrown instanceof Refused);
+        assert.equal(thrown.message.replace(/.*kept: /, ""), says);
+        return true;
+      });
     }
-  });
-});
-
-/** @param {string[]} words @returns {Promise<{ status: number, stdout: string, stderr: string }>} */
-const ran = (...words) => new Promise((done) => {
-  execFile(process.execPath, [RECORD, ...words], (error, stdout, stderr) => {
-    done({ status: Number(error?.code ?? 0), stdout, stderr });
+    const refused = join(folder, "wrong.program.json");
+    writeFileSync(refused, texts[0]);
+    const { status, stderr } = await ran("--replay", refused);
+    assert.deepEqual([status, stderr.trim().replace(/.*kept: /, "")], [2, wrong[0][1]]);
   });
 });
 

@@ -5,7 +5,12 @@ import { AskedProcesses } from "./asked-processes.mjs";
 const PROCESSES = 4;
 
 export class Opinions {
-  #processes = new AskedProcesses("recorder/tests/helpers/opinion-process.mjs", PROCESSES);
+  #processes;
+
+  /** @param {number} [count] how many processes: each begins a worker for each agent of the scripts */
+  constructor(count = PROCESSES) {
+    this.#processes = new AskedProcesses("recorder/tests/helpers/opinion-process.mjs", count);
+  }
 
   /**
    * The engine's opinion on a script.
