@@ -5,7 +5,12 @@ import { AskedProcesses } from "./asked-processes.mjs";
 const PROCESSES = 4;
 
 export class Opinions {
-  #processes = new AskedProcesses("recorder/tests/helpers/opinion-process.mjs", PROCESSES);
+  #processes;
+
+  /** @param {number} [processes] how many; fewer start fewer workers */
+  constructor(processes = PROCESSES) {
+    this.#processes = new AskedProcesses("recorder/tests/helpers/opinion-process.mjs", processes);
+  }
 
   /**
    * The engine's opinion on a script.
