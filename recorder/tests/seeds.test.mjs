@@ -107,9 +107,7 @@ test("state of a module stays from seed to seed, and with fresh workers it doesn
 test("after an agent that has gone astray the next seeds are recorded all the same", async () => {
   const astray = { exits: "failed", catchesAll: "failed", loops: "bound", manyViews: "bound" };
   for (const [name, ending] of Object.entries(astray)) {
-    // One agent that loops is busy for so long in each run, and never makes a call.
-    const seconds = name === "loops" ? 0.25 : 1;
-    const options = { args: [name], agents: 2, buffers: [72], last: 2, seconds, checkEvery: 1, everywhere: true };
+    const options = { args: [name], agents: 2, buffers: [72], last: 2, seconds: 1, checkEvery: 1, everywhere: true };
     const { outcomes } = await outcomesOf("cases", options);
     assert.deepEqual(outcomes.map((outcome) => outcome.ending), [ending, ending], name);
   }
