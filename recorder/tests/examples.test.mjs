@@ -18,14 +18,21 @@ const FOLDER = pathOf("recorder/examples");
 const SEEDS = 200;
 const BY_THE_ENGINE = 10;
 
-const opinions = new Opinions();
+// About ten scripts of each example: for so few further processes aren't worth their start.
+const opinions = new Opinions(1);
 after(() => opinions.end());
 
-/** The outcomes of a module of agents under the seeds from 1 on, in the order of the seeds. */
-async function outcomesOf(module, last, checkEvery) {
+/**
+ * The outcomes of a module of agents under the seeds from 1 on, in the order of the seeds.
+ * @param {string} module its path
+ * @param {number} last
+ * @param {number} checkEvery
+ * @param {object} [more] options
+ */
+async function outcomesOf(module, last, checkEvery, more = {}) {
   const outcomes = [];
   const fixed = { args: [], jobs: 1, maxMoves: 100_000, seconds: 10, fresh: false, sabsim: CHECKER };
-  const options = { ...fixed, module: pathToFileURL(module).href, first: 1, last, checkEvery };
+  const options = { ...fixed, module: pathToFileURL(module).href, first: 1, last, checkEvery, ...more };
   for await (const outcome of taken(new Runs(options, { job: new Job() }))) outcomes.push(outcome);
   assert.equal(outcomes.filter(({ checked }) => checked).length, checkEvery * last);
   return outcomes;
@@ -176,7 +183,8 @@ describe("the checks of the agents find a lock that isn't one", () => {
         .replaceAll('from "./', `from "${pathToFileURL(FOLDER).href}/`);
       const module = join(folder, `${name}.agents.mjs`);
       writeFileSync(module, agents);
-      const outcomes = await outcomesOf(module, 50, 0);
+      // What isn't a lock needs no pilots to fail, and each agent needs one worker less without.
+      const outcomes = await outcomesOf(module, 50, 0, { everywhere: true });
       assert.ok(outcomes.some(({ ending }) => ending === "failed"));
     });
   }

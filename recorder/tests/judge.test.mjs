@@ -17,8 +17,8 @@ const ROWS = new URL("./judge-rows/", import.meta.url);
 const LEAST_ROWS = 20;
 const RANDOM = 5_000;
 
-// To start a program takes longer than to judge a short trace, so several processes do it.
-const PROCESSES = 4;
+// Each process has the judges' code compiled anew, and that takes longer than to judge some thousand short traces.
+const PROCESSES = 1;
 
 /** The names of a folder's files with an ending, without it. @param {URL} folder @param {string} ending */
 const namesIn = (folder, ending) =>

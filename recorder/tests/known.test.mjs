@@ -9,7 +9,7 @@ import { after, before, describe, it } from "node:test";
 import { keptScript } from "../lib/shorter/kept-script.mjs";
 import { AskedProcesses } from "./helpers/asked-processes.mjs";
 import { demandOfModule, demandOfNative, demandOfSlowJudge } from "./helpers/known-judged.mjs";
-import { withSabsim } from "./helpers/needs.mjs";
+import { hasSabsim, withSabsim } from "./helpers/needs.mjs";
 
 /** @typedef {import("./helpers/known-process.mjs").Made} Made */
 /** @typedef {import("./helpers/known-process.mjs").Judged} Judged */
@@ -27,8 +27,9 @@ const BY_ROWS = 2;
 
 const LEAST_PROGRAMS = 36;
 
-// Several programs side by side need less than one by one with several jobs each.
-const SIDE_BY_SIDE = 4;
+// One process makes the runs of all programs, since each further one would have its own code compiled anew. The native
+// program starts for each run that it checks, so with it several processes are faster.
+const SIDE_BY_SIDE = hasSabsim ? 4 : 1;
 
 const processes = new AskedProcesses("recorder/tests/helpers/known-process.mjs", SIDE_BY_SIDE);
 after(() => processes.end());

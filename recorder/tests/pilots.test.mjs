@@ -7,9 +7,13 @@ import { test } from "node:test";
 import { record } from "../recorder.mjs";
 import { RECORD, agentsOf, agentsPath, recordCase, temporaryFolder } from "./helpers/common.mjs";
 
-/** Runs the command line to its end, without sabsim. @param {string[]} words */
-function run(words) {
-  return spawnSync(process.execPath, [RECORD, ...words, "--check", "0"], { encoding: "utf8" });
+/**
+ * Runs the command line to its end, without sabsim.
+ * @param {string[]} words
+ * @param {number} [jobs] each has pilots, and workers, of its own
+ */
+function run(words, jobs = 1) {
+  return spawnSync(process.execPath, [RECORD, ...words, "--check", "0", "--jobs", `${jobs}`], { encoding: "utf8" });
 }
 
 test("output of agents in pilots isn't shown, and no module remembers pilots", (context) => {
@@ -77,7 +81,7 @@ test("a run is the same whether its group has made others before, with other opt
 
 test("--until-covered ends when 500 seeds have shown nothing new, whatever the number of jobs", () => {
   const words = [agentsPath("naive-mutex"), "--until-covered"];
-  const [one, three] = ["1", "3"].map((jobs) => run([...words, "--jobs", jobs]));
+  const [one, three] = [1, 3].map((jobs) => run(words, jobs));
   assert.deepEqual([three.stdout, three.status], [one.stdout, one.status]);
   const [, runs] = /^\d+ of ([\d,]+) runs failed/.exec(one.stdout);
   const coverage = /^(\d+) pairs of lines .*\n {2}the last new one in seed (\d+), none in 500 seeds since: covered$/m;

@@ -115,6 +115,6 @@ test("after an agent that has gone astray the next seeds are recorded all the sa
 
 test("seeds begin at the first one asked for, up to the greatest", async () => {
   const most = Number.MAX_SAFE_INTEGER;
-  const options = { args: ["racy"], agents: 3, buffers: [4], first: most - 1, last: most };
+  const options = { args: ["racy"], agents: 3, buffers: [4], first: most - 1, last: most, everywhere: true };
   assert.equal((await outcomesOf("cases", options)).outcomes.length, 2);
 });

@@ -3,7 +3,6 @@
 
 import { checkedBy } from "../../lib/check/check.mjs";
 import { Repeats } from "../../lib/check/repeats.mjs";
-import { collectGarbage, onceMore, stopGrowth } from "../../lib/processes/garbage.mjs";
 import { Group } from "../../lib/run/group.mjs";
 import { simulatorAt } from "../../lib/simulator/chosen.mjs";
 import { CHECKER } from "./needs.mjs";
@@ -68,7 +67,6 @@ class Runs {
     await this.group.run(wanted, (outcome, judgement, aside) => {
       const checked = checkedBy(this.#simulator, { outcome, judgement, aside }, this.every, this.#repeats);
       kept.push(keep(checked, judgement, aside));
-      onceMore();
     });
     return kept;
   }
@@ -83,7 +81,6 @@ async function answerTo({ module, seeds, checkEvery, judged: most, again }) {
   const options = { module, args: [], maxMoves: 100_000, seconds: 5, fresh: false };
   const group = await Group.open(options, () => simulatorAt(CHECKER).prepare());
   try {
-    stopGrowth();
     const runs = new Runs(group, checkEvery);
     const wanted = Array.from({ length: seeds }, (_, at) => ({ seed: at + 1, whole: at % checkEvery === 0 }));
     const made = await runs.made(wanted, madeOf);
@@ -96,7 +93,6 @@ async function answerTo({ module, seeds, checkEvery, judged: most, again }) {
   }
 }
 
-collectGarbage();
 process.on("disconnect", () => process.exit());
 process.on("message", async (question) => {
   try {

@@ -2,13 +2,11 @@
 
 import { AskedProcesses } from "./asked-processes.mjs";
 
-const PROCESSES = 4;
-
 export class Opinions {
   #processes;
 
-  /** @param {number} [count] how many processes: each begins a worker for each agent of the scripts */
-  constructor(count = PROCESSES) {
+  /** @param {number} count how many processes: each begins a worker for each agent of the scripts */
+  constructor(count) {
     this.#processes = new AskedProcesses("recorder/tests/helpers/opinion-process.mjs", count);
   }
 
