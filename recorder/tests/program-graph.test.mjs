@@ -3,7 +3,7 @@
 
 import assert from "node:assert/strict";
 import { execFile } from "node:child_process";
-import { mkdirSync, mkdtempSync, rmSync, writeFileSync } from "node:fs";
+import { mkdirSync, mkdtempSync, readFileSync, rmSync, writeFileSync } from "node:fs";
 import { tmpdir } from "node:os";
 import { dirname, join } from "node:path";
 import { after, test } from "node:test";
@@ -25,8 +25,8 @@ function programIn(folder, files) {
 const execute = promisify(execFile);
 
 /** What each of some runs in one thread prints, for each of some programs. */
-async function ownRuns(urls, runs = 3) {
-  const words = [...FLAGS, PROCESS, JSON.stringify(urls), String(runs)];
+async function ownRuns(urls, runs = 3, flags = []) {
+  const words = [...FLAGS, ...flags, PROCESS, JSON.stringify(urls), String(runs)];
   const { stdout, stderr } = await execute(process.execPath, words, { maxBuffer: 2 ** 24 });
   assert.equal(stderr, "");
   return JSON.parse(stdout);
@@ -376,19 +376,37 @@ test("a thread makes graphs as a process does, without a warning", async () => {
   assert.deepEqual(JSON.parse(texts.stdout), [Array(2).fill(["true function [Module: null prototype] { d: 1 }"])]);
 });
 
+/**
+ * What the engine has noted about a file: the texts that it took of it, and each time that it read or compiled a function
+ * of one, with the place of that function.
+ */
+function engineNotesOf(log, file) {
+  const lines = log.split("\n").map((line) => line.split(","));
+  const texts = lines.filter(([kind, , name]) => kind === "script-details" && name === file).map(([, id]) => id);
+  const compiled = lines.filter(([kind, act]) => kind === "function" && /parse|interpreter/.test(act));
+  const acts = compiled.filter(([, , id]) => texts.includes(id));
+  return { texts, acts: acts.map(([, act, id, from, to]) => [act, id, from, to].join(" ")) };
+}
+
 test("from the third run on, the engine compiles nothing of CommonJS, and each run has functions of its own", async () => {
-  const body = Array.from({ length: 4_000 }, (_, at) => `function f${at}(a) { return a.b${at} + "c${at}"; }`).join("\n");
-  programIn(join(folder, "compiled"), {
+  const functions = 400;
+  const body = Array.from({ length: functions }, (_, at) => `function f${at}(a) { return a.b${at} + "c${at}"; }`).join("\n");
+  const at = join(folder, "compiled");
+  programIn(at, {
     "main.cjs": `
-      const begun = process.cpuUsage().user; const large = require("./large.cjs");
-      (globalThis.compiledTimes ??= []).push(process.cpuUsage().user - begun);
-      const { compiledTimes: times } = globalThis; const isNew = !(globalThis.compiledOld ??= new Set()).has(large.f0);
+      const large = require("./large.cjs"); const isNew = !(globalThis.compiledOld ??= new Set()).has(large.f0);
       globalThis.compiledOld.add(large.f0);
-      console.log(isNew, times.length < 3 || times.at(-1) < times[0] / 2);`,
+      console.log(isNew);`,
     "large.cjs": `${body}\nexports.f0 = f0; for (let at = 0; at < 50; at += 1) f0({});`,
   });
-  const [runs] = await ownRuns([pathToFileURL(join(folder, "compiled/main.cjs")).href], 6);
-  assert.deepEqual(runs, Array(6).fill(["true true"]));
+  // The engine may drop the code of what hasn't run for long, and compile that again. Here it keeps all.
+  const logged = ["--no-flush-bytecode", "--log-function-events", "--no-logfile-per-isolate", `--logfile=${join(at, "log")}`];
+  const [runs] = await ownRuns([pathToFileURL(join(at, "main.cjs")).href], 6, logged);
+  assert.deepEqual(runs, Array(6).fill(["true"]));
+  const { texts, acts } = engineNotesOf(readFileSync(join(at, "log"), "utf8"), join(at, "large.cjs"));
+  assert.equal(texts.length, 2, "it is compiled as a function's text, and as a script");
+  assert.ok(acts.length > texts.length * functions, `the engine has noted ${acts.length} acts`);
+  assert.deepEqual(acts.filter((act, at) => acts.indexOf(act) !== at), [], "what was compiled is compiled again");
 });
 
 test("graphs that are over are garbage: memory and time of a run stay", async () => {
