@@ -49,6 +49,24 @@ async function withGroup(context, files, act, options = {}) {
   }
 }
 
+/** @type {{ group: ProgramGroup | undefined, rest: Promise<unknown> }} the threads of runs that come one after the other */
+const shared = { group: undefined, rest: Promise.resolve() };
+
+/**
+ * Has something done with a group for a program, in the same threads as for others.
+ * @type {typeof withGroup}
+ */
+function withSharedGroup(context, files, act) {
+  const module = pathToFileURL(programOf(context, files)).href;
+  const done = shared.rest.then(async () => {
+    shared.group ??= await opened(module);
+    shared.group.enter(module);
+    return act(shared.group);
+  });
+  shared.rest = done.catch(() => {});
+  return done;
+}
+
 /**
  * Makes a run, and says which threads are others afterwards.
  * @param {import("node:test").TestContext} context
@@ -57,7 +75,9 @@ async function withGroup(context, files, act, options = {}) {
  * @returns {Promise<number[]>} their numbers
  */
 function replacedIn(context, files, { ending = "finished", isFresh = false, ...options } = {}) {
-  return withGroup(context, files, async (group) => {
+  // Behind other runs of a group, the first one that fails is made again in fresh threads.
+  const isShared = ending === "finished" && !isFresh;
+  return (isShared ? withSharedGroup : withGroup)(context, files, async (group) => {
     const before = [...group.agents];
     const { outcome } = await group.one({ seed: 1, whole: false, isSilent: true, isFresh });
     assert.equal(outcome.ending, ending, outcome.detail);
@@ -161,6 +181,8 @@ describe("a thread is kept", { concurrency: 3 }, () => {
 });
 
 describe("a thread is replaced", { concurrency: 3 }, () => {
+  after(() => shared.group?.close());
+
   it("if it has left a tick", async (context) => {
     assert.deepEqual(await replacedIn(context, LEAVES_TICK), [1]);
   });
