@@ -9,11 +9,6 @@ import { after, test } from "node:test";
 import { fileURLToPath, pathToFileURL } from "node:url";
 import { EDITS, HIDDEN, RIGHT, STARVES, editedText, fileOf } from "../bench/edits.mjs";
 import { PIECES, counted } from "../bench/wrong.mjs";
-import { OnlyByTime, hiddenWaits } from "../lib/command/only-by-time.mjs";
-import { checkedOptions } from "../lib/library/library-options.mjs";
-import { Group } from "../lib/run/group.mjs";
-import { SCRIPT_LIMITS } from "../script/limits.mjs";
-import { seedsTo } from "./helpers/recorded.mjs";
 
 const README = readFileSync(new URL("../bench/README.md", import.meta.url), "utf8");
 const AMOUNT = { seeds: 20, jobs: 1 };
@@ -62,122 +57,6 @@ async function countedOf(programs) {
   return counts;
 }
 
-/**
- * @typedef {object} Program
- * @property {string} name
- * @property {string} url
- * @property {any} module as it was imported here
- * @property {number[]} blocks which of its group's buffers are its own, each of just the bytes that it wants
- */
-
-/** @typedef {{ agents: number, buffers: number[], programs: Program[] }} Together programs that share workers */
-
-/** So many buffers a script can have: the last one says which program is run. */
-const MOST_BUFFERS = SCRIPT_LIMITS.blocks - 1;
-
-/**
- * Finds buffers for a program among those of others, and adds those that it needs besides.
- * @param {number[]} wanted the bytes of each
- * @param {number[]} there those of others
- * @returns {{ blocks: number[], buffers: number[] }} which are the program's; all
- */
-function placed(wanted, there) {
-  const buffers = [...there];
-  /** @type {number[]} */
-  const blocks = [];
-  for (const bytes of wanted) {
-    const found = buffers.findIndex((each, block) => each === bytes && !blocks.includes(block));
-    blocks.push(found < 0 ? buffers.push(bytes) - 1 : found);
-  }
-  return { blocks, buffers };
-}
-
-/**
- * Puts programs together that have as many agents, and few buffers.
- * @param {[name: string, file: string][]} named
- * @returns {Promise<Together[]>}
- */
-async function together(named) {
-  /** @type {Together[]} */
-  const all = [];
-  for (const [name, file] of named) {
-    const url = pathToFileURL(file).href;
-    const module = await import(url);
-    const { agents, buffers: wanted } = module.setup;
-    const hasRoom = (/** @type {Together} */ others) =>
-      others.agents === agents && placed(wanted, others.buffers).buffers.length <= MOST_BUFFERS;
-    const others = all.find(hasRoom) ?? { agents, buffers: [], programs: [] };
-    if (others.programs.length === 0) all.push(others);
-    const { blocks, buffers } = placed(wanted, others.buffers);
-    others.buffers = buffers;
-    others.programs.push({ name, url, module, blocks });
-  }
-  return all;
-}
-
-/**
- * Writes a module whose agents are those of several programs.
- * @param {Program[]} programs
- * @returns {string} its file
- */
-function joined(programs) {
-  const file = join(folder, `joined-${programs[0].name}.mjs`);
-  writeFileSync(file, `${programs.map(({ url }, at) => `import program${at} from ${JSON.stringify(url)};`).join("\n")}
-    const PROGRAMS = [${programs.map(({ blocks }, at) => `[program${at}, ${JSON.stringify(blocks)}]`)}];
-    export default function agent({ buffers, ...others }) {
-      const [program, blocks] = PROGRAMS[new Int32Array(buffers.at(-1))[0]];
-      program({ ...others, buffers: blocks.map((block) => buffers[block]) });
-    }`);
-  return file;
-}
-
-/**
- * Makes the runs of programs, one program after the other, in the same workers.
- * @param {Together} together
- * @returns {Promise<[name: string, counts: { failed: number, hidden: number }][]>}
- */
-async function countedTogether({ agents, buffers, programs }) {
-  let at = 0;
-  /** @type {(name: "init" | "check") => import("../lib/run/group.mjs").OfBuffers} */
-  const calling = (name) => (all, about) => {
-    if (name === "init") new Int32Array(all[buffers.length])[0] = at;
-    const { module, blocks } = programs[at];
-    return module[name]?.(blocks.map((block) => all[block]), about);
-  };
-  const asked = { module: joined(programs), agents, buffers: [...buffers, 4], everywhere: true };
-  const options = checkedOptions({ ...asked, init: calling("init"), check: calling("check") }, () => undefined);
-  const group = await Group.open({ ...options, fresh: false });
-  /** @type {[string, { failed: number, hidden: number }][]} */
-  const counts = [];
-  try {
-    for (at = 0; at < programs.length; at += 1) {
-      /** @type {import("../lib/run/outcome.mjs").Outcome[]} */
-      const outcomes = [];
-      const seeds = seedsTo(AMOUNT.seeds).map((seed) => ({ seed, whole: false, isTrial: true }));
-      await group.run(seeds, (outcome) => void outcomes.push(outcome));
-      assert.equal(outcomes.length, AMOUNT.seeds);
-      const onlyByTime = new OnlyByTime();
-      for (const outcome of outcomes) onlyByTime.add(outcome);
-      const failed = outcomes.filter(({ fails }) => fails).length;
-      counts.push([programs[at].name, { failed, hidden: hiddenWaits(onlyByTime.data())[0]?.runs ?? 0 }]);
-    }
-  } finally {
-    await group.close();
-  }
-  return counts;
-}
-
-/**
- * Counts the failures in the runs of many programs. Few workers make the runs of all.
- * @param {[name: string, file: string][]} named
- */
-async function countedOfAll(named) {
-  const groups = await together(named);
-  const counts = (await Promise.all(groups.map(countedTogether))).flat();
-  assert.deepEqual(counts.map(([name]) => name).sort(), named.map(([name]) => name).sort());
-  return counts;
-}
-
 test("there are 81 wrong programs, one that starves, and 6 that are right in spite of the edit", () => {
   const of = (/** @type {string} */ kind) => EDITS.filter((edit) => edit.kind === kind).length;
   assert.deepEqual([of(RIGHT), of(STARVES), of(HIDDEN), EDITS.length], [6, 1, 2, 88]);
@@ -209,7 +88,7 @@ test("an edit whose text occurs twice, or not at all, is refused", () => {
 });
 
 test("no run of a piece fails in 20 seeds", async () => {
-  const counts = await countedOfAll(PIECES.map((piece) => [piece, fileURLToPath(fileOf(piece))]));
+  const counts = await countedOf(PIECES.map((piece) => [piece, fileURLToPath(fileOf(piece))]));
   assert.deepEqual(counts.filter(([, { failed }]) => failed > 0).map(([piece]) => piece), []);
   assert.deepEqual(counts.filter(([, { hidden }]) => hidden > 0).map(([piece]) => piece), []);
 });
@@ -240,7 +119,7 @@ test("with `timeouts: never` these are deadlocks, and the pieces that wait with 
 test("wrong programs that fail in many runs are found in 20 seeds", async () => {
   const edits = EDITS.filter(({ name }) => OFTEN.includes(name));
   assert.equal(edits.length, OFTEN.length);
-  const counts = await countedOfAll(edits.map((edit) => [edit.name, written(edit)]));
+  const counts = await countedOf(edits.map((edit) => [edit.name, written(edit)]));
   assert.deepEqual(counts.filter(([, { failed }]) => failed === 0).map(([name]) => name), []);
 });
 

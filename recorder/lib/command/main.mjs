@@ -35,9 +35,11 @@ function complain(problem) {
   process.stderr.write(`record: ${messageOf(problem)}\n`);
 }
 
+/** @typedef {import("../seeds/runs.mjs").AnyJob} AnyJob */
+
 /**
  * @param {string[]} words of the command line
- * @param {RemoteJob} [job] the first one, if it has begun
+ * @param {AnyJob} [job] the first one, if it has begun
  * @returns {Promise<{ failed: boolean, problems: unknown[] }>}
  */
 async function run(words, job) {
@@ -67,12 +69,12 @@ async function run(words, job) {
 const isInterrupted = (problem) => problem instanceof Interrupted;
 
 /**
- * @param {string[]} words of the command line
- * @param {import("node:child_process").ChildProcess} [child] the process of the first job, if it has begun
+ * Does what a command line asks for.
+ * @param {string[]} words
+ * @param {AnyJob} [job] the first one, if it has begun
  * @returns {Promise<number>} the status
  */
-export async function main(words, child) {
-  const job = child && new RemoteJob(child);
+export async function obey(words, job) {
   // If nobody reads what went wrong, the status reports it.
   process.stderr.on("error", () => {});
   const { failed, problems } = await run(words, job);
@@ -84,3 +86,10 @@ export async function main(words, child) {
   if (problems.length > 0) return problems[0] instanceof Refused ? STATUS.REFUSED : STATUS.NOT_DONE;
   return failed ? STATUS.SOME_FAILED : STATUS.NONE_FAILED;
 }
+
+/**
+ * @param {string[]} words of the command line
+ * @param {import("node:child_process").ChildProcess} [child] the process of the first job, if it has begun
+ * @returns {Promise<number>} the status
+ */
+export const main = (words, child) => obey(words, child && new RemoteJob(child));

@@ -28,7 +28,7 @@ export class Session {
   /**
    * @param {import("./options.mjs").Options} options
    * @param {string} module its URL
-   * @param {import("../seeds/remote-job.mjs").RemoteJob} [job] the first one, if it has begun
+   * @param {import("../seeds/runs.mjs").AnyJob} [job] the first one, if it has begun
    */
   constructor(options, module, job) {
     const isPreloaded = preloads();

@@ -2,13 +2,7 @@
 // That one command line prints the same, and ends in the same way, is a test's subject elsewhere.
 
 import { Writable } from "node:stream";
-import { main } from "../../lib/command/main.mjs";
-import { optionsOf } from "../../lib/command/options.mjs";
-import { messageOf } from "../../lib/command/problems.mjs";
-import { Session } from "../../lib/command/session.mjs";
-import { STATUS } from "../../lib/command/status.mjs";
-import { moduleUrl } from "../../lib/library/module-url.mjs";
-import { Refused } from "../../lib/options/refused.mjs";
+import { obey } from "../../lib/command/main.mjs";
 import { Job } from "../../lib/seeds/job.mjs";
 
 /** @typedef {{ status: number, stdout: string, stderr: string }} Ended */
@@ -22,7 +16,7 @@ let rest = Promise.resolve();
  * @returns {Promise<Ended>}
  */
 export function commandHere(words) {
-  const ended = rest.then(() => withStreams(() => statusOf(words)));
+  const ended = rest.then(() => withStreams(() => obey(byOneJob(words), new Job())));
   rest = ended.catch(() => {});
   return ended;
 }
@@ -53,14 +47,5 @@ async function withStreams(act) {
   }
 }
 
-/** @param {string[]} words @returns {Promise<number>} */
-async function statusOf(words) {
-  const options = /** @type {any} */ (optionsOf(words));
-  // It makes its run in its own process by itself.
-  if (options.replay !== undefined) return main(words);
-  const session = new Session({ ...options, jobs: 1 }, moduleUrl(options.module), new Job());
-  const { failed, problems } = await session.run();
-  for (const problem of problems) process.stderr.write(`record: ${messageOf(problem)}\n`);
-  if (problems.length > 0) return problems[0] instanceof Refused ? STATUS.REFUSED : STATUS.NOT_DONE;
-  return failed ? STATUS.SOME_FAILED : STATUS.NONE_FAILED;
-}
+/** @param {string[]} words @returns {string[]} those of a command line that takes no further jobs */
+const byOneJob = (words) => (/^--(jobs|replay)$/m.test(words.join("\n")) ? words : ["--jobs", "1", ...words]);
