@@ -183,7 +183,7 @@ describe("the checks of the agents find a lock that isn't one", () => {
         .replaceAll('from "./', `from "${pathToFileURL(FOLDER).href}/`);
       const module = join(folder, `${name}.agents.mjs`);
       writeFileSync(module, agents);
-      // What isn't a lock needs no pilots to fail, and each agent needs one worker less without.
+      // Without pilots each agent needs one worker less. What isn't a lock fails all the same.
       const outcomes = await outcomesOf(module, 50, 0, { everywhere: true });
       assert.ok(outcomes.some(({ ending }) => ending === "failed"));
     });

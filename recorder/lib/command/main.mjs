@@ -13,6 +13,8 @@ import { messageOf } from "./problems.mjs";
 import { Session } from "./session.mjs";
 import { STATUS } from "./status.mjs";
 
+/** @typedef {import("../seeds/runs.mjs").AnyJob} AnyJob */
+
 /** @param {string} url @returns {boolean} */
 function isFile(url) {
   try {
@@ -34,8 +36,6 @@ function existing({ module, isProgram }) {
 function complain(problem) {
   process.stderr.write(`record: ${messageOf(problem)}\n`);
 }
-
-/** @typedef {import("../seeds/runs.mjs").AnyJob} AnyJob */
 
 /**
  * @param {string[]} words of the command line
