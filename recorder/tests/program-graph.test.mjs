@@ -426,9 +426,12 @@ test("graphs that are over are garbage: memory and time of a run stay", async ()
     const graph = new Graph({ refuse() {} }); const turn = () => new Promise((done) => setTimeout(done, 10));
     const heaps = []; const times = [];
     for (let part = 0; part < 4; part += 1) {
-      const begun = process.cpuUsage().user;
-      for (let run = 0; run < 150; run += 1) { graph.begin(); await graph.enter(${JSON.stringify(url)}); }
-      times.push(process.cpuUsage().user - begun);
+      times.push(Infinity);
+      for (let run = 0; run < 150; run += 1) {
+        const begun = performance.now();
+        graph.begin(); await graph.enter(${JSON.stringify(url)});
+        times[part] = Math.min(times[part], performance.now() - begun);
+      }
       for (let time = 0; time < 3; time += 1) { gc(); await turn(); }
       heaps.push(process.memoryUsage().heapUsed);
     }
@@ -436,7 +439,7 @@ test("graphs that are over are garbage: memory and time of a run stay", async ()
   const words = ["--expose-gc", ...FLAGS, "--input-type=module", "--eval", code];
   const { heaps, times } = JSON.parse((await execute(process.execPath, words)).stdout);
   assert.ok(heaps[3] < heaps[0] * 1.2, `bytes after each 150 runs: ${heaps}`);
-  assert.ok(times[3] < times[0] * 2, `microseconds of each 150 runs: ${times}`);
+  assert.ok(times[3] < times[0] * 2, `milliseconds of the quickest of each 150 runs: ${times}`);
 });
 
 test("a deleted file isn't found, though the run before found it", async () => {

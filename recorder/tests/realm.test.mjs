@@ -416,8 +416,8 @@ test("a module that breaks while it is loaded is refused with its own error, at 
     ["Promise.prototype.then = () => { throw new Error('another'); }; throw new Error('mine');", /mine/],
     ["Error.prototype.toString = () => { throw 'another'; }; throw new TypeError('mine');", /TypeError: mine/],
     ["await Promise.reject(new Error('mine'));", /mine/],
-    ["Promise.reject(new Error('mine')); await new Promise((done) => setTimeout(done, 5_000));", /mine/],
-    ["setTimeout(() => { throw new Error('mine'); }); await new Promise((done) => setTimeout(done, 5_000));", /mine/],
+    ["Promise.reject(new Error('mine')); await new Promise((done) => setTimeout(done, 60_000));", /mine/],
+    ["setTimeout(() => { throw new Error('mine'); }); await new Promise((done) => setTimeout(done, 60_000));", /mine/],
     ["process.nextTick(() => { throw new Error('mine'); }); await new Promise(() => {});", /mine/],
     ["process.exit(3);", /exit code 3/],
     ["import './nowhere.mjs';", /nowhere\.mjs/],
@@ -433,7 +433,7 @@ test("a module that breaks while it is loaded is refused with its own error, at 
     assert.ok(error instanceof Refused, `${cases[at][0]}: ${error}`);
     assert.match(error.message, cases[at][1]);
   });
-  assert.ok(performance.now() - began < 15_000, `it took ${performance.now() - began} ms`);
+  assert.ok(performance.now() - began < 50_000, `it took ${performance.now() - began} ms`);
 });
 
 describe("a stack that overflows in what an agent calls", () => {

@@ -14,6 +14,10 @@ FURTHER = 0.4
 # busy. That shortens the longest chain, but each further job makes a proof take about a seventh more processor time.
 URGENT = 0.7
 URGENT_JOBS = 3
+# A task is long if it takes this part of the time that is left, with one job. It gets so many jobs even if all
+# processors are busy: with one job it would end after all others, alone.
+LONG = 0.5
+LONG_JOBS = 2
 
 
 @dataclass(eq=False)
@@ -69,25 +73,32 @@ class Lanes:
         ready = [it for it in self.left if all(below in self.ended for below in it.waits_for)]
         ready.sort(key=lambda it: -self.behind[it])
         unended = [*self.left, *(it for it, _, _ in self.running.values())]
-        longest = max((self.behind[it] for it in unended), default=0)
         for at, task in enumerate(ready):
-            is_urgent = self.hurries and task.most_jobs > 1 and self.behind[task] >= URGENT * longest
-            jobs = self.jobs_for(task, at, len(ready) - at - 1, is_urgent)
+            jobs = self.jobs_for(task, at, len(ready) - at - 1, self.least_jobs(task, unended))
             if jobs:
                 yield task, jobs
 
-    def jobs_for(self, task, at, others, is_urgent):
-        """Returns how many jobs a ready task may begin with, given its place and how many come after it; 0 if none."""
+    def least_jobs(self, task, unended):
+        """Returns how many jobs a ready task gets at least, given the tasks that haven't ended: 1 if it has to wait for
+        an idle processor."""
+        if task.most_jobs > 1 and self.hurries and self.behind[task] >= URGENT * max(self.behind[it] for it in unended):
+            return URGENT_JOBS
+        is_long = task.most_jobs > 1 and task.seconds >= LONG * sum(it.seconds for it in unended) / self.processors
+        return LONG_JOBS if is_long else 1
+
+    def jobs_for(self, task, at, others, least):
+        """Returns how many jobs a ready task may begin with, given its place, how many come after it, and how many it
+        gets at least; 0 if none."""
         used = sum(jobs for _, jobs, _ in self.running.values())
         # One more than there are processors is planned for: a task that all others wait for gets its share sooner.
         idle = self.processors + 1 - used
         room = self.memory - sum(memory for _, _, memory in self.running.values())
         if self.running and (task.is_alone or any(it.is_alone for it, _, _ in self.running.values()) or task.memory > room):
             return 0
-        if idle < 1 and not is_urgent:
+        if idle < 1 and least == 1:
             return 0
         # The first has the longest chain behind it, so all processors but one for each other task are best spent there.
-        jobs = max(idle - others if at == 0 else idle // (others + 1), URGENT_JOBS if is_urgent else 1)
+        jobs = max(idle - others if at == 0 else idle // (others + 1), least)
         fitting = 1 + int((room / task.memory - 1) / FURTHER) if task.memory else jobs
         return max(1, min(jobs, self.processors, task.most_jobs, fitting))
 
