@@ -174,7 +174,7 @@ test("with --fail-fast the first failing run is the last, whatever the number of
   assert.equal(runs.replaceAll(",", ""), seed);
   // Of the seeds 1, 8, 15, .. each is checked, and the last one, since it failed.
   const checked = Math.ceil(Number(seed) / 7) + ((Number(seed) - 1) % 7 === 0 ? 0 : 1);
-  assert.match(one.stdout, new RegExp(`^${checked} of [\\d,]+ runs were replayed and judged by sabsim `, "m"));
+  assert.match(one.stdout, new RegExp(`^${checked} of [\\d,]+ runs were replayed and judged by the simulator `, "m"));
 });
 
 /**

@@ -49,7 +49,7 @@ describe("rows by hand", () => {
     it(`${name}, by the recorder's detector`, () => {
       assert.deepEqual(detected(eventsOfTrace(trace)), detectedPairs(judged));
     });
-    it(`${name}, by sabsim`, () => {
+    it(`${name}, by the simulator`, () => {
       const status = statusOf(judged);
       demandOfSabsim(trace, [], { output: verdict, status });
       demandOfSabsim(trace, ["--format", "plain"], { output: verdict, status });

@@ -150,7 +150,7 @@ describe("the judge of checked runs", () => {
       const words = ["--sabsim", sabsim, "--ordinary", ordinary, ...addition];
       const { status, stdout } = await commandHere([agentsPath("cases"), ...words]);
       assert.equal(status, 0, stdout);
-      assert.match(stdout, /^every run was replayed by sabsim \(native program\): it agrees with the recorder$/m);
+      assert.match(stdout, /^every run was replayed by the simulator \(native program\): it agrees with the recorder$/m);
     }
   });
 

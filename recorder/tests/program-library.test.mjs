@@ -144,7 +144,7 @@ test("`testProgram` fails with the finding, shortened and kept, and passes other
   assert.match(output, new RegExp(`kept in ${join(folder, "found")}: seed-`));
   assert.match(output, new RegExp(`^ +file://${folder}/main\\.test\\.mjs:3:5$`, "m"));
   assert.match(output, /^ok 2 - is right$/m);
-  assert.match(output, /^# 5 runs passed, 5 checked by sabsim$/m);
+  assert.match(output, /^# 5 runs passed, 5 checked by the simulator$/m);
   assert.match(output, /^not ok 3 - has agents$/m);
   assert.ok(output.includes("`module` and `program` can't both be given"));
   assert.match(output, /^not ok 4 - names no folder$/m);

@@ -74,7 +74,7 @@ test("a kept run of a program is made again from its file alone: the same script
   const [title, failed, , detail] = stdout.split("\n");
   assert.equal(title, `replayed found/${name}.program.json: main.mjs, with the clocks and random numbers of seed ${seed}`);
   assert.deepEqual([failed, detail], ["1 of 1 run failed: 1 threw", "  agent 0 threw Error: mine: ready too soon"]);
-  assert.match(stdout, /^every run was replayed and judged by sabsim \([\w ]+\): it agrees with the recorder$/m);
+  assert.match(stdout, /^every run was replayed and judged by the simulator \([\w ]+\): it agrees with the recorder$/m);
   for (const ending of ["json", "report", "trace.jsonl", "explained"]) {
     const again = readFileSync(join(dirname(main), "again", `${name}.replayed.${ending}`), "utf8");
     assert.equal(again, readFileSync(join(folder, `${name}.${ending}`), "utf8"), ending);
@@ -119,7 +119,7 @@ test("a run that waits by waitAsync is made again, and what differs is named as 
   assert.match(script, /"waitAsync_2_of_0"/);
   const { status, stdout, stderr } = await commandHere(["--replay", file, "--out", join(folder, "again")]);
   assert.deepEqual([status, stderr], [1, ""]);
-  assert.match(stdout, /^every run was replayed and judged by sabsim \([\w ]+\): it agrees with the recorder$/m);
+  assert.match(stdout, /^every run was replayed and judged by the simulator \([\w ]+\): it agrees with the recorder$/m);
   assert.equal(readFileSync(join(folder, "again", `${name}.replayed.json`), "utf8"), script);
   writeFileSync(main, readFileSync(main, "utf8").replace("words, 0, 0", "words, round, 0"));
   assert.match((await commandHere(["--replay", file])).stderr,

@@ -143,7 +143,7 @@ describe("a run that uses it", () => {
     const { stdout } = await execute(process.execPath, words).catch((error) => error);
     const [, counted] = /^(\d+) runs have no script, and weren't checked: it has more than 16 threads and waits of /m.exec(stdout) ?? [];
     assert.ok(Number(counted) > 1 && Number(counted) < 12, stdout);
-    assert.match(stdout, new RegExp(`^${12 - Number(counted)} of 12 runs were replayed and judged by sabsim`, "m"));
+    assert.match(stdout, new RegExp(`^${12 - Number(counted)} of 12 runs were replayed and judged by the simulator`, "m"));
   });
 
   it("is the same each time", async (context) => {

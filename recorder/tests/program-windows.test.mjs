@@ -330,7 +330,7 @@ describe("a kept run", () => {
   it("says which bytes are where, is made again, and differs by the program's own bytes", async () => {
     const { status, stdout } = await recorded;
     assert.equal(status, 1, stdout);
-    assert.match(stdout, /every run was replayed and judged by sabsim/);
+    assert.match(stdout, /every run was replayed and judged by the simulator/);
     assert.doesNotMatch(stdout, /not kept|no script/);
     const name = readdirSync(folder).find((each) => each.endsWith(".program.json")) ?? "";
     const kept = join(folder, name);
@@ -345,7 +345,7 @@ describe("a kept run", () => {
     assert.match(page, /"races":\[\[\d+,\d+\]/);
     const again = await ran("--replay", kept);
     assert.deepEqual([again.status, again.stdout.split("\n")[1].replace(/:.*/, "")], [1, "1 of 1 run failed"]);
-    assert.match(again.stdout, /every run was replayed and judged by sabsim/);
+    assert.match(again.stdout, /every run was replayed and judged by the simulator/);
     // Another page comes before those that are known, so all that follow stand elsewhere.
     const changed = join(home, "changed");
     cpSync(folder, join(changed, "kept"), { recursive: true });

@@ -40,7 +40,7 @@ test("if no run fails, the status is 0", () => {
       "20 runs: 20 finished",
       "1 final state: how it ended, and the bytes",
       "  20 runs finished, seed 1 the first: 030000000300000000000000",
-      `every run was replayed and judged by sabsim ${KIND}: it agrees with the recorder`,
+      `every run was replayed and judged by the simulator ${KIND}: it agrees with the recorder`,
       // Two agents add three times each.
       "20 runs made 120 calls of Atomics, and no ordinary read or write",
       "",
@@ -290,7 +290,7 @@ test("with nothing built every run is checked, and explanation, picture and page
   const endings = ["explained", "html", "json", "report", "svg", "trace.jsonl"];
   const files = readdirSync(out).filter((name) => !name.includes("original"));
   assert.deepEqual(files.sort(), endings.map((ending) => `seed-3.${ending}`));
-  const checked = "every run was replayed and judged by sabsim (WebAssembly module), except exact repeats: "
+  const checked = "every run was replayed and judged by the simulator (WebAssembly module), except exact repeats: "
     + "it agrees with the recorder";
   assert.ok(stdout.split("\n").includes(checked), stdout);
 });
@@ -307,7 +307,7 @@ test("a picture that sabsim doesn't make is reported", async (context) => {
   assert.equal((await commandHere(cases("waitsForEver", ...unchecked, "--check", "0"))).status, 1);
   const { status, stdout } = await commandHere(cases("waitsForEver", ...unchecked, "--sabsim", half));
   assert.equal(status, 1, stdout);
-  assert.match(stdout, /^every run was replayed and judged by sabsim \(native program\): it agrees with the recorder$/m);
+  assert.match(stdout, /^every run was replayed and judged by the simulator \(native program\): it agrees with the recorder$/m);
   const left = "\nnot kept: seed-1.svg: sabsim ended with status 4: no pictures\n" +
     "not kept: seed-1.html: what sabsim prints about the run is no JSON\n";
   assert.ok(stdout.endsWith(left), stdout);

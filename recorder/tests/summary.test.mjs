@@ -12,7 +12,7 @@ import { counted, digits } from "../lib/run/words.mjs";
 const SEEN = { ordinary: "watch", races: "fail", checkedBy: "module 123" };
 /** What it says about the runs that the module has checked; one alone is no repeat. */
 const checkedLine = (which, repeats = ", except exact repeats") =>
-  `${which} replayed and judged by sabsim (WebAssembly module)${repeats}: it agrees with the recorder`;
+  `${which} replayed and judged by the simulator (WebAssembly module)${repeats}: it agrees with the recorder`;
 
 /**
  * An outcome, of which a test says what matters to it.
@@ -466,7 +466,7 @@ test("only the module isn't asked about runs that are the same again, and one ru
     for (let seed = 1; seed <= count; seed += 1) summary.add(outcome(seed, { checked: true }));
     return summary.text().split("\n").find((line) => line.startsWith("every run was"));
   };
-  const judged = "every run was replayed and judged by sabsim";
+  const judged = "every run was replayed and judged by the simulator";
   const agrees = "it agrees with the recorder";
   assert.equal(saying("module 123", 2), `${judged} (WebAssembly module), except exact repeats: ${agrees}`);
   assert.equal(saying("module 123", 1), `${judged} (WebAssembly module): ${agrees}`);
@@ -475,7 +475,7 @@ test("only the module isn't asked about runs that are the same again, and one ru
 
 test("of runs whose ordinary accesses aren't watched it isn't said that they were judged", () => {
   const lines = linesOf(seeds(1, 2), { ordinary: "store", checked: 2 });
-  const which = "every run was replayed by sabsim (WebAssembly module), except exact repeats";
+  const which = "every run was replayed by the simulator (WebAssembly module), except exact repeats";
   assert.ok(lines.includes(`${which}: it agrees with the recorder`));
 });
 

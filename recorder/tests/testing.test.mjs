@@ -132,7 +132,7 @@ test("a failing run is kept where `out` says, and a passing test says how many r
   assert.ok(output.includes(`kept in ${join(folder, "found")}: ${kept.join(", ")}`), output);
   assert.deepEqual(readdirSync(join(folder, "found")).sort(), kept.toSorted());
   assert.match(output, /^ok 2 - passes$/m);
-  assert.match(output, /^# 10 runs passed, 10 checked by sabsim$/m);
+  assert.match(output, /^# 10 runs passed, 10 checked by the simulator$/m);
   assert.match(output, /^# 2 runs passed, none checked: the options say that sabsim isn't asked$/m);
   assert.deepEqual(readdirSync(temporary), []);
 });
@@ -167,7 +167,7 @@ test("options that can't be fail their test, and others go on", async () => {
   const lines = output.split("\n").filter((line) => !line.includes("location:"));
   assert.deepEqual(lines.filter((line) => line.includes("/recorder/lib/")), []);
   assert.match(output, /^ok 7 - right$/m);
-  assert.match(output, /^# 20 runs passed, 20 checked by sabsim$/m);
+  assert.match(output, /^# 20 runs passed, 20 checked by the simulator$/m);
   // Besides these three the one that is kept.
   assert.match(output, /^# fail 4$/m);
   assert.deepEqual(readdirSync(temporary), []);

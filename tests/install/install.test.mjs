@@ -29,7 +29,7 @@ const withCompiler = { skip: hasCompiler ? false : "there is no tsc on this mach
 
 /** What a summary says about runs that the module has checked. */
 const CHECKED =
-  /^every run was replayed and judged by sabsim \(WebAssembly module\), except exact repeats: it agrees with the recorder$/m;
+  /^every run was replayed and judged by the simulator \(WebAssembly module\), except exact repeats: it agrees with the recorder$/m;
 
 const room = mkdtempSync(join(tmpdir(), "sabsim-package-"));
 after(() => rmSync(room, { recursive: true, force: true }));
@@ -143,7 +143,7 @@ test("a program's version is the package's", () => {
 test("a project's own tests import it", () => {
   const output = succeeds(project, "node", ["--test", "--test-reporter=tap"]);
   assert.match(output, /^# pass 4$/m);
-  assert.match(output, /^# 10 runs passed, 10 checked by sabsim$/m);
+  assert.match(output, /^# 10 runs passed, 10 checked by the simulator$/m);
   assert.match(output, /^# fail 0$/m);
 });
 
@@ -345,7 +345,7 @@ test("with a program it replays what was recorded, and checks", withProgram, asy
 
   await the.test("runs are checked by it if it is chosen, and else by the module", () => {
     const chosen = recorded(folder, ["--sabsim", join(place, "sabsim")]);
-    assert.match(chosen.output, /^every run .* by sabsim \(native program\): it agrees with the recorder$/m);
+    assert.match(chosen.output, /^every run .* by the simulator \(native program\): it agrees with the recorder$/m);
     const { seed, output } = recorded(folder, ["--out", "found"]);
     assert.match(output, CHECKED);
     const kept = (ending) => join(folder, `found/seed-${seed}.${ending}`);

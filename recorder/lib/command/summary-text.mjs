@@ -163,7 +163,7 @@ function checkLines({ runs, sabsim: { checked, judges, versions } }) {
   const forms = kinds.map((kind) => FORMS.get(kind) ?? kind);
   // The text has no number of the runs that repeat one about which the module was asked: it depends on the jobs.
   const repeats = checked > 1 && kinds.includes("module") ? ", except exact repeats" : "";
-  const how = `replayed ${judges ? "and judged " : ""}by sabsim (${forms.join(" and ")})`;
+  const how = `replayed ${judges ? "and judged " : ""}by the simulator (${forms.join(" and ")})`;
   return [`${which} ${how}${repeats}: it agrees with the recorder`];
 }
 

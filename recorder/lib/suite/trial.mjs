@@ -62,7 +62,8 @@ class Passed {
 
   /** @param {string[]} besides further sentences @returns {string} what is to be said if no run failed */
   text(besides) {
-    const checks = this.checked > 0 ? `${digits(this.checked)} checked by sabsim` : `none checked: ${this.unchecked}`;
+    const { checked, unchecked } = this;
+    const checks = checked > 0 ? `${digits(checked)} checked by the simulator` : `none checked: ${unchecked}`;
     const used = [...this.used].join(", ");
     const unseen = used === "" ? [] : [`agents used what isn't recorded, which is allowed: ${used}`];
     const line = [`${counted(this.count, "run")} passed, ${checks}`, ...unseen, ...besides].join("; ");

@@ -39,7 +39,7 @@ export class TableRuns {
   }
 
   /**
-   * The runs of a program, of which the first and each that fails are checked by sabsim, or all.
+   * The runs of a program, of which the first and each that fails are checked by the simulator, or all.
    * @param {Program} program
    * @param {{ first?: number, last: number, areWhole?: boolean }} seeds
    * @returns {Promise<(Outcome & Check)[]>}
