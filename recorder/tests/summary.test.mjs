@@ -451,7 +451,7 @@ test("joined summaries report all checks in one line, with each kind of simulato
   parts.forEach((summary, at) => summary.add(outcome(at, { checked: at < 2 })));
   const joined = new Summary({ ...SEEN, checkedBy: undefined });
   for (const summary of parts.slice(0, 2)) joined.join(summary.data());
-  const both = "sabsim (WebAssembly module and native program)";
+  const both = "the simulator (WebAssembly module and native program)";
   const how = `replayed and judged by ${both}, except exact repeats: it agrees with the recorder`;
   assert.ok(joined.text().split("\n").includes(`every run was ${how}`));
   joined.join(parts[2].data());
