@@ -4,7 +4,7 @@
 import assert from "node:assert/strict";
 import { spawnSync } from "node:child_process";
 import { test } from "node:test";
-import { record } from "../recorder.mjs";
+import { explore, record } from "../recorder.mjs";
 import { RECORD, agentsOf, agentsPath, recordCase, temporaryFolder } from "./helpers/common.mjs";
 
 /**
@@ -39,6 +39,27 @@ test("calls beside ordinary accesses that race are places to switch, though none
   const { stdout } = run([module, "--agents", "2", "--buffers", "32", "--seeds", "1..60", "--races", "allow"]);
   // Where both have read before one writes, one addition is lost.
   for (const bytes of ["01000000", "02000000"]) assert.match(stdout, new RegExp(`^ {2}\\d+ runs .*: ${bytes}`, "m"));
+});
+
+test("what init leaves doesn't end pilots: agents change at their calls as without init", async (context) => {
+  const module = agentsOf(temporaryFolder(context), `
+    const words = new Int32Array(buffers[0]);
+    if (agent === 0) words[0] = 0;
+    Atomics.store(words, 0, Atomics.load(words, 0) + 1);
+  `);
+  const options = { agents: 2, buffers: [8], strategy: "uniform", races: "allow", seeds: 60 };
+  for (const ordinary of ["watch", "store"]) {
+    const found = [];
+    for (const left of [0, 7]) {
+      const init = (/** @type {SharedArrayBuffer[]} */ [buffer]) => void (new Int32Array(buffer)[1] = left);
+      const firsts = [];
+      for await (const { bytes } of explore({ ...options, module, ordinary, init })) firsts.push(bytes[0].slice(0, 8));
+      found.push(firsts);
+    }
+    assert.deepEqual(found[1], found[0]);
+    // In some runs both have loaded before one stores.
+    assert.deepEqual([...new Set(found[1])].sort(), ["01000000", "02000000"]);
+  }
 });
 
 test("an agent that waits for what pilots couldn't see doesn't spin for ever", (context) => {

@@ -45,6 +45,32 @@ words[0] = 5;`,
     for (const { races } of outcomes) assert.deepEqual(races.map(({ lines }) => lines), [["main.mjs:6:10", "worker.mjs:3:31"]]);
   });
 
+  it("a broadcast orders what its sender did before, but not what its receivers do", async (context) => {
+    const outcomes = await runsOf(context, {
+      "main.mjs": `import { BroadcastChannel } from "node:worker_threads";
+${MAIN}const words = new Int32Array(new SharedArrayBuffer(8));
+for (const id of [1, 2]) started({ words, id });
+for (let ready = 0; ready < 2; ready = Atomics.load(words, 1)) Atomics.wait(words, 1, ready);
+const news = new BroadcastChannel("news");
+news.postMessage("go");
+news.close();`,
+      "worker.mjs": `${WORKER}import { BroadcastChannel } from "node:worker_threads";
+const { words, id } = workerData;
+const news = new BroadcastChannel("news");
+news.onmessage = () => {
+  if (id === 2) globalThis.seen = words[0];
+  news.close();
+};
+Atomics.add(words, 1, 1);
+Atomics.notify(words, 1);
+if (id === 1) words[0] = 1;`,
+    }, { seeds: seedsTo(12) });
+    // Whichever worker gets the message first.
+    assert.deepEqual([...new Set(outcomes.map(({ ending, checked }) => `${ending} ${checked}`))], ["race true"]);
+    const lines = ["worker.mjs:11:24", "worker.mjs:6:40"];
+    for (const { races } of outcomes) assert.deepEqual(races.map((race) => race.lines), [lines]);
+  });
+
   it("memory that one thread has alone is no block: a wait on it is a sleep of the run's time", async (context) => {
     const [{ ending, state, calls }] = await runsOf(context, {
       "main.mjs": `const own = new Int32Array(new SharedArrayBuffer(4));

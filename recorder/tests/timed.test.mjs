@@ -140,9 +140,9 @@ describe("runs with timed waits", { concurrency: 2 }, () => {
   it("a lost wake-up that a time hides is reported with its line, and a sleep isn't", async () => {
     const rest = "wait(words, 8, 0, 500);\n    ";
     const programs = [["lost", 0, `${rest}else Atomics.store`], ["alone", 0, `${rest}else Atomics.notify`],
-      ["crossed", 1, `${rest}Atomics.store`]];
+      ["crossed", 1, `${rest}Atomics.store`], ["amid", 0, `${rest}else Atomics.store(new`]];
     for (const [name, agent, text] of programs) {
-      const outcomes = await outcomesOf(name, 50);
+      const outcomes = await outcomesOf(name, 50, { races: "allow" });
       assert.deepEqual(endingsOf(outcomes), ["finished"]);
       const count = outcomes.filter(({ onlyByTime = [] }) => onlyByTime.length > 0).length;
       assert.ok(count > 0 && count < 50, `${count} runs`);

@@ -42,10 +42,15 @@ function numberOf(name) {
 function cast({ ports, moves, mesh, buffers }, from, value, called) {
   const { table, agent } = ports.world;
   const bare = structuredClone(sent(value, buffers));
-  const number = moves.send(called, TO_CHANNELS);
+  const first = moves.send(called, TO_CHANNELS);
+  let count = 0;
   for (let id = 0; id < table.count; id += 1) {
     if (id === from || table.name(id) !== table.name(from) || table.isClosed(id)) continue;
     const owner = table.owner(id);
+    // Each channel has a message of its own: what one thread did before it has received its message needn't come before
+    // what another one does after that.
+    const number = count === 0 ? first : moves.sendNow();
+    count += 1;
     const envelope = { value: bare, kind: 0, number, ports: [], ids: [] };
     if (owner === agent) ports.queueOf(id).push({ ...envelope, value: structuredClone(bare) });
     else mesh.hand(owner, { kind: "broadcast", id, envelope });

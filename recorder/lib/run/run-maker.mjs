@@ -173,6 +173,8 @@ export class RunMaker {
     this.#clear({ seed, whole: false });
     board.words[WORD.IS_PILOT] = 1;
     if (options.init !== undefined && (await this.#asked("init")) !== "") return false;
+    // Else the first agent that is looked at would seem to have written what `init` left, and end the pilot.
+    if (options.init !== undefined) initialStores(this.memory, this.plan.agents);
     board.words[WORD.NOTES_SOURCES] = 0;
     board.words[WORD.IS_SILENT] = 1;
     board.begin(seed, true);

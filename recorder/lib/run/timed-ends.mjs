@@ -65,25 +65,26 @@ export function onlyByTimeOf(log, records, lineOf) {
  * @returns {Place[]}
  */
 export function servedOf(log) {
-  /** @type {Map<string, { place: Place, agents: number }>} which agents wait at a place, a bit for each */
+  /** @type {Map<string, { place: Place, to: number, agents: number }>} the word's end, and a bit for each that waits */
   const waiters = new Map();
   for (let position = 0; position < log.length; position += 1) {
     if (log.methodAt(position) !== WAIT) continue;
     const place = { block: log.blockAt(position), byte: log.fromAt(position) };
-    const known = waiters.get(placeKey(place)) ?? { place, agents: 0 };
+    const known = waiters.get(placeKey(place)) ?? { place, to: 0, agents: 0 };
+    known.to = Math.max(known.to, log.toAt(position));
     known.agents |= 1 << log.agentAt(position);
     waiters.set(placeKey(place), known);
   }
-  return [...waiters.values()].filter(({ place, agents }) => isServed(log, place, agents)).map(({ place }) => place);
+  return [...waiters.values()].filter((waited) => isServed(log, waited)).map(({ place }) => place);
 }
 
-/** @param {Log} log @param {Place} place @param {number} agents that wait there */
-function isServed(log, { block, byte }, agents) {
+/** @param {Log} log @param {{ place: Place, to: number, agents: number }} waited where the agents wait */
+function isServed(log, { place: { block, byte }, to, agents }) {
   for (let position = 0; position < log.length; position += 1) {
     if (log.blockAt(position) !== block || agents === 1 << log.agentAt(position)) continue;
     const isNotified = log.methodAt(position) === NOTIFY && log.fromAt(position) === byte;
     const isWritten = (log.flagsAt(position) & FLAG.WRITES) !== 0
-      && log.fromAt(position) <= byte && byte < log.toAt(position);
+      && log.fromAt(position) < to && byte < log.toAt(position);
     if (isNotified || isWritten) return true;
   }
   return false;

@@ -76,6 +76,11 @@ const PROGRAMS = {
     if (agent === 0) while (Atomics.load(words, 8) === 0) Atomics.wait(words, 8, 0, 500);
     else Atomics.store(words, 8, 1);
   },
+  // The same, by a byte amid the word.
+  amid: ({ words, agent }) => {
+    if (agent === 0) Atomics.wait(words, 8, 0, 500);
+    else Atomics.store(new Uint8Array(words.buffer), 33, 1);
+  },
   // Nobody wakes agent 1 at once, though its word changes. Agent 0 would go on by a time, too, but much later.
   crossed: ({ words, agent }) => {
     if (agent === 0) {
