@@ -25,6 +25,21 @@ ${act}`,
 const ADDS = "for (let at = 0; at < 1_200; at += 1) Atomics.add(words, 0, 1);";
 const LOOKS = 'if (Atomics.load(words, 0) !== 1_200) throw new Error("it is " + words[0]);';
 
+describe("more messages than there are places for", () => {
+  const sends = (count) => `import { MessageChannel } from "node:worker_threads";
+const { port1 } = new MessageChannel();
+for (let at = 0; at < ${count}; at += 1) port1.postMessage(at);`;
+
+  it("order more than the program does, so the run says that unordered accesses may be missed", async (context) => {
+    const [enough] = await runsOf(context, { "main.mjs": sends(4_096) });
+    assert.deepEqual([enough.ending, enough.noScript], ["finished", BEYOND]);
+    const [crowded] = await runsOf(context, { "main.mjs": sends(4_097) });
+    assert.equal(crowded.ending, "finished");
+    assert.equal(crowded.noScript, "it has more messages than the 4,096 places for them; a place that serves twice orders "
+      + "more than the program does, so unordered accesses may be missed");
+  });
+});
+
 describe("more than 1,000 calls of a thread", { concurrency: 3 }, () => {
   it("end no run: it has no script, and its trace is judged", async (context) => {
     const [outcome] = await runsOf(context, filesOf(ADDS, LOOKS));

@@ -2,7 +2,7 @@
 // what keeps idle threads alive.
 
 import { PortTable } from "../board/port-table.mjs";
-import { Blocks, MESSAGES, MOST_BLOCKS, MOST_BYTES } from "../memory/blocks.mjs";
+import { Blocks, MESSAGES, MESSAGE_PLACES, MOST_BLOCKS, MOST_BYTES } from "../memory/blocks.mjs";
 import { Keepers } from "../memory/keepers.mjs";
 import { WORD } from "../memory/layout.mjs";
 import { TaskNotes } from "../memory/task-notes.mjs";
@@ -10,6 +10,7 @@ import { moreBytesOf } from "./final-state.mjs";
 import { inWindows, windowsOf } from "./in-windows.mjs";
 import { blockNames } from "./program-names.mjs";
 import { PAGE_BYTES, Windows } from "./windows.mjs";
+import { digits } from "./words.mjs";
 
 const CUT = "a thread was terminated while it waited, which no script can have: sabsim judges only the trace of such a "
   + "run";
@@ -21,6 +22,10 @@ const CUT_ASYNC = "a notify came where a thread that has ended had waited by Ato
 const MORE_MEMORY = `its threads share more than ${MOST_BLOCKS} buffers, one of more than ${MOST_BYTES} bytes, or one `
   + `that grows, and touch more pages of ${PAGE_BYTES} bytes than a script and a trace have room for: the `
   + "recorder alone judges such a run";
+
+/** The sender of a place's second message seems to follow on the receiver of its first one. */
+const CROWDED = `it has more messages than the ${digits(MESSAGE_PLACES)} places for them; a place that serves twice orders `
+  + "more than the program does, so unordered accesses may be missed";
 
 const LOST = "so many ordinary writes were made to its buffers, or one had so many bytes at first, that a script "
   + "doesn't have them: sabsim judges only the trace of such a run";
@@ -100,6 +105,7 @@ export class ProgramState {
 
   /** @param {Written | undefined} written @returns {string | undefined} why the run can't have a script, if so */
   whyNoScript(written) {
+    if (this.board.words[WORD.MESSAGES] > MESSAGE_PLACES) return CROWDED;
     if (written === undefined) return MORE_MEMORY;
     if (this.ports.isCut()) return CUT;
     if (this.board.waiters?.hasMissed) return CUT_ASYNC;
