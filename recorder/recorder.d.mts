@@ -99,7 +99,7 @@ export interface OfModule {
   unrecorded?: "fail" | "allow";
   /** The time that clocks show agents: the run's own or the machine's; else "run". */
   clock?: "run" | "real";
-  /** Fills the buffers before the run, in place of the module's `init`. */
+  /** Fills the buffers before the run, and before each of its pilots, in place of the module's `init`. */
   init?: WithBuffers;
   /**
    * Is called after a run that finished, in place of the module's `check`: what it throws fails the run, as does

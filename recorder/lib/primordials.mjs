@@ -12,12 +12,31 @@ const { bind, call } = functions;
 export const uncurried = bind.bind(call);
 
 export const {
-  apply, construct, defineProperty, deleteProperty, get, getOwnPropertyDescriptor, getPrototypeOf, has, isExtensible,
-  ownKeys, preventExtensions, set, setPrototypeOf,
+  apply, construct, deleteProperty, get, getOwnPropertyDescriptor, getPrototypeOf, has, isExtensible, ownKeys,
+  preventExtensions, set, setPrototypeOf,
 } = Reflect;
 export const { create, freeze, is } = Object;
 export const { isArray } = Array;
 export const hasOwn = uncurried(Object.prototype.hasOwnProperty);
+
+const { defineProperty: define } = Reflect;
+const IN_DESCRIPTORS = ["value", "writable", "get", "set", "enumerable", "configurable"];
+
+/**
+ * Defines a property by what the descriptor has itself: agents may have put a `get` in Object.prototype.
+ * @param {object} owner
+ * @param {string | symbol} name
+ * @param {PropertyDescriptor} descriptor
+ * @returns {boolean} whether it could be done
+ */
+export function defineProperty(owner, name, descriptor) {
+  const own = create(null);
+  for (let at = 0; at < IN_DESCRIPTORS.length; at += 1) {
+    const member = IN_DESCRIPTORS[at];
+    if (hasOwn(descriptor, member)) own[member] = /** @type {any} */ (descriptor)[member];
+  }
+  return define(owner, name, own);
+}
 
 /**
  * What the getter of a property returns, as a function of the receiver.
@@ -77,6 +96,19 @@ export function positionIn(list, item) {
   return at;
 }
 
+const { Proxy: EngineProxy } = globalThis;
+
+/**
+ * @template {object} Target
+ * @param {Target} target
+ * @param {ProxyHandler<Target>} traps
+ * @returns {Target} what stands for it; what agents put in Object.prototype is no trap of it
+ */
+export function proxyOf(target, traps) {
+  setPrototypeOf(traps, null);
+  return new EngineProxy(target, traps);
+}
+
 /**
  * Puts a property that stands for the engine's own in an object, as such are: not to be listed.
  * @param {object} owner
@@ -84,12 +116,7 @@ export function positionIn(list, item) {
  * @param {unknown} value
  */
 export function put(owner, name, value) {
-  const descriptor = create(null);
-  descriptor.value = value;
-  descriptor.writable = true;
-  descriptor.enumerable = false;
-  descriptor.configurable = true;
-  defineProperty(owner, name, descriptor);
+  defineProperty(owner, name, { value, writable: true, enumerable: false, configurable: true });
 }
 
 /**

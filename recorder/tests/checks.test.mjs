@@ -104,7 +104,7 @@ describe("init and check", { concurrency: 2 }, () => {
   it("a check that doesn't end fails its run, and the next one begins", async () => {
     const outcomes = await recorded(program("loops", { seconds: 0.5, trace: true }), [1, 2]);
     assert.deepEqual(outcomes.map(({ ending, fails }) => [ending, fails]), [["check", true], ["check", true]]);
-    for (const { detail } of outcomes) assert.match(detail, /^check didn't come to its end: .* for 0\.5 s$/);
+    for (const { detail } of outcomes) assert.equal(detail, "check didn't come to its end: it went on for 0.5 s");
   });
 
   it("a check that doesn't end isn't called once more for the trace of its run", async (test) => {

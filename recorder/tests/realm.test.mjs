@@ -624,6 +624,15 @@ describe("clocks", () => {
       "1970-01-02T00:00:00.000Z", 29, 86_400_000, null, true, "[object Date]", 5, true, "string", 7, "Date", true, true,
     ]);
   });
+
+  test("what agents put in Object.prototype is no trap of a class that stands for the engine's", async (context) => {
+    const found = timesIn(await recordText(context, text(`
+      for (const name of ["get", "has", "apply", "set"]) Object.prototype[name] = () => "inherited";
+      const found = [Date.name, typeof Date.now(), SharedArrayBuffer.name, BroadcastChannel.name, WebAssembly.Memory.name];
+      for (const name of ["get", "has", "apply", "set"]) delete Object.prototype[name];
+      throw new Error("times " + JSON.stringify(found));`), { agents: 1 }));
+    assert.deepEqual(found, ["Date", "number", "SharedArrayBuffer", "BroadcastChannel", "Memory"]);
+  });
 });
 
 describe("random numbers", () => {

@@ -3,12 +3,12 @@
 
 import nodeModule from "node:module";
 import {
-  apply, construct, defineProperty, getOwnPropertyDescriptor, put, weakGet, weakSet,
+  apply, construct, defineProperty, getOwnPropertyDescriptor, proxyOf, put, weakGet, weakSet,
 } from "../primordials.mjs";
 import { isCalledByAgents, sourceHere } from "./frames.mjs";
 import { leadsAbroad, peerOf } from "./ordinary/threads.mjs";
 
-const { Proxy: EngineProxy, WeakMap: EngineWeakMap } = globalThis;
+const { WeakMap: EngineWeakMap } = globalThis;
 
 /** @typedef {typeof import("node:worker_threads").default} Threads */
 /** @typedef {import("./unseen.mjs").Unseen} Unseen */
@@ -105,7 +105,7 @@ export class Messages {
       },
     };
     /** @type {typeof Engine} */
-    const StandIn = new EngineProxy(Engine, traps);
+    const StandIn = proxyOf(Engine, traps);
     put(threads, "BroadcastChannel", StandIn);
     put(globalThis, "BroadcastChannel", StandIn);
     this.#replace(Engine.prototype, "postMessage", () => this.#posts("BroadcastChannel.postMessage"));

@@ -1,11 +1,11 @@
 // Shared memory that the agents' code makes itself. The place where it makes some is remembered, so that a message can
 // say so.
 
-import { apply, construct, getOwnPropertyDescriptor, put, uncurried, weakGet, weakSet } from "../primordials.mjs";
+import { apply, construct, getOwnPropertyDescriptor, proxyOf, put, uncurried, weakGet, weakSet } from "../primordials.mjs";
 import { isCalledByAgents, sourceHere } from "./frames.mjs";
 import { Unseen } from "./unseen.mjs";
 
-const { Proxy: EngineProxy, WeakMap: EngineWeakMap, Object: EngineObject } = globalThis;
+const { WeakMap: EngineWeakMap, Object: EngineObject } = globalThis;
 const { values } = EngineObject;
 const EngineMemory = WebAssembly.Memory;
 const { get: bufferGetter } = /** @type {{ get: Function }} */ (getOwnPropertyDescriptor(EngineMemory.prototype, "buffer"));
@@ -46,7 +46,7 @@ function noteMaking(owner, name, note) {
     },
   };
   /** @type {Function} */
-  const StandIn = new EngineProxy(Engine, traps);
+  const StandIn = proxyOf(Engine, traps);
   put(Engine.prototype, "constructor", StandIn);
   put(owner, name, StandIn);
 }

@@ -4,9 +4,9 @@
 import crypto from "node:crypto";
 import process from "node:process";
 import { Random } from "../memory/random.mjs";
-import { apply, construct, likeEngine, put, uncurried } from "../primordials.mjs";
+import { apply, construct, likeEngine, proxyOf, put, uncurried } from "../primordials.mjs";
 
-const { Date: EngineDate, Proxy: EngineProxy, Int32Array, Uint8Array, BigInt: big, RangeError, TypeError } = globalThis;
+const { Date: EngineDate, Int32Array, Uint8Array, BigInt: big, RangeError, TypeError } = globalThis;
 const { floor } = Math;
 const { isView } = ArrayBuffer;
 const { isSafeInteger } = Number;
@@ -24,7 +24,7 @@ const EPOCH = 946_684_800_000;
 export function simulateTime(now) {
   const today = () => floor(EPOCH + now());
   /** @type {typeof Date} */
-  const Simulated = new EngineProxy(EngineDate, {
+  const Simulated = proxyOf(EngineDate, {
     construct(target, given, made) {
       const parts = given.length === 0 ? [today()] : given;
       return construct(target, parts, made === Simulated ? target : made);

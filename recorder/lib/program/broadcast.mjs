@@ -1,7 +1,7 @@
 // The BroadcastChannel of a program. Node's own one starts itself, and its messages would come by the real loop. So a
 // message goes by the hidden ports of threads, to each channel of the name that exists when it is sent.
 
-import { uncurried } from "../primordials.mjs";
+import { defineProperty, uncurried } from "../primordials.mjs";
 import { TO_CHANNELS } from "./moves.mjs";
 import { nodeError } from "./node-error.mjs";
 import { sent } from "./values.mjs";
@@ -62,7 +62,7 @@ function cast({ ports, moves, mesh, buffers }, from, value, called) {
 /** @param {object} target @param {unknown} data */
 function eventOf(target, data) {
   const event = new EngineEvent("message", { data });
-  for (const name of ["target", "currentTarget"]) Object.defineProperty(event, name, { value: target });
+  for (const name of ["target", "currentTarget"]) defineProperty(event, name, { value: target });
   return event;
 }
 

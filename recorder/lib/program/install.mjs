@@ -6,11 +6,10 @@ import process from "node:process";
 import timers from "node:timers";
 import timersPromises from "node:timers/promises";
 import threads from "node:worker_threads";
-import { apply, construct, likeEngine, put } from "../primordials.mjs";
+import { apply, construct, likeEngine, proxyOf, put } from "../primordials.mjs";
 import { member } from "./member.mjs";
 import { clonedValue } from "./values.mjs";
 
-const { Proxy: EngineProxy } = globalThis;
 const EngineShared = SharedArrayBuffer;
 const { syncBuiltinESMExports } = nodeModule;
 
@@ -44,7 +43,7 @@ export function installMemory(made) {
     },
   };
   /** @type {any} */
-  const StandIn = new EngineProxy(EngineShared, traps);
+  const StandIn = proxyOf(EngineShared, traps);
   put(EngineShared.prototype, "constructor", StandIn);
   put(globalThis, "SharedArrayBuffer", StandIn);
 }

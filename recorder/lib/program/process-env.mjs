@@ -2,9 +2,7 @@
 // copy each. From then on any change of it ends the run, so the copies stay the same.
 
 import process from "node:process";
-import { hasOwn } from "../primordials.mjs";
-
-const { defineProperty, deleteProperty, get, set } = Reflect;
+import { defineProperty, deleteProperty, get, hasOwn, proxyOf, set } from "../primordials.mjs";
 
 /** @typedef {Record<string, string | undefined>} Values */
 
@@ -22,7 +20,7 @@ export function envOf(values, shared, refuse) {
   const change = () => {
     if (isShared) refuse("changed process.env, which threads share by SHARE_ENV, which isn't simulated");
   };
-  return new Proxy(values, {
+  return proxyOf(values, {
     set: (env, key, value) => {
       const text = `${value}`;
       if (get(env, key) !== text) change();

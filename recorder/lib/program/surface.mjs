@@ -5,7 +5,7 @@
 import Module from "node:module";
 import { isCalledByAgents } from "../agent/frames.mjs";
 import { GLOBALS, METHODS, MODULES, SCHEME_MODULES } from "./surface-table.mjs";
-import { apply, construct, defineProperty, getOwnPropertyDescriptor, ownKeys } from "../primordials.mjs";
+import { apply, construct, defineProperty, getOwnPropertyDescriptor, ownKeys, proxyOf } from "../primordials.mjs";
 
 /** @typedef {import("./surface-table.mjs").Kind} Kind */
 /** @typedef {import("./surface-table.mjs").Row} Row */
@@ -107,7 +107,7 @@ const noting = (name, { used = () => {}, isPlaying = () => true }) => {
  */
 function standIn(real, check) {
   if (areStandIns.has(real)) return real;
-  const stand = standIns.get(real) ?? new Proxy(real, {
+  const stand = standIns.get(real) ?? proxyOf(real, {
     apply(target, receiver, all) {
       check();
       return apply(target, receiver, all);
@@ -170,7 +170,7 @@ const MEMBERS = Object.freeze(/** @type {Record<string, string>} */ ({ fs: "fs/p
 function refuseOfProcess({ refuse, isPlaying = () => true }) {
   for (const name of WITH_ARGUMENTS) {
     const real = /** @type {any} */ (process)[name];
-    defineProperty(process, name, { value: new Proxy(real, {
+    defineProperty(process, name, { value: proxyOf(real, {
       apply(target, receiver, all) {
         if (isPlaying() && all.length > 0 && all[0] !== undefined) refuse(`process.${name}`);
         return apply(target, receiver, all);

@@ -193,6 +193,7 @@ const ALL = [
   wrong("once/late.mjs", failed(/\b13\b/)),
   right("iterator/right.mjs"),
   right("iterator/replaced.mjs"),
+  right("iterator/inherited.mjs"),
 
   // Memory that grows, and WebAssembly's.
   right("growable/right.mjs"),

@@ -1,7 +1,7 @@
 // Functions of node and the engine that can't see through a watched array: what is done when recorded memory is given
 // to them.
 
-import { apply, construct, isArray, put, setPrototypeOf } from "../../primordials.mjs";
+import { apply, construct, isArray, proxyOf, put } from "../../primordials.mjs";
 import { anyOthers, refused } from "./context.mjs";
 import { methodOf } from "./patch.mjs";
 import { REVEALING, SHALLOW, WHOLLY, isRecorded, mirrored, reaches } from "./reach.mjs";
@@ -10,7 +10,6 @@ import { anyWatchedOf, reportAll, unwrapped } from "./watched.mjs";
 /** @typedef {import("./patch.mjs").Standing} Standing */
 
 const EngineMap = Map;
-const EngineProxy = Proxy;
 
 /**
  * Whether any of what is given is watched memory, or has some in it.
@@ -119,9 +118,8 @@ export const constructing = (engine, make) => {
   const traps = {
     construct: (target, given, newTarget) => construct(target, make(given), newTarget === StandIn ? target : newTarget),
   };
-  setPrototypeOf(traps, null);
   /** @type {Function} */
-  const StandIn = new EngineProxy(engine, traps);
+  const StandIn = proxyOf(engine, traps);
   put(engine.prototype, "constructor", StandIn);
   return StandIn;
 };

@@ -1,7 +1,9 @@
 // Memory that is given to other threads, by messages or as they are started. Nobody sees what they do with it. So
 // recorded memory is refused there, whatever is done with ordinary accesses, and other shared memory is noted.
 
-import { apply, bufferOf, construct, put, tagOf, uncurried, viewBufferOf, weakGet, weakSet } from "../../primordials.mjs";
+import {
+  apply, bufferOf, construct, proxyOf, put, tagOf, uncurried, viewBufferOf, weakGet, weakSet,
+} from "../../primordials.mjs";
 import { blockNumber, watching } from "./context.mjs";
 import { anyReaches, revealed } from "./guards.mjs";
 import { methodOf, replace, replaceNeeded } from "./patch.mjs";
@@ -14,7 +16,6 @@ const EngineShared = SharedArrayBuffer;
 const EngineMemory = WebAssembly.Memory;
 /** @type {Function} */
 const EnginePort = MessagePort;
-const EngineProxy = Proxy;
 const { isView } = ArrayBuffer;
 const forget = uncurried(WeakMap.prototype.delete);
 
@@ -114,7 +115,7 @@ function replaceClass(owner, name, make) {
       make(() => construct(target, given, asked === StandIn ? target : asked), given),
   };
   /** @type {Function} */
-  const StandIn = new EngineProxy(Engine, traps);
+  const StandIn = proxyOf(Engine, traps);
   put(Engine.prototype, "constructor", StandIn);
   put(owner, name, StandIn);
 }

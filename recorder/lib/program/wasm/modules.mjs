@@ -5,7 +5,7 @@ import { createHash } from "node:crypto";
 import { replace, replaceGetter } from "../../agent/ordinary/patch.mjs";
 import { FIRST_MORE } from "../../memory/more-blocks.mjs";
 import {
-  apply, construct, create, freeze, mapGet, mapSet, ownKeys, put, uncurried, weakGet, weakSet,
+  apply, construct, create, freeze, mapGet, mapSet, ownKeys, proxyOf, put, uncurried, weakGet, weakSet,
 } from "../../primordials.mjs";
 import { Buffers, MOST_GROWTH, bufferIn } from "../buffers.mjs";
 import { Accesses } from "./accesses.mjs";
@@ -15,7 +15,7 @@ import { PAGE } from "./slots.mjs";
 import { DATA, OWN, hasSharedMemory, translated } from "./translate.mjs";
 
 const {
-  ArrayBuffer: EngineBuffer, Map: EngineMap, Proxy: EngineProxy, RangeError: EngineRangeError, Uint8Array: Bytes,
+  ArrayBuffer: EngineBuffer, Map: EngineMap, RangeError: EngineRangeError, Uint8Array: Bytes,
   WeakMap: EngineWeakMap,
 } = globalThis;
 const { Instance: EngineInstance, Memory: EngineMemory, Module: EngineModule } = /** @type {any} */ (WebAssembly);
@@ -213,7 +213,7 @@ class Translating {
  */
 function putClass(engine, make) {
   /** @type {any} */
-  const StandIn = new EngineProxy(engine, {
+  const StandIn = proxyOf(engine, {
     construct: (target, given, asked) => make(given, asked === StandIn ? target : asked),
   });
   put(engine.prototype, "constructor", StandIn);
