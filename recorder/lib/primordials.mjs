@@ -116,7 +116,12 @@ export function proxyOf(target, traps) {
  * @param {unknown} value
  */
 export function put(owner, name, value) {
-  defineProperty(owner, name, { value, writable: true, enumerable: false, configurable: true });
+  const descriptor = create(null);
+  descriptor.value = value;
+  descriptor.writable = true;
+  descriptor.enumerable = false;
+  descriptor.configurable = true;
+  define(owner, name, descriptor);
 }
 
 /**
