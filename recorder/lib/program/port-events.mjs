@@ -120,11 +120,15 @@ export class PortEvents {
     return port;
   }
 
-  /** @param {any} port @param {string | undefined} type */
+  /**
+   * In node the port goes on after this: it keeps its thread alive, and nobody gets its messages.
+   * @param {any} port
+   * @param {string | undefined} type
+   */
   unlistenAll(port, type) {
     const meta = this.ports.known(port);
     meta.listeners = type === undefined ? [] : meta.listeners.filter((each) => each.type !== type);
-    this.#changed(port);
+    meta.listens = meta.listeners.some((each) => each.type === "message");
     return port;
   }
 
