@@ -137,10 +137,10 @@ export class Ends {
 
   /**
    * The program's code ends its thread. It doesn't go on.
-   * @param {unknown} given the exit code
+   * @param {unknown[]} given the exit code, if there is any: node throws if it is none
    */
-  exit(given) {
-    if (given !== undefined) own.exitCode = Number(given);
+  exit(...given) {
+    if (given.length > 0) own.exitCode = given[0];
     const where = `calls process.exit at ${this.leaving.here()}`;
     // A listener of `exit` exits once more.
     if (this.isOver) this.#go(Number(own.exitCode ?? 0), where);

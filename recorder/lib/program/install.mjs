@@ -8,6 +8,7 @@ import timersPromises from "node:timers/promises";
 import threads from "node:worker_threads";
 import { apply, construct, likeEngine, put } from "../primordials.mjs";
 import { member } from "./member.mjs";
+import { nodeError } from "./node-error.mjs";
 import { clonedValue } from "./values.mjs";
 
 const { Proxy: EngineProxy } = globalThis;
@@ -93,12 +94,16 @@ export function installThreads({ agent, workerData, parentPort, argv, env, envir
 }
 
 /**
- * @param {(code: unknown) => void} exit
+ * @param {(...given: unknown[]) => void} exit gets what the program has given
+ * @param {number} agent
  */
-export function installProcess(exit) {
-  member(process, "exit", likeEngine((/** @type {unknown} */ code) => exit(code), process.exit));
+export function installProcess(exit, agent) {
+  member(process, "exit", likeEngine((/** @type {unknown[]} */ ...given) => exit(...given), process.exit));
   member(process, "reallyExit", (/** @type {unknown} */ code) => exit(code));
-  member(process, "abort", () => exit(134));
+  member(process, "abort", () => {
+    if (agent === 0) exit(134);
+    throw nodeError("ERR_WORKER_UNSUPPORTED_OPERATION", "process.abort() is not supported in workers", {}, TypeError);
+  });
   syncBuiltinESMExports();
 }
 
