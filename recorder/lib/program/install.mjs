@@ -14,6 +14,7 @@ import { clonedValue } from "./values.mjs";
 const { Proxy: EngineProxy } = globalThis;
 const EngineShared = SharedArrayBuffer;
 const { syncBuiltinESMExports } = nodeModule;
+const { performance } = globalThis;
 
 /** @typedef {(why: string) => never} Refuse */
 
@@ -77,6 +78,7 @@ export function installThreads({ agent, workerData, parentPort, argv, env, envir
   for (const [name, each] of Object.entries(classes)) member(threads, name, each);
   member(threads, "isMainThread", agent === 0);
   member(threads, "threadId", agent);
+  if (agent === 0) member(threads, "resourceLimits", {});
   member(threads, "workerData", workerData);
   member(threads, "parentPort", parentPort);
   member(threads, "getEnvironmentData", (/** @type {unknown} */ key) => environment.get(key));
@@ -118,11 +120,19 @@ export function keepProcess() {
   for (const name of own.eventNames()) listening.set(name, own.rawListeners(name));
 }
 
+/** No time that an earlier run has marked is left. */
+function clearTimes() {
+  performance.clearMarks();
+  performance.clearMeasures();
+  performance.clearResourceTimings();
+}
+
 /** Nothing of an earlier run listens, or is a global of evaluated code. */
 export function restoreProcess() {
   /** @type {any} */
   const own = process;
   for (const name of own.eventNames()) own.removeAllListeners(name);
+  clearTimes();
   for (const [name, listeners] of listening) for (const listener of listeners) own.on(name, listener);
   delete (/** @type {any} */ (globalThis)).require;
 }
