@@ -3,6 +3,7 @@
 
 import threads from "node:worker_threads";
 import { apply, defineProperty, getOwnPropertyDescriptor, put } from "../primordials.mjs";
+import { nodeError } from "./node-error.mjs";
 import { KIND } from "./ports.mjs";
 
 const EngineMessageEvent = MessageEvent;
@@ -194,8 +195,11 @@ function methodsOf(events) {
   const add = (once, type, listener, port) => events.listen(port, { type, listener, once, isEvent: false });
   /** @type {Record<string, (this: any, first: any, second: any, third: any) => any>} */
   const methods = {
-    postMessage(value, transfer) {
-      if (!ports.known(this).closed) ports.send(this, value, transfer, methods.postMessage);
+    postMessage(...given) {
+      if (given.length === 0) {
+        throw nodeError("ERR_MISSING_ARGS", "Not enough arguments to MessagePort.postMessage", {}, TypeError);
+      }
+      ports.send(this, given[0], given[1], methods.postMessage);
     },
     on(type, listener) { return add(false, type, listener, this); },
     addListener(type, listener) { return add(false, type, listener, this); },
