@@ -116,7 +116,7 @@ class BroadcastChannel extends EngineTarget {
     }
     const own = { handler };
     this.#handlers.set(type, own);
-    this.addEventListener(type, (event) => {
+    /** @type {any} */ (this).addEventListener(type, (/** @type {unknown} */ event) => {
       if (typeof own.handler === "function") apply(own.handler, this, [event]);
     });
   }

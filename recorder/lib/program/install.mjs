@@ -14,7 +14,7 @@ import { clonedValue } from "./values.mjs";
 const { Proxy: EngineProxy } = globalThis;
 const EngineShared = SharedArrayBuffer;
 const { syncBuiltinESMExports } = nodeModule;
-const { performance } = globalThis;
+const { performance } = /** @type {any} */ (globalThis);
 
 /** @typedef {(why: string) => never} Refuse */
 

@@ -193,7 +193,7 @@ function methodsOf(events) {
   const { ports } = events;
   /** @param {boolean} once @param {string} type @param {any} listener @param {any} port */
   const add = (once, type, listener, port) => events.listen(port, { type, listener, once, isEvent: false });
-  /** @type {Record<string, (this: any, first: any, second: any, third: any) => any>} */
+  /** @type {Record<string, (this: any, ...given: any[]) => any>} */
   const methods = {
     postMessage(...given) {
       if (given.length === 0) {

@@ -1,11 +1,12 @@
 // What a program's thread begins with: the program's main module, or what a Worker was given.
 
-import { statSync } from "node:fs";
+import fs from "node:fs";
 import Module from "node:module";
 import process from "node:process";
 import { fileURLToPath, pathToFileURL } from "node:url";
 import { nodeError } from "./node-error.mjs";
 
+const { statSync: statOf } = /** @type {any} */ (fs);
 /** @type {(path: string, folders: null, isMain: boolean) => string | false} */
 const findPath = /** @type {any} */ (Module)._findPath;
 
@@ -19,7 +20,7 @@ const EVALUATED = "[worker eval]";
 function entryOf(url) {
   if (!url.startsWith("file:")) return url;
   const path = fileURLToPath(url);
-  if (statSync(path, { throwIfNoEntry: false })?.isFile()) return url;
+  if (statOf(path, { throwIfNoEntry: false })?.isFile()) return url;
   const found = findPath(path, null, true);
   if (found === false) throw nodeError("MODULE_NOT_FOUND", `Cannot find module '${path}'`, { requireStack: [] });
   return pathToFileURL(found).href;

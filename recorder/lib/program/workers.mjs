@@ -51,7 +51,7 @@ function urlOf(file, options) {
     return file;
   }
   if (file instanceof URL) {
-    if (/^(?:file|data):$/.test(file.protocol)) return file.href;
+    if (/^(?:file|data):/.test(file.href)) return file.href;
     throw typeError("The URL must be of scheme file", "ERR_INVALID_URL_SCHEME");
   }
   if (typeof file !== "string") {
@@ -133,7 +133,7 @@ class Worker extends EventEmitter {
     this.#port = port;
     this.#own = { refed: true, where };
     this.threadId = agent;
-    this.stdin = null;
+    /** @type {any} */ (this).stdin = null;
     this.resourceLimits = {};
     const { ports, children } = world();
     children.add(this.#own);
