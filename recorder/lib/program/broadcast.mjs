@@ -1,7 +1,7 @@
 // The BroadcastChannel of a program. Node's own one starts itself, and its messages would come by the real loop. So a
 // message goes by the hidden ports of threads, to each channel of the name that exists when it is sent.
 
-import { defineProperty, uncurried } from "../primordials.mjs";
+import { apply, uncurried } from "../primordials.mjs";
 import { TO_CHANNELS } from "./moves.mjs";
 import { nodeError } from "./node-error.mjs";
 import { sent } from "./values.mjs";
@@ -29,7 +29,6 @@ function numberOf(name) {
  * @property {import("./moves.mjs").Moves} moves
  * @property {import("./mesh.mjs").Mesh} mesh
  * @property {import("./buffers.mjs").Buffers} buffers
- * @property {(thrown: unknown) => void} uncaught
  */
 
 /**
@@ -59,12 +58,9 @@ function cast({ ports, moves, mesh, buffers }, from, value, called) {
   }
 }
 
-/** @param {object} target @param {unknown} data */
-function eventOf(target, data) {
-  const event = new EngineEvent("message", { data });
-  for (const name of ["target", "currentTarget"]) defineProperty(event, name, { value: target });
-  return event;
-}
+/** @param {string} name of an argument that isn't there */
+const missing = (name) =>
+  nodeError("ERR_MISSING_ARGS", `The "${name}" argument must be specified`, {}, TypeError);
 
 /** @type {Casting | undefined} a thread has one part in a run */
 let casting;
@@ -82,12 +78,12 @@ class BroadcastChannel extends EngineTarget {
   #isClosed = false;
   /** Where it was made. */
   #where;
-  /** @type {Record<string, Function | null>} */
-  #handlers = {};
+  /** @type {Map<string, { handler: any }>} each is a listener since it was first assigned, as in node */
+  #handlers = new Map();
 
   /** @param {unknown} name */
   constructor(name) {
-    if (arguments.length === 0) throw new TypeError("The \"name\" argument must be specified");
+    if (arguments.length === 0) throw missing("name");
     super();
     const { ports, moves } = world();
     const { table, agent } = ports.world;
@@ -116,12 +112,34 @@ class BroadcastChannel extends EngineTarget {
     return this.#name;
   }
 
+  /** @param {string} type @param {any} handler */
+  #handle(type, handler) {
+    const given = this.#handlers.get(type);
+    if (given !== undefined) {
+      given.handler = handler;
+      return;
+    }
+    const own = { handler };
+    this.#handlers.set(type, own);
+    /** @type {any} */ (this).addEventListener(type, (/** @type {unknown} */ event) => {
+      if (typeof own.handler === "function") apply(own.handler, this, [event]);
+    });
+  }
+
+  get onmessageerror() {
+    return this.#handlers.get("messageerror")?.handler ?? null;
+  }
+
+  set onmessageerror(/** @type {any} */ handler) {
+    this.#handle("messageerror", handler);
+  }
+
   get onmessage() {
-    return this.#handlers.message ?? null;
+    return this.#handlers.get("message")?.handler ?? null;
   }
 
   set onmessage(/** @type {any} */ handler) {
-    this.#handlers.message = handler;
+    this.#handle("message", handler);
     const { ports } = world();
     const listens = typeof handler === "function";
     // What keeps the thread alive is named by the line that matters most to a reader.
@@ -131,7 +149,7 @@ class BroadcastChannel extends EngineTarget {
   /** @param {unknown} value */
   postMessage(value) {
     BroadcastChannel.#needs(this);
-    if (arguments.length === 0) throw new TypeError("The \"message\" argument must be specified");
+    if (arguments.length === 0) throw missing("message");
     if (this.#isClosed) throw new EngineException("BroadcastChannel is closed.", "InvalidStateError");
     cast(world(), this.#id, value, this.postMessage);
   }
@@ -160,11 +178,6 @@ class BroadcastChannel extends EngineTarget {
 
   /** @param {unknown} value that a message brings */
   [DELIVER](value) {
-    try {
-      this.#handlers.message?.call(this, eventOf(this, value));
-    } catch (thrown) {
-      world().uncaught(thrown);
-    }
     this.dispatchEvent(new EngineEvent("message", { data: value }));
   }
 }

@@ -10,7 +10,10 @@ import { KIND } from "./ports.mjs";
 /** The exit code of a thread whose module is still being evaluated when nothing keeps it alive. */
 const UNSETTLED = 13;
 
-/** That of a thread whose listener of `uncaughtException` throws. */
+/** That of a thread that throws what nobody catches. */
+const THREW = 1;
+
+/** That of the first thread if its listener of `uncaughtException` throws. */
 const LISTENER_THREW = 7;
 
 /**
@@ -43,6 +46,9 @@ export class Ends {
   /** @type {any} the port to the thread that has started this one */
   parentPort = undefined;
 
+  /** Whether that thread has got an error of this one. */
+  #hasReported = false;
+
   /** @param {Leaving} leaving */
   constructor(leaving) {
     this.leaving = leaving;
@@ -69,7 +75,9 @@ export class Ends {
       if (isListenedTo) emit("uncaughtException", thrown, origin);
     } catch (problem) {
       this.isOver = true;
-      this.#go(LISTENER_THREW, `threw in a listener of uncaughtException: ${described(problem)}`);
+      this.#report(problem);
+      // Only the first thread has a code of its own for it.
+      this.#go(this.leaving.agent === 0 ? LISTENER_THREW : THREW, `threw in a listener of uncaughtException: ${described(problem)}`);
     }
     if (!isListenedTo) this.#fail(thrown, origin);
   }
@@ -121,6 +129,7 @@ export class Ends {
   clear() {
     this.isOver = false;
     this.isEvaluated = false;
+    this.#hasReported = false;
     this.parentPort = undefined;
     own.exitCode = undefined;
     own._exiting = false;
@@ -128,10 +137,10 @@ export class Ends {
 
   /**
    * The program's code ends its thread. It doesn't go on.
-   * @param {unknown} given the exit code
+   * @param {unknown[]} given the exit code, if there is any: node throws if it is none
    */
-  exit(given) {
-    if (given !== undefined) own.exitCode = Number(given);
+  exit(...given) {
+    if (given.length > 0) own.exitCode = given[0];
     const where = `calls process.exit at ${this.leaving.here()}`;
     // A listener of `exit` exits once more.
     if (this.isOver) this.#go(Number(own.exitCode ?? 0), where);
@@ -141,12 +150,18 @@ export class Ends {
   /** @param {unknown} thrown @param {Origin} origin */
   #fail(thrown, origin) {
     if (this.isOver) return;
-    const { ports } = this.leaving;
     const what = origin === "unhandledRejection" ? "threw (a rejection that nobody handles)" : "threw";
     const text = `${what} ${described(thrown)}`;
-    if (this.parentPort !== undefined) ports.send(this.parentPort, serializeError(thrown), [], undefined, KIND.ERROR);
-    own.exitCode = 1;
-    this.#end(1, text);
+    this.#report(thrown);
+    own.exitCode = THREW;
+    this.#end(THREW, text);
+  }
+
+  /** @param {unknown} thrown of which the thread that has started this one gets the first */
+  #report(thrown) {
+    if (this.parentPort === undefined || this.#hasReported) return;
+    this.#hasReported = true;
+    this.leaving.ports.send(this.parentPort, serializeError(thrown), [], undefined, KIND.ERROR);
   }
 
   /** @param {number} code that listeners of `exit` get @param {string} text why, if that isn't its natural end */
@@ -160,9 +175,17 @@ export class Ends {
     this.isOver = true;
     try {
       emit("exit", code);
-    } catch {
-      own.exitCode ||= 1;
+    } catch (thrown) {
+      this.#threwAtExit(thrown);
     }
+  }
+
+  /** @param {unknown} thrown by a listener of `exit`: it is caught as at any time, but the exit code stays */
+  #threwAtExit(thrown) {
+    // This one's own guard is a listener too.
+    if (listenersOf("uncaughtException") > 1) emit("uncaughtException", thrown, "uncaughtException");
+    else if (this.leaving.agent === 0) own.exitCode ||= THREW;
+    else this.#report(thrown);
   }
 
   /** @param {number} code @param {string} text @returns {never} the program's code doesn't go on */

@@ -9,8 +9,20 @@ import { promiseLater } from "./twin-calls.mjs";
 /** @typedef {import("./twin-calls.mjs").Given} Given */
 
 const files = /** @type {any} */ (fs);
-const engine = { ...files };
 const Emitter = /** @type {any} */ (EventEmitter);
+
+/** What twins call of `fs`, as node has it. */
+export const engine = { ...files };
+
+/** These are as `watchAsNow` has found them: so they see recorded memory that they are given. */
+const WITH_MEMORY = Object.freeze([
+  "appendFileSync", "readSync", "readvSync", "writeFileSync", "writeSync", "writevSync",
+]);
+
+/** The twins read and write memory by what `fs` has now. */
+export function watchAsNow() {
+  for (const name of WITH_MEMORY) engine[name] = files[name];
+}
 
 const BUFFER_SIZE = 16_384;
 

@@ -8,10 +8,12 @@ import timersPromises from "node:timers/promises";
 import threads from "node:worker_threads";
 import { apply, construct, likeEngine, proxyOf, put } from "../primordials.mjs";
 import { member } from "./member.mjs";
+import { nodeError } from "./node-error.mjs";
 import { clonedValue } from "./values.mjs";
 
 const EngineShared = SharedArrayBuffer;
 const { syncBuiltinESMExports } = nodeModule;
+const { performance } = /** @type {any} */ (globalThis);
 
 /** @typedef {(why: string) => never} Refuse */
 
@@ -75,6 +77,7 @@ export function installThreads({ agent, workerData, parentPort, argv, env, envir
   for (const [name, each] of Object.entries(classes)) member(threads, name, each);
   member(threads, "isMainThread", agent === 0);
   member(threads, "threadId", agent);
+  if (agent === 0) member(threads, "resourceLimits", {});
   member(threads, "workerData", workerData);
   member(threads, "parentPort", parentPort);
   member(threads, "getEnvironmentData", (/** @type {unknown} */ key) => environment.get(key));
@@ -92,12 +95,16 @@ export function installThreads({ agent, workerData, parentPort, argv, env, envir
 }
 
 /**
- * @param {(code: unknown) => void} exit
+ * @param {(...given: unknown[]) => void} exit gets what the program has given
+ * @param {number} agent
  */
-export function installProcess(exit) {
-  member(process, "exit", likeEngine((/** @type {unknown} */ code) => exit(code), process.exit));
+export function installProcess(exit, agent) {
+  member(process, "exit", likeEngine((/** @type {unknown[]} */ ...given) => exit(...given), process.exit));
   member(process, "reallyExit", (/** @type {unknown} */ code) => exit(code));
-  member(process, "abort", () => exit(134));
+  member(process, "abort", () => {
+    if (agent === 0) exit(134);
+    throw nodeError("ERR_WORKER_UNSUPPORTED_OPERATION", "process.abort() is not supported in workers", {}, TypeError);
+  });
   syncBuiltinESMExports();
 }
 
@@ -112,11 +119,19 @@ export function keepProcess() {
   for (const name of own.eventNames()) listening.set(name, own.rawListeners(name));
 }
 
+/** No time that an earlier run has marked is left. */
+function clearTimes() {
+  performance.clearMarks();
+  performance.clearMeasures();
+  performance.clearResourceTimings();
+}
+
 /** Nothing of an earlier run listens, or is a global of evaluated code. */
 export function restoreProcess() {
   /** @type {any} */
   const own = process;
   for (const name of own.eventNames()) own.removeAllListeners(name);
+  clearTimes();
   for (const [name, listeners] of listening) for (const listener of listeners) own.on(name, listener);
   delete (/** @type {any} */ (globalThis)).require;
 }

@@ -37,7 +37,7 @@ const firstEnv = { ...process.env };
  * @param {any} parentPort null in the first thread
  */
 function begin(parts, start, parentPort) {
-  const { moves, ports, ends, mesh, buffers, refuse } = parts;
+  const { moves, ports, mesh, buffers, refuse } = parts;
   const { agent } = moves;
   /** @type {any} */
   const { workerData, environment } = ports.unpacked({ workerData: start.workerData, environment: start.environment });
@@ -45,7 +45,7 @@ function begin(parts, start, parentPort) {
   installThreads({ agent, workerData, parentPort, argv: argvOf(start), env, environment }, {
     Worker: workerClass({ ...parts, environment }), MessageChannel: channelClass(ports),
     receiveMessageOnPort: receiverOf(ports, moves),
-    BroadcastChannel: broadcastClass({ ports, moves, mesh, buffers, uncaught: (thrown) => ends.uncaught(thrown) }),
+    BroadcastChannel: broadcastClass({ ports, moves, mesh, buffers }),
   });
   if (agent !== 0) ports.send(parentPort, undefined, [], undefined, KIND.ONLINE);
 }

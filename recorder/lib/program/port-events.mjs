@@ -3,6 +3,7 @@
 
 import threads from "node:worker_threads";
 import { apply, defineProperty, getOwnPropertyDescriptor, put } from "../primordials.mjs";
+import { nodeError } from "./node-error.mjs";
 import { KIND } from "./ports.mjs";
 
 const EngineMessageEvent = MessageEvent;
@@ -120,11 +121,15 @@ export class PortEvents {
     return port;
   }
 
-  /** @param {any} port @param {string | undefined} type */
+  /**
+   * In node the port goes on after this: it keeps its thread alive, and nobody gets its messages.
+   * @param {any} port
+   * @param {string | undefined} type
+   */
   unlistenAll(port, type) {
     const meta = this.ports.known(port);
     meta.listeners = type === undefined ? [] : meta.listeners.filter((each) => each.type !== type);
-    this.#changed(port);
+    meta.listens = meta.listeners.some((each) => each.type === "message");
     return port;
   }
 
@@ -188,10 +193,13 @@ function methodsOf(events) {
   const { ports } = events;
   /** @param {boolean} once @param {string} type @param {any} listener @param {any} port */
   const add = (once, type, listener, port) => events.listen(port, { type, listener, once, isEvent: false });
-  /** @type {Record<string, (this: any, first: any, second: any, third: any) => any>} */
+  /** @type {Record<string, (this: any, ...given: any[]) => any>} */
   const methods = {
-    postMessage(value, transfer) {
-      if (!ports.known(this).closed) ports.send(this, value, transfer, methods.postMessage);
+    postMessage(...given) {
+      if (given.length === 0) {
+        throw nodeError("ERR_MISSING_ARGS", "Not enough arguments to MessagePort.postMessage", {}, TypeError);
+      }
+      ports.send(this, given[0], given[1], methods.postMessage);
     },
     on(type, listener) { return add(false, type, listener, this); },
     addListener(type, listener) { return add(false, type, listener, this); },

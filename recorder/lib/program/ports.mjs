@@ -7,6 +7,7 @@ import threads from "node:worker_threads";
 import { copied, isArray, mapForEach, put, uncurried, weakGet, weakHas, weakSet } from "../primordials.mjs";
 import { NOBODYS } from "../board/port-table.mjs";
 import { toPort, toThread } from "./moves.mjs";
+import { nodeError } from "./node-error.mjs";
 import { received, sent } from "./values.mjs";
 
 const { receiveMessageOnPort: receive } = threads;
@@ -73,9 +74,20 @@ export const itemsOf = (items) => (isArray(items) ? copied(items) : [...items]);
 /** @param {any} transfer as `postMessage` gets it @returns {any[]} */
 function listOf(transfer) {
   if (transfer === null || transfer === undefined) return [];
-  if (typeof transfer === "object" && Symbol.iterator in transfer) return itemsOf(transfer);
-  return transfer.transfer === undefined ? [] : itemsOf(transfer.transfer);
+  if (isIterable(transfer)) return itemsOf(transfer);
+  if (typeof transfer !== "object") throw notIterable("transferList");
+  const { transfer: list } = transfer;
+  if (list === undefined || list === null) return [];
+  if (!isIterable(list)) throw notIterable("options.transfer");
+  return itemsOf(list);
 }
+
+/** @param {any} value */
+const isIterable = (value) => typeof value === "object" && value !== null && Symbol.iterator in value;
+
+/** @param {string} name of an argument */
+const notIterable = (name) =>
+  nodeError("ERR_INVALID_ARG_TYPE", `Optional ${name} argument must be an iterable`, {}, TypeError);
 
 export class Ports {
   /** @type {WeakMap<object, Meta>} */
@@ -152,10 +164,16 @@ export class Ports {
    */
   send(port, value, transfer, called, kind = KIND.MESSAGE) {
     const { table, moves, buffers } = this.world;
-    const { id } = this.known(port);
+    const { id, closed } = this.known(port);
     const list = listOf(transfer);
     const ports = list.filter((each) => weakHas(this.#metas, each));
     const bare = sent(value, buffers);
+    if (closed && kind === KIND.MESSAGE) {
+      // What is wrong with it is thrown, and what it has is given away, also if nobody can get it.
+      post(new EngineChannel().port1, bare, list);
+      ports.forEach((each) => this.leave(each));
+      return;
+    }
     const number = called === undefined ? moves.sendNow() : moves.send(called, this.#goesTo(id ^ 1));
     const ids = ports.map((each) => this.known(each).id);
     post(port, { value: bare, kind, number, ports, ids }, list);

@@ -3,7 +3,7 @@
 
 import fs from "node:fs";
 import util from "node:util";
-import { FileHandle } from "./file-handle.mjs";
+import { FileHandle, engine, watchAsNow } from "./file-handle.mjs";
 import { callLater, isThrown, outcomeOf, promiseLater, putTwin, replaceCall } from "./twin-calls.mjs";
 import { apply, defineProperty, getOwnPropertyDescriptor } from "../primordials.mjs";
 
@@ -11,7 +11,6 @@ import { apply, defineProperty, getOwnPropertyDescriptor } from "../primordials.
 /** @typedef {import("./twin-calls.mjs").Outcome} Outcome */
 
 const files = /** @type {any} */ (fs);
-const engine = { ...files };
 const enginePromises = { ...files.promises };
 
 const PLAIN = Object.freeze([
@@ -133,6 +132,7 @@ async function writePieces(promises, path, [data, options]) {
  * @param {Given} given
  */
 export function putFiles(given) {
+  watchAsNow();
   putCallbacks(given);
   putPromises(given);
 }

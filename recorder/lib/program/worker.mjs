@@ -258,7 +258,7 @@ function installReplacements({ moves, buffers, waits, ends, events, timers, late
   surroundings.serve(events);
   installRefusals(refuse);
   spawned.install();
-  installProcess((code) => ends.exit(code));
+  installProcess((...given) => ends.exit(...given), moves.agent);
   ends.guard();
   listAgain();
   keepProcess();

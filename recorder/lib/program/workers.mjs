@@ -7,7 +7,10 @@ import { isAbsolute, resolve } from "node:path";
 import process from "node:process";
 import threads from "node:worker_threads";
 import { pathToFileURL } from "node:url";
+import { isCalledByAgents } from "../agent/frames.mjs";
+import { defineProperty, isArray } from "../primordials.mjs";
 import { deserializeError } from "./internals.mjs";
+import { nodeError } from "./node-error.mjs";
 import { KIND, itemsOf } from "./ports.mjs";
 import { sharedEnv } from "./process-env.mjs";
 import { startThread } from "./thread-start.mjs";
@@ -38,7 +41,7 @@ const { SHARE_ENV } = /** @type {any} */ (threads);
 
 /** @param {string} message @param {string} code */
 function typeError(message, code) {
-  return Object.assign(new TypeError(message), { code });
+  return nodeError(code, message, {}, TypeError);
 }
 
 /** @param {unknown} file @param {any} options @returns {string} a URL, or the code that is to be evaluated */
@@ -47,14 +50,28 @@ function urlOf(file, options) {
     if (typeof file !== "string") throw typeError("options.eval must be false when 'filename' is not a string", "ERR_INVALID_ARG_VALUE");
     return file;
   }
-  if (file instanceof URL) return file.href;
+  if (file instanceof URL) {
+    if (/^(?:file|data):/.test(file.href)) return file.href;
+    throw typeError("The URL must be of scheme file", "ERR_INVALID_URL_SCHEME");
+  }
   if (typeof file !== "string") {
     throw typeError('The "filename" argument must be of type string or an instance of URL.', "ERR_INVALID_ARG_TYPE");
   }
-  if (/^data:/.test(file)) return file;
   if (isAbsolute(file) || /^\.\.?[\\/]/.test(file)) return pathToFileURL(resolve(file)).href;
   throw typeError(`The worker script or module filename must be an absolute path or a relative path starting with `
-    + `'./' or '../'. Received "${file}"`, "ERR_WORKER_PATH");
+    + `'./' or '../'.${/^(?:file:|data:)/.test(file) ? " Wrap URLs with `new URL`." : ""} Received "${file}"`, "ERR_WORKER_PATH");
+}
+
+/** @param {any} options that node refuses if they aren't of these kinds */
+function checkKinds({ argv, execArgv, env, name }) {
+  const wrong = (/** @type {string} */ option, /** @type {string} */ kind) =>
+    typeError(`The "options.${option}" property must be ${kind}.`, "ERR_INVALID_ARG_TYPE");
+  if (execArgv && !isArray(execArgv)) throw wrong("execArgv", "an instance of Array");
+  if (argv && !isArray(argv)) throw wrong("argv", "an instance of Array");
+  if (env != null && typeof env !== "object" && env !== SHARE_ENV) {
+    throw wrong("env", "of type object or one of undefined, null, or worker_threads.SHARE_ENV");
+  }
+  if (name && typeof name !== "string") throw wrong("name", "of type string");
 }
 
 /** The options of a Worker that aren't simulated. */
@@ -76,13 +93,15 @@ function needsSimulated(options, refuse) {
  * @param {Function} called the function that the program's code has called
  */
 function started(starting, file, options, called) {
+  const url = urlOf(file, options);
+  checkKinds(options);
   needsSimulated(options, starting.refuse);
   const given = { workerData: options.workerData, environment: starting.environment };
   /** @type {any} in node these are one message, so what is in both is one thing */
   const { workerData, environment } = sent(given, starting.buffers);
   const sharesEnv = options.env === SHARE_ENV;
   const start = {
-    url: urlOf(file, options), isCode: options.eval === true, workerData, argv: itemsOf(options.argv ?? []).map(String),
+    url, isCode: options.eval === true, workerData, argv: itemsOf(options.argv ?? []).map(String),
     env: sharesEnv ? sharedEnv() : { ...(options.env ?? process.env) }, sharesEnv, environment,
   };
   return startThread(starting, start, itemsOf(options.transferList ?? []), called);
@@ -114,10 +133,7 @@ class Worker extends EventEmitter {
     this.#port = port;
     this.#own = { refed: true, where };
     this.threadId = agent;
-    // They are never read or written: what asks for them is refused.
-    REFUSED.forEach((name) => {
-      /** @type {any} */ (this)[name] = null;
-    });
+    /** @type {any} */ (this).stdin = null;
     this.resourceLimits = {};
     const { ports, children } = world();
     children.add(this.#own);
@@ -180,6 +196,12 @@ class Worker extends EventEmitter {
     this.emit("exit", code);
     this.#awaiting.forEach((done) => done(code));
   }
+}
+
+for (const name of ["stdout", "stderr", "performance", "getHeapSnapshot"]) {
+  // Node itself, and what lists its members, gets none.
+  const get = () => (isCalledByAgents(get) ? world().refuse(`read Worker.${name}, which isn't simulated`) : undefined);
+  defineProperty(Worker.prototype, name, { configurable: true, get });
 }
 
 /** @param {Starting} given @returns {Function} the class by which the program starts workers */

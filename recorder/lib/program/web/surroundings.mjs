@@ -59,7 +59,7 @@ function begin(parts, start, parentPort) {
       if (envelope.kind === KIND.MESSAGE) targets.dispatch(globalThis, messageOf(envelope));
     };
   }
-  const casting = { ports, moves, mesh, buffers, uncaught: (/** @type {unknown} */ thrown) => ends.uncaught(thrown) };
+  const casting = { ports, moves, mesh, buffers };
   beginGlobals(start, {
     Worker: workerClass({ ...parts, targets, base: start.url }), MessageChannel: channelClass(ports),
     BroadcastChannel: webBroadcastClass(casting, targets),

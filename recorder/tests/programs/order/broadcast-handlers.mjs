@@ -1,0 +1,28 @@
+// The listeners of a BroadcastChannel get one event, in the order in which they were added; a handler is one of them.
+process.on("uncaughtException", ({ message }) => console.log("uncaught", message));
+const [from, to] = [new BroadcastChannel("name"), new BroadcastChannel("name")];
+to.addEventListener("message", ({ data }) => console.log("first", data));
+to.onmessage = ({ data }) => {
+  console.log("handler", data);
+  throw new Error("in the handler");
+};
+to.addEventListener("message", (event) => {
+  console.log("second");
+  event.stopImmediatePropagation();
+});
+to.addEventListener("message", () => console.log("never"));
+console.log(from.onmessage, from.onmessageerror, typeof to.onmessage);
+for (const act of [() => new BroadcastChannel(), () => from.postMessage()]) {
+  try {
+    act();
+  } catch ({ name, code }) {
+    console.log(name, code);
+  }
+}
+from.postMessage(1);
+await new Promise((done) => setTimeout(done, 20));
+to.onmessage = null;
+from.postMessage(2);
+await new Promise((done) => setTimeout(done, 20));
+from.close();
+to.close();
