@@ -17,7 +17,6 @@ import { programMemory, programPlan } from "./program-memory.mjs";
 
 /** @typedef {import("../processes/thread.mjs").Thread} Thread */
 /** @typedef {import("../run/outcome.mjs").Wanted} Wanted */
-/** @typedef {{ thread: Thread, control: import("node:worker_threads").MessagePort }} Standing a thread of a slot */
 
 const PROGRAM_MODULE = new URL("./worker.mjs", import.meta.url);
 

@@ -14,8 +14,6 @@ const { Proxy: EngineProxy } = globalThis;
 const EngineShared = SharedArrayBuffer;
 const { syncBuiltinESMExports } = nodeModule;
 
-/** @typedef {(why: string) => never} Refuse */
-
 /**
  * Puts a run's timers in the place of node's.
  * @param {import("./timers.mjs").Timers} own
