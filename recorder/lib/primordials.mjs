@@ -19,6 +19,9 @@ export const { create, freeze, is } = Object;
 export const { isArray } = Array;
 export const hasOwn = uncurried(Object.prototype.hasOwnProperty);
 
+/** @param {unknown} value @returns {value is any} whether it can have properties */
+export const isObject = (value) => (typeof value === "object" && value !== null) || typeof value === "function";
+
 /**
  * What the getter of a property returns, as a function of the receiver.
  * @param {object} owner

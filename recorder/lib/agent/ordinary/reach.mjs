@@ -1,8 +1,8 @@
 // Finds recorded memory in what a native function is given, and copies of it that are private.
 
 import {
-  copyProperty, create, defineProperty, getOwnPropertyDescriptor, getPrototypeOf, hasOwn, isArray, lengthOf, mapGet,
-  mapSet, ownKeys, setPrototypeOf, sharedLengthOf, tagOf, uncurried,
+  copyProperty, create, defineProperty, getOwnPropertyDescriptor, getPrototypeOf, hasOwn, isArray, isObject, lengthOf,
+  mapGet, mapSet, ownKeys, setPrototypeOf, sharedLengthOf, tagOf, uncurried,
 } from "../../primordials.mjs";
 import { OTHER, blockNumber, watching } from "./context.mjs";
 import { DATA_VIEW, ENGINE, WHOLE_BUFFER, anyWatchedOf, reportAll } from "./watched.mjs";
@@ -22,9 +22,6 @@ const setHas = uncurried(EngineSet.prototype.has);
 /** Deeper than any list of lists that a function takes. */
 export const SHALLOW = 2;
 export const WHOLLY = Infinity;
-
-/** @param {unknown} value @returns {value is object} */
-const isObject = (value) => (typeof value === "object" && value !== null) || typeof value === "function";
 
 /** @typedef {(value: unknown) => boolean} Test what is looked for */
 
