@@ -53,6 +53,9 @@ export const viewOffsetOf = slotOf(DataView.prototype, "byteOffset");
 export const viewLengthOf = slotOf(DataView.prototype, "byteLength");
 export const sharedLengthOf = slotOf(SharedArrayBuffer.prototype, "byteLength");
 
+/** @param {any} view of the engine's own */
+export const bufferBehind = (view) => (tagOf(view) === undefined ? viewBufferOf(view) : bufferOf(view));
+
 /** Whether a shared buffer can grow, and how long it can get. @type {(buffer: object) => any} */
 export const isGrowable = slotOf(SharedArrayBuffer.prototype, "growable");
 export const mostLengthOf = slotOf(SharedArrayBuffer.prototype, "maxByteLength");
