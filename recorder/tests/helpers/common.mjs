@@ -1,6 +1,6 @@
 // What the tests share.
 
-import { mkdtempSync, rmSync, writeFileSync } from "node:fs";
+import { mkdtempSync, readFileSync, readdirSync, rmSync, writeFileSync } from "node:fs";
 import { tmpdir } from "node:os";
 import { join } from "node:path";
 import { fileURLToPath } from "node:url";
@@ -49,4 +49,15 @@ export function agentsOf(folder, body) {
   const path = join(folder, "agents.mjs");
   writeFileSync(path, `export default function agent({ buffers, agent, agents, args }) {\n${body}\n}\n`);
   return path;
+}
+
+/** The processes whose environment has a word, which all children of a process inherit. */
+export function processesWith(word) {
+  return readdirSync("/proc").filter((name) => /^\d+$/.test(name)).filter((name) => {
+    try {
+      return readFileSync(`/proc/${name}/environ`, "utf8").includes(word);
+    } catch {
+      return false;
+    }
+  });
 }
