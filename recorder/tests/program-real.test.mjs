@@ -10,10 +10,8 @@ import { defaultsOf } from "../lib/options/table.mjs";
 import { Job } from "../lib/seeds/job.mjs";
 import { RECORD, temporaryFolder } from "./helpers/common.mjs";
 import { CLOSED, LISTENS, ONE_THREAD, RACE, TWO_THREADS } from "./helpers/real-programs.mjs";
+import { seedsTo } from "./helpers/recorded.mjs";
 import { programOf, runsOf } from "./helpers/whole-programs.mjs";
-
-/** @param {number} last @returns {number[]} the seeds from 1 on */
-const upTo = (last) => Array.from({ length: last }, (_, at) => at + 1);
 
 /** @param {{ ending: string, detail: string }[]} outcomes none of which fails */
 const areFinished = (outcomes) =>
@@ -102,7 +100,7 @@ const worker = new Worker(\`const { spawn } = require("child_process");
 Atomics.wait(words, 0, 0);
 process.exit(0);`,
     };
-    areFinished(await runsOf(context, files, { seeds: upTo(4) }));
+    areFinished(await runsOf(context, files, { seeds: seedsTo(4) }));
     // A run that has noted no lines of code is made once more, and there may be a pilot.
     const pids = readdirSync(folder).map(Number);
     assert.ok(pids.length >= 12 && pids.length % 3 === 0, `${pids.length} processes`);
@@ -117,14 +115,14 @@ const PORT = 20_000 + (process.pid % 20_000);
 
 describe("sockets", () => {
   it("lead from a thread to itself", async (context) => {
-    const outcomes = await runsOf(context, { "main.mjs": ONE_THREAD }, { seeds: upTo(3) });
+    const outcomes = await runsOf(context, { "main.mjs": ONE_THREAD }, { seeds: seedsTo(3) });
     areFinished(outcomes);
     assert.deepEqual(outcomes[0].real,
       ["fetch at main.mjs:5:27", "http.createServer at main.mjs:2:21", "http.get at main.mjs:6:34"]);
   });
 
   it("lead from thread to thread", async (context) => {
-    areFinished(await runsOf(context, TWO_THREADS, { seeds: upTo(4) }));
+    areFinished(await runsOf(context, TWO_THREADS, { seeds: seedsTo(4) }));
   });
 
   it("are of each kind: tcp, datagrams, names", async (context) => {
@@ -145,14 +143,14 @@ assert.match((await dns.lookup("localhost")).address, /^(127|::1)/);` }));
   });
 
   it("are closed when their thread ends, by itself or by another one, and others see it", async (context) => {
-    areFinished(await runsOf(context, CLOSED, { seeds: upTo(4) }));
+    areFinished(await runsOf(context, CLOSED, { seeds: seedsTo(4) }));
   });
 
   it("are closed when the run is over", async (context) => {
     areFinished(await runsOf(context, { "main.mjs": `import net from "node:net"; import { once } from "node:events";
 const server = net.createServer().listen(${PORT}, "127.0.0.1");
 await once(server, "listening");
-server.unref();` }, { seeds: upTo(5) }));
+server.unref();` }, { seeds: seedsTo(5) }));
   });
 });
 
@@ -168,7 +166,7 @@ await worker.terminate();`,
       "worker.mjs": `import { spawn } from "node:child_process"; import { workerData } from "node:worker_threads";
 const cat = spawn("cat");
 cat.stdout.on("data", (text) => { Atomics.store(workerData, 0, Number(text)); Atomics.notify(workerData, 0); });
-cat.stdin.write("42");` }, { seeds: upTo(50) });
+cat.stdin.write("42");` }, { seeds: seedsTo(50) });
     areFinished(outcomes);
     assert.equal(outcomes.length, 50);
   });
@@ -176,7 +174,7 @@ cat.stdin.write("42");` }, { seeds: upTo(50) });
 
 describe("that an answer comes", () => {
   it("is a move, which the seed puts before and behind those of others", async (context) => {
-    const outcomes = await runsOf(context, RACE, { seeds: upTo(40) });
+    const outcomes = await runsOf(context, RACE, { seeds: seedsTo(40) });
     areFinished(outcomes);
     const seen = new Set(outcomes.map(({ bytes }) => Number.parseInt(bytes[0].slice(8, 10), 16)));
     assert.ok(seen.has(0) && [1, 2, 3].some((count) => seen.has(count)), [...seen].join());
@@ -184,7 +182,7 @@ describe("that an answer comes", () => {
 
   it("is waited for though its thread has looked in vain before", async (context) => {
     const worker = RACE["worker.mjs"].replace("exit 0", "sleep 0.2");
-    areFinished(await runsOf(context, { ...RACE, "worker.mjs": worker }, { seeds: upTo(8) }));
+    areFinished(await runsOf(context, { ...RACE, "worker.mjs": worker }, { seeds: seedsTo(8) }));
   });
 
   it("takes no time of the run, and to look for it is no move", async (context) => {
@@ -267,7 +265,7 @@ describe("a run that can't be repeated", () => {
       // Pilots would be further runs.
       const options = { ...defaultsOf("record"), isProgram: true, everywhere: true, seconds: 20, module };
       await job.open({ ...options, checks: true, checkEvery: 1 });
-      const seeds = upTo(2).map((seed) => ({ seed, whole: true, isSilent: true }));
+      const seeds = seedsTo(2).map((seed) => ({ seed, whole: true, isSilent: true }));
       await job.run(seeds, (outcome) => void outcomes.push(outcome));
     } finally {
       await job.close();
