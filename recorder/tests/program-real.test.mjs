@@ -1,14 +1,13 @@
 // Sockets, pipes and child processes of whole programs: the machine answers, and that an answer comes is a move.
 
 import assert from "node:assert/strict";
-import { execFile } from "node:child_process";
 import { existsSync, readFileSync, readdirSync, writeFileSync } from "node:fs";
 import { join } from "node:path";
 import { describe, it } from "node:test";
 import { pathToFileURL } from "node:url";
 import { defaultsOf } from "../lib/options/table.mjs";
 import { Job } from "../lib/seeds/job.mjs";
-import { RECORD, temporaryFolder } from "./helpers/common.mjs";
+import { commandThere, temporaryFolder } from "./helpers/common.mjs";
 import { CLOSED, LISTENS, ONE_THREAD, RACE, TWO_THREADS } from "./helpers/real-programs.mjs";
 import { seedsTo } from "./helpers/recorded.mjs";
 import { programOf, runsOf } from "./helpers/whole-programs.mjs";
@@ -18,16 +17,6 @@ const areFinished = (outcomes) =>
   assert.deepEqual(outcomes.filter(({ ending }) => ending !== "finished").map(({ detail }) => detail), []);
 
 const OTHERWISE = "its input may have been different";
-
-/**
- * @param {string[]} words of the command line
- * @returns {Promise<{ status: number, stdout: string, stderr: string }>}
- */
-const recorded = (words) => new Promise((done) => {
-  execFile(process.execPath, [RECORD, ...words], (error, stdout, stderr) => {
-    done({ status: Number(error?.code ?? 0), stdout, stderr });
-  });
-});
 
 /** Each way by which a program begins a process, with its standard input and output. */
 const PROCESSES = `import { exec, execFile, execFileSync, execSync, fork, spawn, spawnSync } from "node:child_process";
@@ -77,7 +66,7 @@ describe("child processes", () => {
 execSync("echo to the output", { stdio: "inherit" });
 execSync("echo to the error >&2; cat", { stdio: ["inherit", 1, 2] });
 spawn("echo", ["by a pipe"], { stdio: ["inherit", process.stdout, "inherit"] });` });
-    const { status, stdout, stderr } = await recorded(["--program", main, "--seeds", "1..2", "--format", "json"]);
+    const { status, stdout, stderr } = await commandThere(["--program", main, "--seeds", "1..2", "--format", "json"]);
     assert.equal(status, 0, stderr);
     const { runs, failed, real } = JSON.parse(stdout);
     assert.deepEqual([runs, failed, real.runs, real.used.listed.length], [2, 0, 2, 3]);
@@ -282,7 +271,7 @@ describe("a run that can't be repeated", () => {
   it("is named by the summary, with what was used, and replays of it say why they differ", async (context) => {
     const main = counting(context, 0);
     const out = temporaryFolder(context);
-    const { status, stdout } = await recorded(["--program", main, "--seeds", "1..3", "--jobs", "1", "--out", out]);
+    const { status, stdout } = await commandThere(["--program", main, "--seeds", "1..3", "--jobs", "1", "--out", out]);
     assert.equal(status, 1);
     const lines = stdout.split("\n");
     const used = "3 runs used sockets, pipes or child processes, and repeat only as far as their input does";
@@ -294,7 +283,7 @@ describe("a run that can't be repeated", () => {
     const notShortened = `not shortened: it couldn't be made again in the same way: ${OTHERWISE}, in 3 runs`;
     assert.ok(lines.includes(notShortened), stdout);
     assert.match(stdout, new RegExp(`to learn its lines of code: ${OTHERWISE}$`, "m"));
-    const replayed = await recorded(["--program", main, "--replay", join(out, "seed-1.program.json")]);
+    const replayed = await commandThere(["--program", main, "--replay", join(out, "seed-1.program.json")]);
     assert.equal(replayed.status, 3);
     assert.match(replayed.stderr, new RegExp(`^record: the code no longer does the same: .*; or ${OTHERWISE}$`, "m"));
   });
@@ -303,11 +292,11 @@ describe("a run that can't be repeated", () => {
     const main = programOf(context, { ...RACE, "main.mjs": `${RACE["main.mjs"]}
 if (Atomics.load(words, 1) === 2) throw new Error("it fails");` });
     const out = temporaryFolder(context);
-    const { status, stdout } = await recorded(["--program", main, "--seeds", "1..60", "--jobs", "1", "--fail-fast", "--out", out]);
+    const { status, stdout } = await commandThere(["--program", main, "--seeds", "1..60", "--jobs", "1", "--fail-fast", "--out", out]);
     assert.equal(status, 1, stdout);
     assert.doesNotMatch(stdout, new RegExp(OTHERWISE));
     const kept = readdirSync(out).find((name) => name.endsWith(".program.json"));
-    const replayed = await recorded(["--program", main, "--replay", join(out, String(kept))]);
+    const replayed = await commandThere(["--program", main, "--replay", join(out, String(kept))]);
     assert.equal(replayed.status, 1, replayed.stderr);
     assert.match(replayed.stdout, /^ {2}agent 0 threw Error: it fails$/m);
   });

@@ -1,5 +1,6 @@
 // What the tests share.
 
+import { execFile } from "node:child_process";
 import { mkdtempSync, readFileSync, readdirSync, rmSync, writeFileSync } from "node:fs";
 import { tmpdir } from "node:os";
 import { join } from "node:path";
@@ -15,6 +16,17 @@ export const agentsPath = (name) => fileURLToPath(new URL(`../agents/${name}.mjs
 
 /** The command line's program. */
 export const RECORD = fileURLToPath(new URL("../../record.mjs", import.meta.url));
+
+/**
+ * Runs the command line in a process of its own.
+ * @param {string[]} words
+ * @returns {Promise<{ status: number, stdout: string, stderr: string }>}
+ */
+export const commandThere = (words) => new Promise((done) => {
+  execFile(process.execPath, [RECORD, ...words], (error, stdout, stderr) => {
+    done({ status: Number(error?.code ?? 0), stdout, stderr });
+  });
+});
 
 /**
  * Records one of the cases of `agents/cases.mjs`; without a check unless it is asked for. With `everywhere` no pilots
