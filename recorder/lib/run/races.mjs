@@ -64,7 +64,7 @@ const sortOf = (flags, size) => {
   return (flags & FLAG.ATOMIC ? size << 2 : 0) | does;
 };
 
-export class Judge {
+class Judge {
   constructor() {
     /** For each byte, in which run it was accessed last, and the accesses that are remembered. */
     this.runs = new Int32Array(PLACES);

@@ -32,7 +32,7 @@ export const WHOLLY = Infinity;
 export const isWatched = (value) => anyWatchedOf(value) !== undefined || blockNumber(value) >= 0;
 
 /** @type {Test} whether a value is an array on shared memory that isn't recorded */
-export const isOther = (value) => anyWatchedOf(value)?.place.block === OTHER;
+const isOther = (value) => anyWatchedOf(value)?.place.block === OTHER;
 
 /** @type {Test} whether a value is itself recorded memory */
 export const isRecorded = (value) => isWatched(value) && !isOther(value);
@@ -97,7 +97,7 @@ export function reaches(value, depth, suspicious = false, isIt = isWatched) {
  * @param {object} buffer
  * @param {number} block
  */
-export function reportBuffer(buffer, block) {
+function reportBuffer(buffer, block) {
   const length = sharedLengthOf(buffer);
   if (length === 0) return;
   watching.seen({ block, kind: WHOLE_BUFFER, offset: 0, length }, 0, length, false);
