@@ -371,7 +371,7 @@ export async function main(load) {
   chance.begin(0);
   const { player, blocks } = playerOf(agent);
   const { board } = player.table;
-  const parts = partsOf(player, blocks, new Mesh(agent, given, port, board.words));
+  const parts = partsOf(player, blocks, new Mesh(given, port, board.words));
   self.player = player;
   self.buffers = parts.buffers;
   self.moves = parts.moves;
