@@ -65,7 +65,6 @@ const { Error: EngineError } = globalThis;
  * @typedef {object} Given what the thread is started with
  * @property {import("node:worker_threads").MessagePort} port
  * @property {string} origin the URL of the module from whose folder places in the code are named
- * @property {"watch" | "store" | "refuse"} ordinary
  * @property {boolean} web whether the program is one for browsers
  * @property {boolean} isRelaxed whether plain aligned accesses of WebAssembly are relaxed ones
  * @property {ReturnType<typeof import("./program-memory.mjs").programMemory>} memory
