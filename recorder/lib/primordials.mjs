@@ -38,6 +38,9 @@ export function defineProperty(owner, name, descriptor) {
   return define(owner, name, own);
 }
 
+/** @param {unknown} value @returns {value is any} whether it can have properties */
+export const isObject = (value) => (typeof value === "object" && value !== null) || typeof value === "function";
+
 /**
  * What the getter of a property returns, as a function of the receiver.
  * @param {object} owner
@@ -68,6 +71,9 @@ export const viewBufferOf = slotOf(DataView.prototype, "buffer");
 export const viewOffsetOf = slotOf(DataView.prototype, "byteOffset");
 export const viewLengthOf = slotOf(DataView.prototype, "byteLength");
 export const sharedLengthOf = slotOf(SharedArrayBuffer.prototype, "byteLength");
+
+/** @param {any} view of the engine's own */
+export const bufferBehind = (view) => (tagOf(view) === undefined ? viewBufferOf(view) : bufferOf(view));
 
 /** Whether a shared buffer can grow, and how long it can get. @type {(buffer: object) => any} */
 export const isGrowable = slotOf(SharedArrayBuffer.prototype, "growable");

@@ -7,7 +7,6 @@ import { SCHEDULE_KEYS, SchedulePane } from "./schedule-pane.mjs";
 import { Viewer } from "./viewer.mjs";
 
 /** @typedef {import("../schedule/editing.mjs").Editing} Editing */
-/** @typedef {import("./run-data.mjs").RunData} RunData */
 
 export class Changeable {
   /**

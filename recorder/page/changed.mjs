@@ -7,7 +7,6 @@ import { isOrdinary } from "./steps.mjs";
 import { callText, counted, valueText } from "./words.mjs";
 
 /** @typedef {import("../schedule/differences.mjs").Differences} Differences */
-/** @typedef {import("../schedule/report.mjs").Entry} Entry */
 /** @typedef {import("../schedule/report.mjs").Report} Report */
 /** @typedef {import("../schedule/turns.mjs").Script} Script */
 /** @typedef {import("./run-data.mjs").Event} Event */

@@ -43,11 +43,6 @@ export class Run {
     this.last = Array.from({ length: data.agents }, (_, agent) => this.#lastOf(agent));
   }
 
-  /** Whether it is known where in the code the steps are. */
-  get isTraced() {
-    return this.steps.some(({ place }) => place >= 0);
-  }
-
   /** @param {number} index of the step @returns {State} how things are after a step */
   stateAt(index) {
     const blocks = this.data.blocks.map((length) => new Uint8Array(length));

@@ -30,8 +30,7 @@ export const isBigKind = (kind) => kind >= FIRST_BIG;
 /**
  * @typedef {object} Taken what a call takes
  * @property {string} name of the function of Atomics
- * @property {number} operands how many Numbers or BigInts, after its view and index
- * @property {boolean} takesLimit whether a Number may follow: the timeout of a wait, the count of a notify
+ * @property {number} operands how many Numbers or BigInts, after its view and index, without a timeout or a count
  */
 
 /**
@@ -39,17 +38,17 @@ export const isBigKind = (kind) => kind >= FIRST_BIG;
  * @type {readonly Taken[]}
  */
 export const CALLS = Object.freeze([
-  { name: "load", operands: 0, takesLimit: false },
-  { name: "store", operands: 1, takesLimit: false },
-  { name: "exchange", operands: 1, takesLimit: false },
-  { name: "add", operands: 1, takesLimit: false },
-  { name: "sub", operands: 1, takesLimit: false },
-  { name: "and", operands: 1, takesLimit: false },
-  { name: "or", operands: 1, takesLimit: false },
-  { name: "xor", operands: 1, takesLimit: false },
-  { name: "compareExchange", operands: 2, takesLimit: false },
-  { name: "wait", operands: 1, takesLimit: true },
-  { name: "notify", operands: 0, takesLimit: true },
+  { name: "load", operands: 0 },
+  { name: "store", operands: 1 },
+  { name: "exchange", operands: 1 },
+  { name: "add", operands: 1 },
+  { name: "sub", operands: 1 },
+  { name: "and", operands: 1 },
+  { name: "or", operands: 1 },
+  { name: "xor", operands: 1 },
+  { name: "compareExchange", operands: 2 },
+  { name: "wait", operands: 1 },
+  { name: "notify", operands: 0 },
 ]);
 
 /** The number of each call, by its name. */

@@ -16,7 +16,7 @@ export const ANY_KIND = Object.keys(ARRAYS).join("|");
 export const sizeOfKind = (kind) => ARRAYS[kind].BYTES_PER_ELEMENT;
 
 /** @param {number | bigint} value @returns {string} as JavaScript writes it: 0.25, -0, 5n */
-export function valueText(value) {
+function valueText(value) {
   if (typeof value === "bigint") return `${value}n`;
   return Object.is(value, -0) ? "-0" : `${value}`;
 }

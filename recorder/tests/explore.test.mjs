@@ -3,13 +3,13 @@
 import assert from "node:assert/strict";
 import { spawn } from "node:child_process";
 import { randomUUID } from "node:crypto";
-import { readFileSync, readdirSync, writeFileSync } from "node:fs";
+import { writeFileSync } from "node:fs";
 import { join } from "node:path";
 import { test } from "node:test";
 import { setTimeout as sleep } from "node:timers/promises";
 import { Delivery } from "../lib/seeds/delivery.mjs";
 import { Difference, LostJob, NoSabsim, Refused, explore, record } from "../recorder.mjs";
-import { agentsOf, agentsPath, temporaryFolder } from "./helpers/common.mjs";
+import { agentsOf, agentsPath, processesWith, temporaryFolder } from "./helpers/common.mjs";
 import { CHECKER, NOWHERE, onLinux } from "./helpers/needs.mjs";
 
 const LIBRARY = new URL("../recorder.mjs", import.meta.url).href;
@@ -186,17 +186,6 @@ test("a difference ends it, and so does a job's process that ends", async (conte
     return /^a job's process ended by itself \(SIGKILL\), and nothing is known of /.test(error.message);
   });
 });
-
-/** The processes whose environment has a word, which all children of a process inherit. */
-function processesWith(word) {
-  return readdirSync("/proc").filter((name) => /^\d+$/.test(name)).filter((name) => {
-    try {
-      return readFileSync(`/proc/${name}/environ`, "utf8").includes(word);
-    } catch {
-      return false;
-    }
-  });
-}
 
 /**
  * Agents of some jobs. A job in the same process begins all workers that there can be; it takes few to see whether the

@@ -2,7 +2,6 @@
 // variables, and the summary says so. How the runs ended stays as it was.
 
 import assert from "node:assert/strict";
-import { execFile } from "node:child_process";
 import { writeFileSync } from "node:fs";
 import { join } from "node:path";
 import { describe, test } from "node:test";
@@ -13,7 +12,7 @@ import { differenceBetween, rememberingText } from "../lib/seeds/first-again.mjs
 import { explore } from "../recorder.mjs";
 import { assertAgents } from "../testing.mjs";
 import { commandHere } from "./helpers/command-here.mjs";
-import { RECORD, temporaryFolder } from "./helpers/common.mjs";
+import { commandThere, temporaryFolder } from "./helpers/common.mjs";
 
 const SIDE_BY_SIDE = { concurrency: 4 };
 
@@ -56,15 +55,6 @@ async function summaryOf(context, way, words) {
   const { status, stdout, stderr } = words.includes("--jobs") ? await commandThere(all) : await commandHere(all);
   if (stdout === "") throw new Error(stderr);
   return { status, summary: JSON.parse(stdout) };
-}
-
-/** @param {string[]} words */
-function commandThere(words) {
-  return new Promise((done) => {
-    execFile(process.execPath, [RECORD, ...words], (error, stdout, stderr) => {
-      done({ status: error?.code ?? 0, stdout, stderr });
-    });
-  });
 }
 
 describe("a module that keeps something from run to run", SIDE_BY_SIDE, () => {

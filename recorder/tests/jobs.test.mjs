@@ -2,7 +2,7 @@
 
 import assert from "node:assert/strict";
 import { spawn, spawnSync } from "node:child_process";
-import { readFileSync, readdirSync, writeFileSync } from "node:fs";
+import { readFileSync, writeFileSync } from "node:fs";
 import { randomUUID } from "node:crypto";
 import { syncBuiltinESMExports } from "node:module";
 import os, { availableParallelism } from "node:os";
@@ -15,7 +15,7 @@ import { Runs, outcomesOf } from "../lib/seeds/runs.mjs";
 import { isWorthIt } from "../lib/seeds/more-jobs.mjs";
 import { jobWords } from "../lib/seeds/start-job.cjs";
 import { commandHere } from "./helpers/command-here.mjs";
-import { RECORD, agentsOf, agentsPath, temporaryFolder } from "./helpers/common.mjs";
+import { RECORD, agentsOf, agentsPath, processesWith, temporaryFolder } from "./helpers/common.mjs";
 import { CHECKING, onLinux } from "./helpers/needs.mjs";
 
 /**
@@ -33,17 +33,6 @@ function run(words, nodeWords = [], options = {}) {
 /** The words for two agents, without pilots, which would take twice as many workers, and could end a job before. */
 const small = (folder, body) =>
   [agentsOf(folder, body), "--agents", "2", "--buffers", "8", "--check", "0", "--everywhere"];
-
-/** The processes whose environment has a word, which all children of a process inherit. */
-function processesWith(word) {
-  return readdirSync("/proc").filter((name) => /^\d+$/.test(name)).filter((name) => {
-    try {
-      return readFileSync(`/proc/${name}/environ`, "utf8").includes(word);
-    } catch {
-      return false;
-    }
-  });
-}
 
 test("a job gets node's own words, but not those about the program and how it is debugged", () => {
   const loads = ["--require", "pre.cjs", "-r", "other.cjs", "--import=./pre.mjs", "--stack-size=2000", "--no-warnings"];

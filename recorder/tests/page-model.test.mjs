@@ -175,7 +175,7 @@ test("without a trace, or with one of another run, there are the calls alone", (
   const other = lines(EVENTS.map((event) => (event.does === "notify" ? { ...event, does: "add" } : event)));
   for (const trace of [undefined, other]) {
     const run = runOf({ trace });
-    assert.equal(run.isTraced, false);
+    assert.ok(run.steps.every(({ place }) => place < 0));
     assert.deepEqual(run.steps.map(({ text }) => text), [
       "the start", "wait(FLAG, 0, 0)", "writes slots[1]", "store(FLAG, 0, -1)", "notify(FLAG, 0)", "wait(FLAG, 0, 0)",
       "wait(FLAG, 0, -1)", "the end: deadlock",

@@ -2,7 +2,6 @@
 // the program keeps something in the globals of threads that are kept.
 
 import assert from "node:assert/strict";
-import { execFile } from "node:child_process";
 import { describe, it } from "node:test";
 import { pathToFileURL } from "node:url";
 import { Log, READ } from "../lib/memory/log.mjs";
@@ -10,7 +9,7 @@ import { defaultsOf } from "../lib/options/table.mjs";
 import { firstDifferent } from "../lib/run/differing-events.mjs";
 import { Job } from "../lib/seeds/job.mjs";
 import { KeepsGlobals } from "../recorder.mjs";
-import { RECORD } from "./helpers/common.mjs";
+import { commandThere } from "./helpers/common.mjs";
 import { programOf } from "./helpers/whole-programs.mjs";
 
 /** Two threads share three words. What main keeps shows in one way of these, in runs of which some fail by the seed. */
@@ -40,13 +39,6 @@ const SAID = {
   ending: "ended in another way (threw, then finished)", bytes: "left other bytes",
   acts: "did something else, first at main.mjs:8:9",
 };
-
-/** @param {string[]} words of the command line @returns {Promise<{ status: number, stdout: string, stderr: string }>} */
-const recorded = (words) => new Promise((done) => {
-  execFile(process.execPath, [RECORD, ...words], (error, stdout, stderr) => {
-    done({ status: Number(error?.code ?? 0), stdout, stderr });
-  });
-});
 
 /**
  * The outcomes of the seeds from 1 on, as long as there are some, and what ended them.
@@ -84,7 +76,7 @@ describe("a failing run that goes another way in fresh threads", { concurrency: 
 
   it("ends the command line with status 3, and the summary has no failing run", async (context) => {
     const main = programOf(context, FILES);
-    const { status, stdout, stderr } = await recorded(["--program", main, "--seeds", "1..9", "--", "ending"]);
+    const { status, stdout, stderr } = await commandThere(["--program", main, "--seeds", "1..9", "--", "ending"]);
     assert.equal(status, 3, stderr);
     assert.ok(stderr.includes(`record: seed 2 was run once more in fresh threads, and ${SAID.ending}: ${KEEPS}`), stderr);
     assert.match(stdout, /^1 run: 1 finished$/m);

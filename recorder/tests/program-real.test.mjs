@@ -1,35 +1,22 @@
 // Sockets, pipes and child processes of whole programs: the machine answers, and that an answer comes is a move.
 
 import assert from "node:assert/strict";
-import { execFile } from "node:child_process";
 import { existsSync, readFileSync, readdirSync, writeFileSync } from "node:fs";
 import { join } from "node:path";
 import { describe, it } from "node:test";
 import { pathToFileURL } from "node:url";
 import { defaultsOf } from "../lib/options/table.mjs";
 import { Job } from "../lib/seeds/job.mjs";
-import { RECORD, temporaryFolder } from "./helpers/common.mjs";
+import { commandThere, temporaryFolder } from "./helpers/common.mjs";
 import { CLOSED, LISTENS, ONE_THREAD, RACE, TWO_THREADS } from "./helpers/real-programs.mjs";
+import { seedsTo } from "./helpers/recorded.mjs";
 import { programOf, runsOf } from "./helpers/whole-programs.mjs";
-
-/** @param {number} last @returns {number[]} the seeds from 1 on */
-const upTo = (last) => Array.from({ length: last }, (_, at) => at + 1);
 
 /** @param {{ ending: string, detail: string }[]} outcomes none of which fails */
 const areFinished = (outcomes) =>
   assert.deepEqual(outcomes.filter(({ ending }) => ending !== "finished").map(({ detail }) => detail), []);
 
 const OTHERWISE = "its input may have been different";
-
-/**
- * @param {string[]} words of the command line
- * @returns {Promise<{ status: number, stdout: string, stderr: string }>}
- */
-const recorded = (words) => new Promise((done) => {
-  execFile(process.execPath, [RECORD, ...words], (error, stdout, stderr) => {
-    done({ status: Number(error?.code ?? 0), stdout, stderr });
-  });
-});
 
 /** Each way by which a program begins a process, with its standard input and output. */
 const PROCESSES = `import { exec, execFile, execFileSync, execSync, fork, spawn, spawnSync } from "node:child_process";
@@ -79,7 +66,7 @@ describe("child processes", () => {
 execSync("echo to the output", { stdio: "inherit" });
 execSync("echo to the error >&2; cat", { stdio: ["inherit", 1, 2] });
 spawn("echo", ["by a pipe"], { stdio: ["inherit", process.stdout, "inherit"] });` });
-    const { status, stdout, stderr } = await recorded(["--program", main, "--seeds", "1..2", "--format", "json"]);
+    const { status, stdout, stderr } = await commandThere(["--program", main, "--seeds", "1..2", "--format", "json"]);
     assert.equal(status, 0, stderr);
     const { runs, failed, real } = JSON.parse(stdout);
     assert.deepEqual([runs, failed, real.runs, real.used.listed.length], [2, 0, 2, 3]);
@@ -102,7 +89,7 @@ const worker = new Worker(\`const { spawn } = require("child_process");
 Atomics.wait(words, 0, 0);
 process.exit(0);`,
     };
-    areFinished(await runsOf(context, files, { seeds: upTo(4) }));
+    areFinished(await runsOf(context, files, { seeds: seedsTo(4) }));
     // A run that has noted no lines of code is made once more, and there may be a pilot.
     const pids = readdirSync(folder).map(Number);
     assert.ok(pids.length >= 12 && pids.length % 3 === 0, `${pids.length} processes`);
@@ -117,14 +104,14 @@ const PORT = 20_000 + (process.pid % 20_000);
 
 describe("sockets", () => {
   it("lead from a thread to itself", async (context) => {
-    const outcomes = await runsOf(context, { "main.mjs": ONE_THREAD }, { seeds: upTo(3) });
+    const outcomes = await runsOf(context, { "main.mjs": ONE_THREAD }, { seeds: seedsTo(3) });
     areFinished(outcomes);
     assert.deepEqual(outcomes[0].real,
       ["fetch at main.mjs:5:27", "http.createServer at main.mjs:2:21", "http.get at main.mjs:6:34"]);
   });
 
   it("lead from thread to thread", async (context) => {
-    areFinished(await runsOf(context, TWO_THREADS, { seeds: upTo(4) }));
+    areFinished(await runsOf(context, TWO_THREADS, { seeds: seedsTo(4) }));
   });
 
   it("are of each kind: tcp, datagrams, names", async (context) => {
@@ -145,14 +132,14 @@ assert.match((await dns.lookup("localhost")).address, /^(127|::1)/);` }));
   });
 
   it("are closed when their thread ends, by itself or by another one, and others see it", async (context) => {
-    areFinished(await runsOf(context, CLOSED, { seeds: upTo(4) }));
+    areFinished(await runsOf(context, CLOSED, { seeds: seedsTo(4) }));
   });
 
   it("are closed when the run is over", async (context) => {
     areFinished(await runsOf(context, { "main.mjs": `import net from "node:net"; import { once } from "node:events";
 const server = net.createServer().listen(${PORT}, "127.0.0.1");
 await once(server, "listening");
-server.unref();` }, { seeds: upTo(5) }));
+server.unref();` }, { seeds: seedsTo(5) }));
   });
 });
 
@@ -168,7 +155,7 @@ await worker.terminate();`,
       "worker.mjs": `import { spawn } from "node:child_process"; import { workerData } from "node:worker_threads";
 const cat = spawn("cat");
 cat.stdout.on("data", (text) => { Atomics.store(workerData, 0, Number(text)); Atomics.notify(workerData, 0); });
-cat.stdin.write("42");` }, { seeds: upTo(50) });
+cat.stdin.write("42");` }, { seeds: seedsTo(50) });
     areFinished(outcomes);
     assert.equal(outcomes.length, 50);
   });
@@ -176,7 +163,7 @@ cat.stdin.write("42");` }, { seeds: upTo(50) });
 
 describe("that an answer comes", () => {
   it("is a move, which the seed puts before and behind those of others", async (context) => {
-    const outcomes = await runsOf(context, RACE, { seeds: upTo(40) });
+    const outcomes = await runsOf(context, RACE, { seeds: seedsTo(40) });
     areFinished(outcomes);
     const seen = new Set(outcomes.map(({ bytes }) => Number.parseInt(bytes[0].slice(8, 10), 16)));
     assert.ok(seen.has(0) && [1, 2, 3].some((count) => seen.has(count)), [...seen].join());
@@ -184,7 +171,7 @@ describe("that an answer comes", () => {
 
   it("is waited for though its thread has looked in vain before", async (context) => {
     const worker = RACE["worker.mjs"].replace("exit 0", "sleep 0.2");
-    areFinished(await runsOf(context, { ...RACE, "worker.mjs": worker }, { seeds: upTo(8) }));
+    areFinished(await runsOf(context, { ...RACE, "worker.mjs": worker }, { seeds: seedsTo(8) }));
   });
 
   it("takes no time of the run, and to look for it is no move", async (context) => {
@@ -267,7 +254,7 @@ describe("a run that can't be repeated", () => {
       // Pilots would be further runs.
       const options = { ...defaultsOf("record"), isProgram: true, everywhere: true, seconds: 20, module };
       await job.open({ ...options, checks: true, checkEvery: 1 });
-      const seeds = upTo(2).map((seed) => ({ seed, whole: true, isSilent: true }));
+      const seeds = seedsTo(2).map((seed) => ({ seed, whole: true, isSilent: true }));
       await job.run(seeds, (outcome) => void outcomes.push(outcome));
     } finally {
       await job.close();
@@ -284,7 +271,7 @@ describe("a run that can't be repeated", () => {
   it("is named by the summary, with what was used, and replays of it say why they differ", async (context) => {
     const main = counting(context, 0);
     const out = temporaryFolder(context);
-    const { status, stdout } = await recorded(["--program", main, "--seeds", "1..3", "--jobs", "1", "--out", out]);
+    const { status, stdout } = await commandThere(["--program", main, "--seeds", "1..3", "--jobs", "1", "--out", out]);
     assert.equal(status, 1);
     const lines = stdout.split("\n");
     const used = "3 runs used sockets, pipes or child processes, and repeat only as far as their input does";
@@ -296,7 +283,7 @@ describe("a run that can't be repeated", () => {
     const notShortened = `not shortened: it couldn't be made again in the same way: ${OTHERWISE}, in 3 runs`;
     assert.ok(lines.includes(notShortened), stdout);
     assert.match(stdout, new RegExp(`to learn its lines of code: ${OTHERWISE}$`, "m"));
-    const replayed = await recorded(["--program", main, "--replay", join(out, "seed-1.program.json")]);
+    const replayed = await commandThere(["--program", main, "--replay", join(out, "seed-1.program.json")]);
     assert.equal(replayed.status, 3);
     assert.match(replayed.stderr, new RegExp(`^record: the code no longer does the same: .*; or ${OTHERWISE}$`, "m"));
   });
@@ -305,11 +292,11 @@ describe("a run that can't be repeated", () => {
     const main = programOf(context, { ...RACE, "main.mjs": `${RACE["main.mjs"]}
 if (Atomics.load(words, 1) === 2) throw new Error("it fails");` });
     const out = temporaryFolder(context);
-    const { status, stdout } = await recorded(["--program", main, "--seeds", "1..60", "--jobs", "1", "--fail-fast", "--out", out]);
+    const { status, stdout } = await commandThere(["--program", main, "--seeds", "1..60", "--jobs", "1", "--fail-fast", "--out", out]);
     assert.equal(status, 1, stdout);
     assert.doesNotMatch(stdout, new RegExp(OTHERWISE));
     const kept = readdirSync(out).find((name) => name.endsWith(".program.json"));
-    const replayed = await recorded(["--program", main, "--replay", join(out, String(kept))]);
+    const replayed = await commandThere(["--program", main, "--replay", join(out, String(kept))]);
     assert.equal(replayed.status, 1, replayed.stderr);
     assert.match(replayed.stdout, /^ {2}agent 0 threw Error: it fails$/m);
   });

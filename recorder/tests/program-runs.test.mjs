@@ -2,13 +2,8 @@
 
 import assert from "node:assert/strict";
 import { describe, it } from "node:test";
-import { runsOf } from "./helpers/whole-programs.mjs";
-
-/** The seeds from 1 on. @param {number} last */
-const seedsTo = (last) => Array.from({ length: last }, (_, at) => at + 1);
-
-/** @param {import("./helpers/whole-programs.mjs").Checked[]} outcomes */
-const endingsOf = (outcomes) => [...new Set(outcomes.map(({ ending, detail }) => `${ending}: ${detail}`))];
+import { seedsTo } from "./helpers/recorded.mjs";
+import { endingsOf, runsOf } from "./helpers/whole-programs.mjs";
 
 /** Main gives a worker a word, by a message or as its data. */
 const WORKER = 'import { parentPort, workerData } from "node:worker_threads";\n';

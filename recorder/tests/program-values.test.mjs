@@ -3,10 +3,7 @@
 
 import assert from "node:assert/strict";
 import { describe, it } from "node:test";
-import { runsOf } from "./helpers/whole-programs.mjs";
-
-/** @param {import("./helpers/whole-programs.mjs").Checked[]} outcomes */
-const endingsOf = (outcomes) => [...new Set(outcomes.map(({ ending, detail }) => `${ending}: ${detail}`))];
+import { endingsOf, runsOf } from "./helpers/whole-programs.mjs";
 
 const MAIN = 'import { MessageChannel, Worker } from "node:worker_threads";\n';
 

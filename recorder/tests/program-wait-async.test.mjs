@@ -6,15 +6,10 @@ import { execFile } from "node:child_process";
 import { describe, it } from "node:test";
 import { promisify } from "node:util";
 import { RECORD } from "./helpers/common.mjs";
-import { programOf, runsOf } from "./helpers/whole-programs.mjs";
+import { seedsTo } from "./helpers/recorded.mjs";
+import { endingsOf, programOf, runsOf } from "./helpers/whole-programs.mjs";
 
 const execute = promisify(execFile);
-
-/** The seeds from 1 on. @param {number} last */
-const seedsTo = (last) => Array.from({ length: last }, (_, at) => at + 1);
-
-/** @param {import("./helpers/whole-programs.mjs").Checked[]} outcomes */
-const endingsOf = (outcomes) => [...new Set(outcomes.map(({ ending, detail }) => `${ending}: ${detail}`))];
 
 const WORKER = 'import { parentPort, workerData as words } from "node:worker_threads";\n';
 const MAIN = `import { Worker } from "node:worker_threads";

@@ -9,14 +9,11 @@ import { describe, it } from "node:test";
 import { fileURLToPath } from "node:url";
 import { hasSharedMemory, translated } from "../lib/program/wasm/translate.mjs";
 import { RECORD, temporaryFolder } from "./helpers/common.mjs";
-import { runsOf } from "./helpers/whole-programs.mjs";
+import { endingsOf, runsOf } from "./helpers/whole-programs.mjs";
 import { ATOMIC, code, moduleOf } from "./programs/wasm/assembled.mjs";
 import { locks } from "./programs/wasm/locks.mjs";
 
 const { get, i32, load, store, atomic, loop, again, add } = code;
-
-/** @param {import("./helpers/whole-programs.mjs").Checked[]} outcomes */
-const endingsOf = (outcomes) => [...new Set(outcomes.map(({ ending, detail }) => `${ending}: ${detail}`))];
 
 /** @param {Uint8Array} bytes @returns {string} code that makes them */
 const shown = (bytes) => `Uint8Array.from(atob("${Buffer.from(bytes).toString("base64")}"), (byte) => byte.charCodeAt(0))`;

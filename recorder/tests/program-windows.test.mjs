@@ -2,7 +2,6 @@
 // and judges them. Which bytes stand where is worked out by hand.
 
 import assert from "node:assert/strict";
-import { execFile } from "node:child_process";
 import { cpSync, mkdtempSync, readFileSync, readdirSync, rmSync, writeFileSync } from "node:fs";
 import { tmpdir } from "node:os";
 import { join } from "node:path";
@@ -11,7 +10,7 @@ import { keptProgram } from "../lib/keeping/kept-program.mjs";
 import { Refused } from "../lib/options/refused.mjs";
 import { windowNames } from "../lib/run/window-names.mjs";
 import { TouchedPages, Windows } from "../lib/run/windows.mjs";
-import { RECORD } from "./helpers/common.mjs";
+import { commandThere } from "./helpers/common.mjs";
 import { slowRaces } from "./helpers/second-detector.mjs";
 import { programIn, runsOf } from "./helpers/whole-programs.mjs";
 
@@ -313,19 +312,12 @@ describe("unordered accesses", { concurrency: 2 }, () => {
   });
 });
 
-/** @param {string[]} words @returns {Promise<{ status: number, stdout: string, stderr: string }>} */
-const ran = (...words) => new Promise((done) => {
-  execFile(process.execPath, [RECORD, ...words], (error, stdout, stderr) => {
-    done({ status: Number(error?.code ?? 0), stdout, stderr });
-  });
-});
-
 describe("a kept run", () => {
   const home = mkdtempSync(join(tmpdir(), "recorder-"));
   after(() => rmSync(home, { recursive: true, force: true }));
   const main = programIn(home, RACING);
   const folder = join(home, "kept");
-  const recorded = ran("--program", main, "--seeds", "1..8", "--jobs", "1", "--out", folder);
+  const recorded = commandThere(["--program", main, "--seeds", "1..8", "--jobs", "1", "--out", folder]);
 
   it("says which bytes are where, is made again, and differs by the program's own bytes", async () => {
     const { status, stdout } = await recorded;
@@ -343,7 +335,7 @@ describe("a kept run", () => {
     assert.ok(page.includes(bytes));
     // It shows which of the trace's events race.
     assert.match(page, /"races":\[\[\d+,\d+\]/);
-    const again = await ran("--replay", kept);
+    const again = await commandThere(["--replay", kept]);
     assert.deepEqual([again.status, again.stdout.split("\n")[1].replace(/:.*/, "")], [1, "1 of 1 run failed"]);
     assert.match(again.stdout, /every run was replayed and judged by the simulator/);
     // Another page comes before those that are known, so all that follow stand elsewhere.
@@ -351,7 +343,7 @@ describe("a kept run", () => {
     cpSync(folder, join(changed, "kept"), { recursive: true });
     const wait = RACING["main.mjs"].replace("Atomics.wait", "large[4_000_000] = 1;\nAtomics.wait");
     const otherMain = programIn(changed, { ...RACING, "main.mjs": wait });
-    const other = await ran("--program", otherMain, "--replay", join(changed, "kept", name));
+    const other = await commandThere(["--program", otherMain, "--replay", join(changed, "kept", name)]);
     assert.equal(other.status, 3);
     const now = /the script has agent 1's .* next, and now comes agent 0's ordinary write .*, \w+_at4000000\[0\] = 1/;
     assert.match(other.stderr, now);
@@ -384,7 +376,7 @@ describe("a kept run", () => {
     }
     const refused = join(folder, "wrong.program.json");
     writeFileSync(refused, texts[0]);
-    const { status, stderr } = await ran("--replay", refused);
+    const { status, stderr } = await commandThere(["--replay", refused]);
     assert.deepEqual([status, stderr.trim().replace(/.*kept: /, "")], [2, wrong[0][1]]);
   });
 });

@@ -9,7 +9,7 @@ import { test } from "node:test";
 import { optionsOf, USAGE } from "../lib/command/options.mjs";
 import { Refused } from "../lib/options/refused.mjs";
 import { commandHere } from "./helpers/command-here.mjs";
-import { RECORD, WITHOUT_SABSIM, agentsOf, agentsPath, temporaryFolder } from "./helpers/common.mjs";
+import { RECORD, WITHOUT_SABSIM, agentsOf, agentsPath, processesWith, temporaryFolder } from "./helpers/common.mjs";
 import { CHECKING, NOWHERE, hasSabsim, onLinux } from "./helpers/needs.mjs";
 import { simulated } from "./helpers/simulate.mjs";
 
@@ -371,17 +371,6 @@ test("the cause of a worker's death while its module is loaded is reported", asy
     assert.ok(stderr.includes(why), stderr);
   }
 });
-
-/** The processes whose environment has a word, which all children of a process inherit. */
-function processesWith(word) {
-  return readdirSync("/proc").filter((name) => /^\d+$/.test(name)).filter((name) => {
-    try {
-      return readFileSync(`/proc/${name}/environ`, "utf8").includes(word);
-    } catch {
-      return false;
-    }
-  });
-}
 
 const soon = async (holds, milliseconds = 20_000) => {
   const until = Date.now() + milliseconds;

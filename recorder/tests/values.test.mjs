@@ -21,10 +21,9 @@ test("each of the eleven typed arrays has its kind, and nothing else has one", (
 });
 
 test("a call takes as much as its function of Atomics does, and only waits and notifies take a limit", () => {
-  for (const { name, operands, takesLimit } of CALLS) {
+  for (const { name, operands } of CALLS) {
     // The view, the index, and what comes after them.
-    assert.equal(Atomics[name].length, 2 + operands + (takesLimit ? 1 : 0), name);
-    assert.equal(takesLimit, name === "wait" || name === "notify", name);
+    assert.equal(Atomics[name].length, 2 + operands + (name === "wait" || name === "notify" ? 1 : 0), name);
   }
   assert.equal(CALLS.length, 11);
 });

@@ -1,9 +1,7 @@
 // The command line, from its words to its status.
 
-import { statSync } from "node:fs";
-import { fileURLToPath } from "node:url";
 import { needsAgents } from "../library/agents-file.mjs";
-import { moduleUrl } from "../library/module-url.mjs";
+import { isFile, moduleUrl } from "../library/module-url.mjs";
 import { Refused } from "../options/refused.mjs";
 import { RemoteJob } from "../seeds/remote-job.mjs";
 import { endBy, Interrupted } from "./interruption.mjs";
@@ -14,15 +12,6 @@ import { Session } from "./session.mjs";
 import { STATUS } from "./status.mjs";
 
 /** @typedef {import("../seeds/runs.mjs").AnyJob} AnyJob */
-
-/** @param {string} url @returns {boolean} */
-function isFile(url) {
-  try {
-    return statSync(fileURLToPath(url)).isFile();
-  } catch {
-    return false;
-  }
-}
 
 /** @param {{ module: string, isProgram: boolean }} options @returns {string} the URL of what is run */
 function existing({ module, isProgram }) {

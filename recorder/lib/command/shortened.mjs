@@ -31,10 +31,10 @@ export function shorteningOf({ shortest, shortened }, failing) {
 
 /**
  * @param {Shortening | null} shortening
- * @param {string | null} [before] what time must pass in the run as it was found
+ * @param {string | null} before what time must pass in the run as it was found
  * @returns {string[]} lines; the first one isn't indented
  */
-export function shortenedLines(shortening, before = null) {
+export function shortenedLines(shortening, before) {
   if (shortening === null) return [];
   const { runs, changes, calls, stopped, unchanged, checked, detail, onlyIf } = shortening;
   const made = [`in ${counted(runs, "run")}`, ...(stopped === null ? [] : [stopped])].join(", ");

@@ -61,12 +61,6 @@ export class Tally {
     this.counted += others;
   }
 
-  /** @returns {number} under how many keys that are kept runs are counted */
-  get size() {
-    this.#cut();
-    return this.entries.size;
-  }
-
   /** @returns {number} how many runs are counted under keys that aren't kept */
   get others() {
     this.#cut();

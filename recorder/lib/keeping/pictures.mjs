@@ -30,10 +30,10 @@ import { wordsText } from "./words.mjs";
 /** @typedef {ReturnType<typeof aboutOf>} About how a run was made, as its page says it */
 
 /** Why something isn't made of a script, in its message. */
-export class NotMade extends Error {}
+class NotMade extends Error {}
 
 /** @type {readonly Picture[]} */
-export const PICTURES = Object.freeze([
+const PICTURES = Object.freeze([
   { ending: "explained", format: "explained", made: (output) => output },
   { ending: "svg", format: "svg", made: (output) => output },
   { ending: "words", format: "json", isOfPrograms: true, made: wordsText },

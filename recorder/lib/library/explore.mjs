@@ -33,14 +33,9 @@ export function explore(options) {
  */
 export function runsOf(options, callersFolder) {
   const { signal, seeds, sabsim, ...rest } = exploreOptions(options, callersFolder);
-  const checking = areChecked({ sabsim, ...rest }) ? { sabsim: chosenProgram(sabsim) } : { checkEvery: 0 };
+  const checking = sabsim !== false && rest.checkEvery > 0 ? { sabsim: chosenProgram(sabsim) } : { checkEvery: 0 };
   // Each job makes a batch while the one before is taken.
   const ahead = rest.jobs * BATCH;
   const job = rest.jobs === 1 ? new Job() : undefined;
   return new Runs({ ...rest, ...seeds, ...checking, ahead }, { signal, job });
 }
-
-/** @typedef {{ sabsim?: string | boolean, checkEvery: number }} Checking */
-
-/** @param {Checking} options @returns {boolean} whether the simulator checks the runs */
-export const areChecked = ({ sabsim, checkEvery }) => sabsim !== false && checkEvery > 0;

@@ -17,8 +17,8 @@ export function moduleUrl(module, folder = process.cwd()) {
   return module.startsWith("file:") ? module : pathToFileURL(resolve(folder, module)).href;
 }
 
-/** @param {string} url of a file */
-function isFile(url) {
+/** @param {string} url @returns {boolean} */
+export function isFile(url) {
   try {
     return statSync(fileURLToPath(url)).isFile();
   } catch {

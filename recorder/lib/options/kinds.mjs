@@ -63,7 +63,7 @@ export const above0 = (most) =>
   number(DECIMAL, (value) => value > 0 && value <= most, `a number above 0, and ${most} at most`);
 
 /** @param {unknown} value */
-export const isName = (value) => typeof value === "string" && value !== "";
+const isName = (value) => typeof value === "string" && value !== "";
 
 /** @param {string} what it names */
 export const named = (what) => that(isName, what);

@@ -45,8 +45,6 @@ export class Thread {
     this.inbox = [];
     /** @type {((item: Item) => void) | undefined} */
     this.waiting = undefined;
-    /** @type {unknown} what it threw, if that has ended it */
-    this.error = undefined;
     /** @type {string | undefined} why it has ended, if it has */
     this.ended = undefined;
     /** @type {(why: string) => void} */
@@ -55,7 +53,6 @@ export class Thread {
     let died;
     this.port.on("message", (message) => this.#put({ message }));
     this.worker.on("error", (error) => {
-      this.error = error;
       died = causeOf(error);
     });
     this.worker.on("exit", (code) => {

@@ -7,7 +7,7 @@ import path from "node:path";
 import process from "node:process";
 import { pathToFileURL } from "node:url";
 import { CompiledFunctions } from "./compiled-functions.mjs";
-import { isModuleSyntax } from "./module-urls.mjs";
+import { NAMES, isModuleSyntax } from "./module-urls.mjs";
 
 /** @typedef {(specifier: string, parent: string, attributes: any) => Promise<any>} Import */
 
@@ -16,7 +16,6 @@ const { createRequire } = Module;
 const { readFileSync } = /** @type {any} */ (fs);
 const { parse } = createRequire(import.meta.url)("internal/deps/cjs-module-lexer/lexer");
 
-const NAMES = Object.freeze(["exports", "require", "module", "__filename", "__dirname"]);
 /** @type {readonly string[]} */
 const NO_NAMES = Object.freeze([]);
 const GLOBALS = Object.freeze(["require", "module", "exports", "__filename", "__dirname"]);

@@ -24,13 +24,13 @@ export function watchAsNow() {
   for (const name of WITH_MEMORY) engine[name] = files[name];
 }
 
-const BUFFER_SIZE = 16_384;
+export const BUFFER_SIZE = 16_384;
 
 /** @param {any} options @returns {string | null | undefined} */
 const encodingOf = (options) => (typeof options === "string" ? options : options?.encoding);
 
 /** @param {any} data @returns {boolean} whether it comes in pieces */
-const isInPieces = (data) => data !== null && typeof data === "object" && !ArrayBuffer.isView(data)
+export const isInPieces = (data) => data !== null && typeof data === "object" && !ArrayBuffer.isView(data)
   && (Symbol.iterator in data || Symbol.asyncIterator in data);
 
 /** @param {object} members @returns {any} as node's results are, without a prototype */

@@ -50,16 +50,6 @@ class Builtin {
   }
 }
 
-/**
- * The stack of an error as node prints it when nobody catches it: for code that can't be read, with its file and line.
- * @param {any} error
- * @returns {string}
- */
-export function stackWithPlace(error) {
-  decorateErrorStack(error);
-  return String(error.stack);
-}
-
 export class Graph {
   /** @type {Map<string, any>} the run's modules, by URL */
   #modules = new Map();

@@ -17,7 +17,6 @@ import { programMemory, programPlan } from "./program-memory.mjs";
 
 /** @typedef {import("../processes/thread.mjs").Thread} Thread */
 /** @typedef {import("../run/outcome.mjs").Wanted} Wanted */
-/** @typedef {{ thread: Thread, control: import("node:worker_threads").MessagePort }} Standing a thread of a slot */
 
 const PROGRAM_MODULE = new URL("./worker.mjs", import.meta.url);
 
@@ -168,12 +167,12 @@ export class ProgramGroup extends Group {
 
   /** @param {number} count how many threads are to have begun, and have no number yet */
   #prepare(count) {
-    const { ordinary, web = false, wasmAccesses } = this.options;
+    const { web = false, wasmAccesses } = this.options;
     const { memory, plan, rules } = this;
     while (this.#spare.length < count) {
       const thread = this.begin(begunThread(PROGRAM_MODULE, FLAGS));
       const isRelaxed = wasmAccesses === "relaxed";
-      thread.give(PROGRAM_MODULE, { origin: this.#origin, ordinary, web, isRelaxed, memory, plan, rules });
+      thread.give(PROGRAM_MODULE, { origin: this.#origin, web, isRelaxed, memory, plan, rules });
       this.#spare.push(thread.next().then(() => thread));
     }
   }

@@ -15,8 +15,6 @@ const EngineShared = SharedArrayBuffer;
 const { syncBuiltinESMExports } = nodeModule;
 const { performance } = /** @type {any} */ (globalThis);
 
-/** @typedef {(why: string) => never} Refuse */
-
 /**
  * Puts a run's timers in the place of node's.
  * @param {import("./timers.mjs").Timers} own

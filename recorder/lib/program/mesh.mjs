@@ -25,13 +25,11 @@ export class Mesh {
   #main;
 
   /**
-   * @param {number} agent
    * @param {Numbered} numbered what the thread got with its number
    * @param {Port} port to the thread that has started this one
    * @param {Int32Array} words of the board
    */
-  constructor(agent, { control, main }, port, words) {
-    this.agent = agent;
+  constructor({ control, main }, port, words) {
     this.control = control;
     this.port = port;
     this.words = words;

@@ -13,7 +13,7 @@ import { nodeLoader } from "./node-loader.mjs";
 const { readFileSync, statSync } = /** @type {any} */ (fs);
 const bytesFrom = Buffer.from;
 
-const NAMES = Object.freeze(["exports", "require", "module", "__filename", "__dirname"]);
+export const NAMES = Object.freeze(["exports", "require", "module", "__filename", "__dirname"]);
 const JAVASCRIPT = /^data:\s*(?:text|application)\/javascript\s*(?:;\s*charset=utf-?8\s*)?(?:;base64)?,/i;
 const JSON_DATA = /^data:\s*application\/json\s*(?:;[^,]*)?,/i;
 const DATA = /^data:[^/]+\/[^,;]+(?:[^,]*?)(;base64)?,([\s\S]*)$/;

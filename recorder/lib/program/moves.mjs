@@ -285,10 +285,10 @@ export class Moves {
 
   /**
    * @param {number | undefined} milliseconds as above
-   * @param {boolean} [byThemselves] whether real answers may come by themselves
+   * @param {boolean} byThemselves whether real answers may come by themselves
    * @returns {boolean} whether the thread goes on
    */
-  #resume(milliseconds, byThemselves = false) {
+  #resume(milliseconds, byThemselves) {
     const { board, agent, player: { part } } = this;
     this.looksFor = 0;
     this.count();

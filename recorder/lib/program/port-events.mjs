@@ -2,7 +2,7 @@
 // have these. A listener gets a message when the run delivers it.
 
 import threads from "node:worker_threads";
-import { apply, defineProperty, getOwnPropertyDescriptor, put } from "../primordials.mjs";
+import { apply, defineProperty, getOwnPropertyDescriptor, isObject, put } from "../primordials.mjs";
 import { nodeError } from "./node-error.mjs";
 import { KIND } from "./ports.mjs";
 
@@ -137,7 +137,7 @@ export class PortEvents {
   handle(port, type, handler) {
     const { listeners } = this.ports.known(port);
     const at = listeners.findIndex((each) => each.isHandler && each.type === type);
-    const isThere = typeof handler === "function" || (typeof handler === "object" && handler !== null);
+    const isThere = isObject(handler);
     if (at >= 0 && isThere) listeners[at].listener = handler;
     else if (at >= 0) listeners.splice(at, 1);
     else if (isThere) listeners.push({ type, listener: handler, once: false, isEvent: true, isHandler: true });

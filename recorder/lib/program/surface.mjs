@@ -21,12 +21,6 @@ const Modules = /** @type {any} */ (Module);
 const required = Module.createRequire(import.meta.url);
 const isBuiltin = Modules.isBuiltin;
 
-/** The major versions of node whose exports and order of events were compared with the tables and tests. */
-export const VERSIONS_TRIED = Object.freeze([20]);
-
-/** @param {string} [version] of node @returns {boolean} whether it was tried */
-export const isTried = (version = process.versions.node) => VERSIONS_TRIED.includes(Number.parseInt(version, 10));
-
 /** What each function has, and each module that is one. */
 const OF_FUNCTIONS = Object.freeze(["length", "name", "prototype", "arguments", "caller"]);
 

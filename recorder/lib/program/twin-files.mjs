@@ -3,7 +3,7 @@
 
 import fs from "node:fs";
 import util from "node:util";
-import { FileHandle, engine, watchAsNow } from "./file-handle.mjs";
+import { BUFFER_SIZE, FileHandle, engine, isInPieces, watchAsNow } from "./file-handle.mjs";
 import { callLater, isThrown, outcomeOf, promiseLater, putTwin, replaceCall } from "./twin-calls.mjs";
 import { apply, defineProperty, getOwnPropertyDescriptor } from "../primordials.mjs";
 
@@ -19,8 +19,6 @@ const PLAIN = Object.freeze([
   "realpath", "rename", "rm", "rmdir", "statfs", "symlink", "truncate", "unlink", "utimes", "writeFile",
 ]);
 const STATS = Object.freeze(["stat", "lstat"]);
-
-const BUFFER_SIZE = 16_384;
 
 /** @param {any[]} all without the callback @returns {any[]} with the option that only the twins have */
 const statArguments = ([path, options]) => [path, { ...options, throwIfNoEntry: true }];
@@ -82,10 +80,6 @@ function putCallbacks(given) {
 function throwIt(problem) {
   if (problem) throw problem;
 }
-
-/** @param {any} data @returns {boolean} whether it comes in pieces */
-const isInPieces = (data) => data !== null && typeof data === "object" && !ArrayBuffer.isView(data)
-  && (Symbol.iterator in data || Symbol.asyncIterator in data);
 
 /** @param {Given} given */
 function putPromises(given) {

@@ -21,7 +21,7 @@ const { setImmediate: turnLater } = timers;
  * @property {() => never} park the thread never goes on
  */
 
-export class Unwinding {
+class Unwinding {
   /** @type {Session | undefined} by which the engine is asked to unwind */
   #session = undefined;
 

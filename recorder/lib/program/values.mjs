@@ -9,7 +9,7 @@ import { wrapped } from "../agent/ordinary/elements.mjs";
 import { WHOLLY, mirrored, reaches } from "../agent/ordinary/reach.mjs";
 import { anyWatchedOf } from "../agent/ordinary/watched.mjs";
 import {
-  bufferOf, create, defineProperty, getOwnPropertyDescriptor, getPrototypeOf, isArray, mapSet, ownKeys, tagOf, viewBufferOf,
+  bufferBehind, create, defineProperty, getOwnPropertyDescriptor, getPrototypeOf, isArray, mapSet, ownKeys, tagOf,
 } from "../primordials.mjs";
 import { Buffers, bufferIn } from "./buffers.mjs";
 
@@ -18,9 +18,6 @@ const { Array: EngineArray, Map: EngineMap } = globalThis;
 const engineClone = /** @type {any} */ (globalThis).structuredClone;
 const { isView } = ArrayBuffer;
 const EngineMemory = WebAssembly.Memory;
-
-/** @param {any} view of the engine's own */
-const bufferBehind = (view) => (tagOf(view) === undefined ? viewBufferOf(view) : bufferOf(view));
 
 /** @param {unknown} inner */
 const isWasmMemory = (inner) => inner instanceof EngineMemory;

@@ -65,7 +65,6 @@ const { Error: EngineError } = globalThis;
  * @typedef {object} Given what the thread is started with
  * @property {import("node:worker_threads").MessagePort} port
  * @property {string} origin the URL of the module from whose folder places in the code are named
- * @property {"watch" | "store" | "refuse"} ordinary
  * @property {boolean} web whether the program is one for browsers
  * @property {boolean} isRelaxed whether plain aligned accesses of WebAssembly are relaxed ones
  * @property {ReturnType<typeof import("./program-memory.mjs").programMemory>} memory
@@ -371,7 +370,7 @@ export async function main(load) {
   chance.begin(0);
   const { player, blocks } = playerOf(agent);
   const { board } = player.table;
-  const parts = partsOf(player, blocks, new Mesh(agent, given, port, board.words));
+  const parts = partsOf(player, blocks, new Mesh(given, port, board.words));
   self.player = player;
   self.buffers = parts.buffers;
   self.moves = parts.moves;

@@ -12,6 +12,7 @@
 // section.
 
 import { SCRIPT_LIMITS } from "../../script/limits.mjs";
+import { PLACES } from "../memory/known-places.mjs";
 import { FLAG } from "../memory/log.mjs";
 import { FIRST_MORE } from "../memory/more-blocks.mjs";
 import { ByteRanges } from "./byte-ranges.mjs";
@@ -36,8 +37,6 @@ import { Numbers } from "./numbers.mjs";
  * @property {number} block
  * @property {number} byte the first byte on which they meet
  */
-
-const PLACES = SCRIPT_LIMITS.blocks * SCRIPT_LIMITS.bytes;
 
 // The words of each access that is remembered for a byte.
 const EACH = 6;
@@ -65,7 +64,7 @@ const sortOf = (flags, size) => {
   return (flags & FLAG.ATOMIC ? size << 2 : 0) | does;
 };
 
-export class Judge {
+class Judge {
   constructor() {
     /** For each byte, in which run it was accessed last, and the accesses that are remembered. */
     this.runs = new Int32Array(PLACES);

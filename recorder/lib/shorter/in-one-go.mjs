@@ -2,7 +2,6 @@
 // byte, or only load. So an agent goes on as long as nothing is left that must come before its next call.
 
 /** @typedef {import("./kept-script.mjs").KeptScript} KeptScript */
-/** @typedef {import("./kept-script.mjs").Draw} Draw */
 
 /** The last draws that touch a byte. */
 class Byte {

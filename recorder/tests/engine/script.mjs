@@ -95,7 +95,7 @@ function readCall(tree, positions, where) {
   const view = positions.get(name);
   demand(view !== undefined, `${where} names a view that isn't there`);
   demandWhole(index, `the index of ${where}`);
-  const most = taken.operands + (taken.takesLimit ? 1 : 0);
+  const most = taken.operands + (method === "wait" || method === "notify" ? 1 : 0);
   demand(rest.length >= taken.operands && rest.length <= most, `${where} has a wrong number of elements`);
   // A limit is a Number; every operand before it may be a BigInt too.
   /** @param {number} position */

@@ -1,6 +1,7 @@
 // What the tests share.
 
-import { mkdtempSync, rmSync, writeFileSync } from "node:fs";
+import { execFile } from "node:child_process";
+import { mkdtempSync, readFileSync, readdirSync, rmSync, writeFileSync } from "node:fs";
 import { tmpdir } from "node:os";
 import { join } from "node:path";
 import { fileURLToPath } from "node:url";
@@ -15,6 +16,17 @@ export const agentsPath = (name) => fileURLToPath(new URL(`../agents/${name}.mjs
 
 /** The command line's program. */
 export const RECORD = fileURLToPath(new URL("../../record.mjs", import.meta.url));
+
+/**
+ * Runs the command line in a process of its own.
+ * @param {string[]} words
+ * @returns {Promise<{ status: number, stdout: string, stderr: string }>}
+ */
+export const commandThere = (words) => new Promise((done) => {
+  execFile(process.execPath, [RECORD, ...words], (error, stdout, stderr) => {
+    done({ status: Number(error?.code ?? 0), stdout, stderr });
+  });
+});
 
 /**
  * Records one of the cases of `agents/cases.mjs`; without a check unless it is asked for. With `everywhere` no pilots
@@ -49,4 +61,15 @@ export function agentsOf(folder, body) {
   const path = join(folder, "agents.mjs");
   writeFileSync(path, `export default function agent({ buffers, agent, agents, args }) {\n${body}\n}\n`);
   return path;
+}
+
+/** The processes whose environment has a word, which all children of a process inherit. */
+export function processesWith(word) {
+  return readdirSync("/proc").filter((name) => /^\d+$/.test(name)).filter((name) => {
+    try {
+      return readFileSync(`/proc/${name}/environ`, "utf8").includes(word);
+    } catch {
+      return false;
+    }
+  });
 }

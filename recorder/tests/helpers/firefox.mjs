@@ -8,16 +8,12 @@ import { tmpdir } from "node:os";
 import { join } from "node:path";
 import { setTimeout as sleep } from "node:timers/promises";
 import { removed } from "./browser.mjs";
-import { hasSabsim, needing } from "./needs.mjs";
 
 const NAMES = ["firefox-esr", "firefox"];
 const MOST_MILLISECONDS = 60_000;
 
 /** The Firefox of this machine, or undefined. */
 export const FIREFOX = NAMES.find((name) => spawnSync(name, ["--version"]).status === 0);
-
-/** For tests that need it, which tests of the recorder alone never start. */
-export const withFirefox = needing("Firefox", hasSabsim && FIREFOX !== undefined);
 
 /** What a key is called by the protocol. */
 const KEYS = {

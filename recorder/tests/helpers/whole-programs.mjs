@@ -16,6 +16,9 @@ import { CHECKER } from "./needs.mjs";
 
 /** @typedef {import("../../lib/run/outcome.mjs").Outcome & import("../../lib/check/check.mjs").Check} Checked */
 
+/** @param {Checked[]} outcomes @returns {string[]} how they end, each way once */
+export const endingsOf = (outcomes) => [...new Set(outcomes.map(({ ending, detail }) => `${ending}: ${detail}`))];
+
 /** What is left of the recorder's own defaults. */
 const OPTIONS = Object.freeze({ ...defaultsOf("record"), isProgram: true, seconds: 20 });
 

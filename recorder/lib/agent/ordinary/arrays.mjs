@@ -3,8 +3,8 @@
 
 import { KINDS, kindOf } from "../../../script/kinds.mjs";
 import {
-  TypedArray, apply, bufferOf, byteLengthOf, construct, copyProperty, get, getPrototypeOf, hasOwn, lengthOf, likeEngine,
-  offsetOf, ownKeys, put, setPrototypeOf, tagOf, uncurried,
+  TypedArray, apply, bufferOf, byteLengthOf, construct, copyProperty, get, getPrototypeOf, hasOwn, isObject, lengthOf,
+  likeEngine, offsetOf, ownKeys, put, setPrototypeOf, tagOf, uncurried,
 } from "../../primordials.mjs";
 import { ANSWERING } from "./answering.mjs";
 import { blockNumber, memoryNumber, refused } from "./context.mjs";
@@ -55,7 +55,7 @@ function standInOf(kind) {
   /** @param {any} first @param {any} second @param {any} third */
   const StandIn = function (first, second, third) {
     if (new.target === undefined) throw new EngineTypeError(`Constructor ${name} requires 'new'`);
-    if ((typeof first === "object" && first !== null) || typeof first === "function") {
+    if (isObject(first)) {
       return madeOf(kind, first, second, third, new.target === StandIn ? Engine : new.target);
     }
     return new.target === StandIn ? new Engine(first) : construct(Engine, [first], new.target);

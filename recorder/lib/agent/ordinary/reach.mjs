@@ -1,8 +1,8 @@
 // Finds recorded memory in what a native function is given, and copies of it that are private.
 
 import {
-  copyProperty, create, defineProperty, getOwnPropertyDescriptor, getPrototypeOf, hasOwn, isArray, lengthOf, mapGet,
-  mapSet, ownKeys, setPrototypeOf, sharedLengthOf, tagOf, uncurried,
+  copyProperty, create, defineProperty, getOwnPropertyDescriptor, getPrototypeOf, hasOwn, isArray, isObject, lengthOf,
+  mapGet, mapSet, ownKeys, setPrototypeOf, sharedLengthOf, tagOf, uncurried,
 } from "../../primordials.mjs";
 import { OTHER, blockNumber, watching } from "./context.mjs";
 import { DATA_VIEW, ENGINE, WHOLE_BUFFER, anyWatchedOf, reportAll } from "./watched.mjs";
@@ -23,9 +23,6 @@ const setHas = uncurried(EngineSet.prototype.has);
 export const SHALLOW = 2;
 export const WHOLLY = Infinity;
 
-/** @param {unknown} value @returns {value is object} */
-const isObject = (value) => (typeof value === "object" && value !== null) || typeof value === "function";
-
 /** @typedef {(value: unknown) => boolean} Test what is looked for */
 
 /**
@@ -35,7 +32,7 @@ const isObject = (value) => (typeof value === "object" && value !== null) || typ
 export const isWatched = (value) => anyWatchedOf(value) !== undefined || blockNumber(value) >= 0;
 
 /** @type {Test} whether a value is an array on shared memory that isn't recorded */
-export const isOther = (value) => anyWatchedOf(value)?.place.block === OTHER;
+const isOther = (value) => anyWatchedOf(value)?.place.block === OTHER;
 
 /** @type {Test} whether a value is itself recorded memory */
 export const isRecorded = (value) => isWatched(value) && !isOther(value);
@@ -100,7 +97,7 @@ export function reaches(value, depth, suspicious = false, isIt = isWatched) {
  * @param {object} buffer
  * @param {number} block
  */
-export function reportBuffer(buffer, block) {
+function reportBuffer(buffer, block) {
   const length = sharedLengthOf(buffer);
   if (length === 0) return;
   watching.seen({ block, kind: WHOLE_BUFFER, offset: 0, length }, 0, length, false);

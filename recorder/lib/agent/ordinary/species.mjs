@@ -1,6 +1,6 @@
 // Which array a method returns: the language asks the receiver's constructor for it.
 
-import { construct, get, lengthOf, tagOf, uncurried } from "../../primordials.mjs";
+import { construct, get, isObject, lengthOf, tagOf, uncurried } from "../../primordials.mjs";
 import { ENGINE, unwrapped, watchedOf } from "./watched.mjs";
 
 const { TypeError: EngineTypeError, Symbol: EngineSymbol } = globalThis;
@@ -9,9 +9,6 @@ const begins = uncurried(String.prototype.startsWith);
 
 /** The constructors that agents get in this realm, by their kind. */
 export const standIns = /** @type {Function[]} */ ([]);
-
-/** @param {unknown} value */
-const isObject = (value) => (typeof value === "object" && value !== null) || typeof value === "function";
 
 /**
  * The constructor of what a method returns, if it isn't the engine's own of the receiver's kind.

@@ -1,9 +1,7 @@
 // Memory that is given to other threads, by messages or as they are started. Nobody sees what they do with it. So
 // recorded memory is refused there, whatever is done with ordinary accesses, and other shared memory is noted.
 
-import {
-  apply, bufferOf, construct, proxyOf, put, tagOf, uncurried, viewBufferOf, weakGet, weakSet,
-} from "../../primordials.mjs";
+import { apply, bufferBehind, construct, proxyOf, put, uncurried, weakGet, weakSet } from "../../primordials.mjs";
 import { blockNumber, watching } from "./context.mjs";
 import { anyReaches, revealed } from "./guards.mjs";
 import { methodOf, replace, replaceNeeded } from "./patch.mjs";
@@ -39,9 +37,6 @@ function giveAway(port) {
   forget(peers, peer);
   weakSet(abroad, peer, true);
 }
-
-/** @param {any} value a view of the engine's own */
-const bufferBehind = (value) => (tagOf(value) === undefined ? viewBufferOf(value) : bufferOf(value));
 
 /** @type {import("./reach.mjs").Test} whether a value is recorded memory, also if arrays aren't watched */
 const isRecordedHere = (value) => isRecorded(value) || (isView(value) && blockNumber(bufferBehind(value)) >= 0);

@@ -75,7 +75,7 @@ export function glueBytes(isRelaxed) {
 }
 
 /** The module's own name, by which its frames are known in a stack, and those of its functions. */
-export const GLUE_NAME = "sabsim";
+const GLUE_NAME = "sabsim";
 
 /** @param {readonly { name: string }[]} functions @returns {number[]} */
 function namesOf(functions) {

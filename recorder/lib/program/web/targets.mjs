@@ -1,7 +1,7 @@
 // Events as the DOM has them: what listens to what, what is assigned to `onmessage` and the like, and in which order
 // all of them get an event. If a task calls a listener, microtasks are run after it, as the HTML standard has it.
 
-import { apply, defineProperty, put, weakGet, weakSet } from "../../primordials.mjs";
+import { apply, defineProperty, isObject, put, weakGet, weakSet } from "../../primordials.mjs";
 
 const { TypeError: EngineTypeError, WeakMap: EngineWeakMap } = globalThis;
 const EngineEvent = /** @type {any} */ (Event);
@@ -43,9 +43,6 @@ export class PromiseRejectionEvent extends EngineEvent {
 }
 
 const NO_OPTIONS = Object.freeze({ once: false, signal: undefined });
-
-/** @param {unknown} value @returns {boolean} */
-const isObject = (value) => (typeof value === "object" && value !== null) || typeof value === "function";
 
 /** @param {any} how the third argument of addEventListener @returns {boolean} */
 const captures = (how) => (isObject(how) ? Boolean(how.capture) : Boolean(how));
