@@ -139,7 +139,7 @@ export class Ends {
    * The program's code ends its thread. It doesn't go on.
    * @param {unknown[]} given the exit code, if there is any: node throws if it is none
    */
-  exit(...given) {
+  exit(given) {
     if (given.length > 0) own.exitCode = given[0];
     const where = `calls process.exit at ${this.leaving.here()}`;
     // A listener of `exit` exits once more.

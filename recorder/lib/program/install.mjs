@@ -93,14 +93,14 @@ export function installThreads({ agent, workerData, parentPort, argv, env, envir
 }
 
 /**
- * @param {(...given: unknown[]) => void} exit gets what the program has given
+ * @param {(given: unknown[]) => void} exit gets what the program has given
  * @param {number} agent
  */
 export function installProcess(exit, agent) {
-  member(process, "exit", likeEngine((/** @type {unknown[]} */ ...given) => exit(...given), process.exit));
-  member(process, "reallyExit", (/** @type {unknown} */ code) => exit(code));
+  member(process, "exit", likeEngine((/** @type {unknown[]} */ ...given) => exit(given), process.exit));
+  member(process, "reallyExit", (/** @type {unknown} */ code) => exit([code]));
   member(process, "abort", () => {
-    if (agent === 0) exit(134);
+    if (agent === 0) exit([134]);
     throw nodeError("ERR_WORKER_UNSUPPORTED_OPERATION", "process.abort() is not supported in workers", {}, TypeError);
   });
   syncBuiltinESMExports();

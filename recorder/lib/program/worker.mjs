@@ -257,7 +257,7 @@ function installReplacements({ moves, buffers, waits, ends, events, timers, late
   surroundings.serve(events);
   installRefusals(refuse);
   spawned.install();
-  installProcess((...given) => ends.exit(...given), moves.agent);
+  installProcess((given) => ends.exit(given), moves.agent);
   ends.guard();
   listAgain();
   keepProcess();
