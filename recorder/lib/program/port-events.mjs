@@ -184,6 +184,10 @@ export class PortEvents {
   }
 }
 
+/** What node throws if a port gets no message to send. */
+const noMessage = () =>
+  nodeError("ERR_MISSING_ARGS", "Not enough arguments to MessagePort.postMessage", {}, TypeError);
+
 /**
  * The methods of ports of the run.
  * @param {PortEvents} events
@@ -196,9 +200,7 @@ function methodsOf(events) {
   /** @type {Record<string, (this: any, ...given: any[]) => any>} */
   const methods = {
     postMessage(...given) {
-      if (given.length === 0) {
-        throw nodeError("ERR_MISSING_ARGS", "Not enough arguments to MessagePort.postMessage", {}, TypeError);
-      }
+      if (given.length === 0) throw noMessage();
       ports.send(this, given[0], given[1], methods.postMessage);
     },
     on(type, listener) { return add(false, type, listener, this); },
