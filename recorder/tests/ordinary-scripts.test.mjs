@@ -66,7 +66,7 @@ describe("ordinary writes that don't all fit into a script", { concurrency: 2 },
     assert.deepEqual([ending, fails, script, scriptHolds], ["finished", false, undefined, undefined]);
     assert.equal(noScript, WHY_NOT);
     const lines = summaryLines([seen], { checkedBy: "module 1" });
-    assert.ok(lines.includes(`1 run has no script, and wasn't checked: ${WHY_NOT}`), lines.join("\n"));
+    assert.ok(lines.includes(`1 run has no script, and wasn't replayed: ${WHY_NOT}`), lines.join("\n"));
     assert.equal(bytes[0].slice(0, 8), "07000000");
   });
 

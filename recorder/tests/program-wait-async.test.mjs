@@ -136,7 +136,7 @@ describe("a run that uses it", () => {
     });
     const words = [RECORD, "--program", path, "--seeds", "1..12", "--jobs", "1", "--bounds", "allow"];
     const { stdout } = await execute(process.execPath, words).catch((error) => error);
-    const [, counted] = /^(\d+) runs have no script, and weren't checked: it has more than 16 threads and waits of /m.exec(stdout) ?? [];
+    const [, counted] = /^(\d+) runs have no script, and weren't replayed: it has more than 16 threads and waits of /m.exec(stdout) ?? [];
     assert.ok(Number(counted) > 1 && Number(counted) < 12, stdout);
     assert.match(stdout, new RegExp(`^${12 - Number(counted)} of 12 runs were replayed and judged by the simulator`, "m"));
   });

@@ -154,7 +154,7 @@ test("a summary reports scripts that hold only a part, and runs without a script
   assert.deepEqual(lines.slice(checked + 1, checked + 3), [
     "2 scripts hold only the ordinary writes of bytes that calls touch, since not all fit; their other bytes " +
       "weren't compared",
-    "1 run has no script, and wasn't checked: it would have 2,000 calls",
+    "1 run has no script, and wasn't replayed: it would have 2,000 calls",
   ]);
   const one = linesOf([outcome(1, holding)]);
   assert.ok(one.includes(

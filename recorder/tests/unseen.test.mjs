@@ -156,7 +156,7 @@ describe("a script that is full of views", () => {
       assert.deepEqual([ending, script, report, scriptHolds], ["finished", undefined, undefined, undefined]);
       assert.equal(noScript, WHY_NOT);
       const lines = summaryLines([outcome], { checkedBy: "module 1", ...options });
-      assert.ok(lines.includes(`1 run has no script, and wasn't checked: ${WHY_NOT}`), lines.join("\n"));
+      assert.ok(lines.includes(`1 run has no script, and wasn't replayed: ${WHY_NOT}`), lines.join("\n"));
     });
   }
 

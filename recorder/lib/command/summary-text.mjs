@@ -155,8 +155,10 @@ function coverageLines({ coverage }) {
 const FORMS = new Map([["module", "WebAssembly module"], ["program", "native program"]]);
 
 /** @param {SummaryData} summary */
-function checkLines({ runs, sabsim: { checked, judges, versions } }) {
-  if (checked === 0) return ["no run was checked"];
+function checkLines({ runs, sabsim: { asked, checked, judges, versions }, scripts: { none } }) {
+  const withoutScript = none.listed.reduce((sum, each) => sum + each.runs, none.others);
+  // Of runs without a script, other lines say why they weren't replayed. Their traces may have been judged.
+  if (checked === 0) return asked && withoutScript === runs ? [] : ["no run was checked"];
   const some = `${digits(checked)} of ${counted(runs, "run")} ${checked === 1 ? "was" : "were"}`;
   const which = checked === runs ? "every run was" : some;
   const kinds = [...new Set(versions.map((version) => version.split(" ", 1)[0]))];
@@ -171,7 +173,7 @@ function checkLines({ runs, sabsim: { checked, judges, versions } }) {
 function scriptLines({ sabsim: { asked }, scripts: { parts, none } }) {
   const lines = listed(none.listed, MOST_LISTED, ({ why, runs }) => {
     const [have, were] = runs === 1 ? ["1 run has", "wasn't"] : [`${digits(runs)} runs have`, "weren't"];
-    return `${have} no script${asked ? `, and ${were} checked` : ""}: ${why}`;
+    return `${have} no script${asked ? `, and ${were} replayed` : ""}: ${why}`;
   });
   const all = [...lines, ...othersLines(none.others)];
   if (parts === 0) return all;
