@@ -20,7 +20,6 @@ export const { isArray } = Array;
 export const hasOwn = uncurried(Object.prototype.hasOwnProperty);
 
 const { defineProperty: define } = Reflect;
-const IN_DESCRIPTORS = ["value", "writable", "get", "set", "enumerable", "configurable"];
 
 /**
  * Defines a property by what the descriptor has itself: agents may have put a `get` in Object.prototype.
@@ -30,12 +29,7 @@ const IN_DESCRIPTORS = ["value", "writable", "get", "set", "enumerable", "config
  * @returns {boolean} whether it could be done
  */
 export function defineProperty(owner, name, descriptor) {
-  const own = create(null);
-  for (let at = 0; at < IN_DESCRIPTORS.length; at += 1) {
-    const member = IN_DESCRIPTORS[at];
-    if (hasOwn(descriptor, member)) own[member] = /** @type {any} */ (descriptor)[member];
-  }
-  return define(owner, name, own);
+  return define(owner, name, /** @type {PropertyDescriptor} */ ({ __proto__: null, ...descriptor }));
 }
 
 /** @param {unknown} value @returns {value is any} whether it can have properties */
@@ -122,12 +116,7 @@ export function proxyOf(target, traps) {
  * @param {unknown} value
  */
 export function put(owner, name, value) {
-  const descriptor = create(null);
-  descriptor.value = value;
-  descriptor.writable = true;
-  descriptor.enumerable = false;
-  descriptor.configurable = true;
-  define(owner, name, descriptor);
+  defineProperty(owner, name, { value, writable: true, enumerable: false, configurable: true });
 }
 
 /**

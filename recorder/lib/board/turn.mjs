@@ -2,7 +2,7 @@
 // who moves next, and the turn is handed to that agent's thread. No other thread is between them, so a call costs one
 // change of threads at most, and none if the same agent goes on.
 
-import { AGENT_WORD, NOBODY, STATUS, WORD, agentOf, inCall, inCode, wordOf } from "../memory/layout.mjs";
+import { AGENT_WORD, NOBODY, ORDER, STATUS, WORD, agentOf, inCall, inCode, wordOf } from "../memory/layout.mjs";
 import { uncurried } from "../primordials.mjs";
 
 const { load, store, add, compareExchange, wait, notify } = Atomics;
@@ -272,9 +272,11 @@ export class Turn {
     const turn = load(this.words, WORD.TURN);
     if (turn === NOBODY || compareExchange(this.words, WORD.TURN, turn, NOBODY) !== turn) return;
     const agent = agentOf(turn);
-    // An agent whose stack ran out within a call never comes out of it.
+    // An agent whose stack ran out within a call never comes out of it. `init` and `check` are as within a call.
     if (turn !== inCode(agent)) {
-      this.end.close("failed", `agent ${agent} didn't come out of a call of Atomics for ${seconds} s`);
+      const isPlay = load(this.words, WORD.ORDER) === ORDER.PLAY;
+      const what = isPlay ? `agent ${agent} didn't come out of a call of Atomics` : "it went on";
+      this.end.close("failed", `${what} for ${seconds} s`);
       return;
     }
     this.silent = agent;

@@ -46,8 +46,8 @@ function cast({ ports, moves, mesh, buffers }, from, value, called) {
   for (let id = 0; id < table.count; id += 1) {
     if (id === from || table.name(id) !== table.name(from) || table.isClosed(id)) continue;
     const owner = table.owner(id);
-    // Each channel has a message of its own: what one thread did before it has received its message needn't come before
-    // what another one does after that.
+    // Each channel gets a message of its own. With one for all, the first receiver's acts would seem to come before the
+    // second one's.
     const number = count === 0 ? first : moves.sendNow();
     count += 1;
     const envelope = { value: bare, kind: 0, number, ports: [], ids: [] };

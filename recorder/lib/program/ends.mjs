@@ -46,7 +46,7 @@ export class Ends {
   /** @type {any} the port to the thread that has started this one */
   parentPort = undefined;
 
-  /** Whether that thread has got an error of this one. */
+  /** Whether an error of this thread was sent there. */
   #hasReported = false;
 
   /** @param {Leaving} leaving */
@@ -137,7 +137,7 @@ export class Ends {
 
   /**
    * The program's code ends its thread. It doesn't go on.
-   * @param {unknown[]} given the exit code, if there is any: node throws if it is none
+   * @param {unknown[]} given what `process.exit` got: the exit code, or nothing. Node throws if it isn't a whole number
    */
   exit(given) {
     if (given.length > 0) own.exitCode = given[0];
@@ -157,7 +157,7 @@ export class Ends {
     this.#end(THREW, text);
   }
 
-  /** @param {unknown} thrown of which the thread that has started this one gets the first */
+  /** @param {unknown} thrown which the thread that has started this one gets, if it is the first */
   #report(thrown) {
     if (this.parentPort === undefined || this.#hasReported) return;
     this.#hasReported = true;

@@ -11,16 +11,16 @@ import { promiseLater } from "./twin-calls.mjs";
 const files = /** @type {any} */ (fs);
 const Emitter = /** @type {any} */ (EventEmitter);
 
-/** What twins call of `fs`, as node has it. */
+/** The functions of `fs` that twins call: node's own, until `takeWatching`. */
 export const engine = { ...files };
 
-/** These are as `watchAsNow` has found them: so they see recorded memory that they are given. */
+/** Those that get memory. */
 const WITH_MEMORY = Object.freeze([
   "appendFileSync", "readSync", "readvSync", "writeFileSync", "writeSync", "writevSync",
 ]);
 
-/** The twins read and write memory by what `fs` has now. */
-export function watchAsNow() {
+/** Takes the functions that `fs` has now: they see recorded memory that they are given. */
+export function takeWatching() {
   for (const name of WITH_MEMORY) engine[name] = files[name];
 }
 

@@ -117,7 +117,7 @@ export function keepProcess() {
   for (const name of own.eventNames()) listening.set(name, own.rawListeners(name));
 }
 
-/** No time that an earlier run has marked is left. */
+/** Forgets the times that an earlier run has marked. */
 function clearTimes() {
   performance.clearMarks();
   performance.clearMeasures();

@@ -122,7 +122,7 @@ export class PortEvents {
   }
 
   /**
-   * In node the port goes on after this: it keeps its thread alive, and nobody gets its messages.
+   * As in node, the port still keeps its thread alive, and its messages are lost.
    * @param {any} port
    * @param {string | undefined} type
    */

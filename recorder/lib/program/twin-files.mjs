@@ -3,7 +3,7 @@
 
 import fs from "node:fs";
 import util from "node:util";
-import { BUFFER_SIZE, FileHandle, engine, isInPieces, watchAsNow } from "./file-handle.mjs";
+import { BUFFER_SIZE, FileHandle, engine, isInPieces, takeWatching } from "./file-handle.mjs";
 import { callLater, isThrown, outcomeOf, promiseLater, putTwin, replaceCall } from "./twin-calls.mjs";
 import { apply, defineProperty, getOwnPropertyDescriptor } from "../primordials.mjs";
 
@@ -126,7 +126,7 @@ async function writePieces(promises, path, [data, options]) {
  * @param {Given} given
  */
 export function putFiles(given) {
-  watchAsNow();
+  takeWatching();
   putCallbacks(given);
   putPromises(given);
 }

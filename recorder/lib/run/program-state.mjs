@@ -23,9 +23,9 @@ const MORE_MEMORY = `its threads share more than ${MOST_BLOCKS} buffers, one of 
   + `that grows, and touch more pages of ${PAGE_BYTES} bytes than a script and a trace have room for: the `
   + "recorder alone judges such a run";
 
-/** The sender of a place's second message seems to follow on the receiver of its first one. */
-const CROWDED = `it has more messages than the ${digits(MESSAGE_PLACES)} places for them; a place that serves twice orders `
-  + "more than the program does, so unordered accesses may be missed";
+/** Two messages then have one place, as if the later one was sent after the earlier one was received. */
+const CROWDED = `it has more than ${digits(MESSAGE_PLACES)} messages, the most that can be told apart: unordered accesses `
+  + "may be missed";
 
 const LOST = "so many ordinary writes were made to its buffers, or one had so many bytes at first, that a script "
   + "doesn't have them: sabsim judges only the trace of such a run";
@@ -103,9 +103,13 @@ export class ProgramState {
     return windows && inWindows(windows, made, this.blocks, called);
   }
 
+  /** @returns {string | undefined} why unordered accesses of the run may be missed, if so */
+  get whyMissed() {
+    return this.board.words[WORD.MESSAGES] > MESSAGE_PLACES ? CROWDED : undefined;
+  }
+
   /** @param {Written | undefined} written @returns {string | undefined} why the run can't have a script, if so */
   whyNoScript(written) {
-    if (this.board.words[WORD.MESSAGES] > MESSAGE_PLACES) return CROWDED;
     if (written === undefined) return MORE_MEMORY;
     if (this.ports.isCut()) return CUT;
     if (this.board.waiters?.hasMissed) return CUT_ASYNC;

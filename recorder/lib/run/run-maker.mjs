@@ -67,9 +67,6 @@ import { unseenText } from "./unseen.mjs";
 const GRACE_MILLISECONDS = 200;
 const ENDLESS = "didn't come to its end";
 
-/** What the board says if `init` or `check` takes too long: it needn't be in a call. */
-const TOO_LONG = /^agent 0 didn't come out of a call of Atomics for /;
-
 /**
  * A message about code that isn't synchronous has a place in it, if one is known. What was thrown has its own stack.
  */
@@ -250,8 +247,7 @@ export class RunMaker {
     board.order(name === "init" ? ORDER.INIT : ORDER.CHECK);
     const { ending, detail } = await this.#ended();
     if (!board.turn.isBack(0, GRACE_MILLISECONDS)) await this.replace([0]);
-    if (ending === "finished") return this.#named(detail);
-    return `${ENDLESS}: ${this.sourceNames.withNames(detail).replace(TOO_LONG, "it went on for ")}`;
+    return ending === "finished" ? this.#named(detail) : `${ENDLESS}: ${this.sourceNames.withNames(detail)}`;
   }
 
   /** @param {string} detail of code that failed @returns {string} in which places that the recorder found are named */

@@ -15,7 +15,7 @@ import { fitted } from "./fitting.mjs";
 import { addAnswers, addTexts } from "./script-texts.mjs";
 import { askingLines, standingsOf, waitText, waitsOf } from "./standing.mjs";
 import { earlyText, onlyByTimeOf, servedOf } from "./timed-ends.mjs";
-import { UNSEEN_LINE, placesIn, traceText } from "./trace.mjs";
+import { UNSEEN_LINE, placesIn, traceText, unseenLine } from "./trace.mjs";
 import { transcriptOf } from "./transcript.mjs";
 import { NO_SCRIPT, realIn, unrecordedIn } from "./unseen.mjs";
 
@@ -55,6 +55,7 @@ export class RunReporter {
     const isAllowed = (ending === "bound" && options.bounds === "allow") || (ending === "stuck" && options.stuck === "allow");
     const fails = ending !== "finished" && !isAllowed;
     const early = deadlines.early();
+    const missed = maker.program?.whyMissed;
     return {
       seed,
       ending,
@@ -67,6 +68,7 @@ export class RunReporter {
       state: this.states.of(ending, maker.ownBytes(found.bytes), found.more),
       races: [],
       ...(draws === undefined || (options.isBrief && !fails) ? {} : { row: draws }),
+      ...(missed === undefined ? {} : { noScript: missed }),
       ...(unrecorded.length === 0 ? {} : { unrecorded }),
       ...(real.length === 0 ? {} : { real }),
       ...(fails && early !== undefined ? { onlyIf: earlyText(early) } : {}),
@@ -99,7 +101,7 @@ export class RunReporter {
     const { maker: { program, agents }, options, run } = this;
     const written = this.#writtenOf(found);
     if (written?.windows !== undefined) outcome.windows = written.windows;
-    const why = program?.whyNoScript(written);
+    const why = outcome.noScript ?? program?.whyNoScript(written);
     if (written === undefined || why !== undefined) {
       this.#addFailure(outcome, found, transcriptOf(run, []));
       outcome.noScript = why;
@@ -195,12 +197,18 @@ export class RunReporter {
       return place === "" ? "" : sourceNames.nameOf(place);
     }));
     // If some are found, no verdict on the trace says that there are none.
-    const mayLookClean = !(this.seesAll && log.hasRoom()) && outcome.races.length === 0;
-    outcome.trace = (mayLookClean ? UNSEEN_LINE : "") + traceText(written.run.log, names);
+    outcome.trace = (outcome.races.length === 0 ? this.#firstLine() : "") + traceText(written.run.log, names);
     outcome.accesses = accessesIn(written.run.log, written.run.lengths);
     const tasks = this.#tasks();
     outcome.sources = sourceNames.textsOf([...placesIn(log, names), ...tasks.flatMap(({ source }) => source ?? [])]);
     if (this.maker.program !== undefined) outcome.tasks = tasks;
+  }
+
+  /** @returns {string} what a trace begins with if a verdict on its events could be wrong, or else nothing */
+  #firstLine() {
+    const { maker: { program }, run: { log } } = this;
+    if (program?.whyMissed !== undefined) return unseenLine(program.whyMissed);
+    return this.seesAll && log.hasRoom() ? "" : UNSEEN_LINE;
   }
 
   /** @returns {import("./outcome.mjs").Task[]} those that a program's event loops have begun */

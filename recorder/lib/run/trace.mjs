@@ -64,9 +64,13 @@ const DEEDS = new KnownDeeds();
  * The first line of a trace that may lack accesses of its run. It is no event. So `sabsim judge --trace` refuses such a
  * trace: if it found no data race in it, that would say nothing about the run.
  */
-export const UNSEEN_LINE = `${JSON.stringify({
-  unseen: "ordinary accesses may be missing here, so these events don't show whether any are unordered",
-})}\n`;
+export const UNSEEN_LINE =
+  unseenLine("ordinary accesses may be missing here, so these events don't show whether any are unordered");
+
+/** @param {string} unseen why a verdict on the trace could be wrong @returns {string} a first line that is no event */
+export function unseenLine(unseen) {
+  return `${JSON.stringify({ unseen })}\n`;
+}
 
 // So many lines are put into one piece at once: the pieces of a million lines take much memory.
 const JOINED = 1_024;

@@ -76,7 +76,7 @@ const PROGRAMS = {
     if (agent === 0) while (Atomics.load(words, 8) === 0) Atomics.wait(words, 8, 0, 500);
     else Atomics.store(words, 8, 1);
   },
-  // The same, by a byte amid the word.
+  // Another agent changes a byte of the word that isn't its first.
   amid: ({ words, agent }) => {
     if (agent === 0) Atomics.wait(words, 8, 0, 500);
     else Atomics.store(new Uint8Array(words.buffer), 33, 1);

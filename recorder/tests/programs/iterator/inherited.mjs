@@ -1,4 +1,4 @@
-// Right: main and a worker put in Object.prototype what descriptors of properties and traps of proxies may have.
+// Right: main and a worker add properties to Object.prototype, with names of descriptors' members and of proxies' traps.
 import { BroadcastChannel, Worker } from "node:worker_threads";
 
 Object.prototype.get = function get() { return this; };

@@ -1,4 +1,4 @@
-// A port whose listeners are all removed at once goes on: it has its thread kept alive, and its messages are lost.
+// A program removes all listeners of a port at once. The port still keeps its thread alive, and its messages are lost.
 import { MessageChannel, receiveMessageOnPort } from "node:worker_threads";
 
 const { port1, port2 } = new MessageChannel();

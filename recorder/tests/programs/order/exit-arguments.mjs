@@ -1,4 +1,4 @@
-// What process.exit refuses, and that an undefined code is one that is given. A worker can't abort.
+// process.exit refuses what is no exit code, and takes undefined as one. A worker can't abort.
 import { once } from "node:events";
 import { Worker } from "node:worker_threads";
 

@@ -1,4 +1,4 @@
-// Times that are marked are the run's own. The first thread has no limits.
+// A run doesn't see the times that an earlier run has marked. The first thread has no resource limits.
 import { resourceLimits } from "node:worker_threads";
 
 performance.mark("one");

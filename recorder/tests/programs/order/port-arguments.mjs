@@ -1,4 +1,4 @@
-// What postMessage refuses, also of a port that is closed: what it is given is given away all the same.
+// postMessage refuses wrong arguments, also if the port is closed. A closed port, too, takes away what is transferred.
 import { MessageChannel, receiveMessageOnPort } from "node:worker_threads";
 
 const { port1, port2 } = new MessageChannel();

@@ -1,4 +1,4 @@
-// What a Worker may be given: wrong arguments are thrown at once, a file that isn't there is an error of the worker.
+// new Worker throws at once if an argument is wrong. If the file isn't there, the worker has an error.
 import { mkdtempSync, rmSync, writeFileSync } from "node:fs";
 import { tmpdir } from "node:os";
 import { join } from "node:path";

@@ -1,4 +1,4 @@
-// What a listener of exit or of uncaughtException throws in a worker comes to the thread that has started it.
+// A worker's listener of exit or uncaughtException throws. The thread that has started the worker gets the error.
 import { Worker } from "node:worker_threads";
 
 const THROWS_AT_EXIT = 'process.on("exit", () => { throw new Error("at exit"); });';
