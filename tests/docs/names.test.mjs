@@ -1,5 +1,5 @@
-// What the documents name exists: the targets of their links, and in CONTRIBUTING.md and docs/ARCHITECTURE.md paths,
-// crates and functions.
+// What the documents name exists: the targets of their links, with the headings in these, and in CONTRIBUTING.md and
+// docs/ARCHITECTURE.md paths, crates and functions.
 
 import assert from "node:assert/strict";
 import { existsSync, readdirSync } from "node:fs";
@@ -62,10 +62,49 @@ test("ARCHITECTURE says what each crate is for", () => {
   assert.deepEqual(crates.filter((name) => !rows.some((row) => row.split("|")[1].includes(`\`${name}\``))), []);
 });
 
-for (const path of DOCUMENTS) {
-  test(`each link of ${path} leads to a file`, () => {
-    const targets = [...textOf(path).matchAll(/(?:\]\(|src=")([^)#"\s]+)/g)].map(([, target]) => target);
-    const files = targets.filter((target) => !/^https?:/.test(target));
-    assert.deepEqual(files.filter((target) => !existsSync(join(TOP, dirname(path), target))), []);
+/** A link of a document, or a picture in it: its path, and the fragment behind it. */
+const LINK = /(?:\]\(|src=")([^)#"\s]*)(?:#([^)"\s]*))?/g;
+
+/**
+ * The fragment that leads to a heading, as GitHub makes it.
+ * @param {string} heading
+ */
+const fragmentOf = (heading) =>
+  heading.toLowerCase().replaceAll(/\]\([^)]*\)/g, "").replaceAll(/[^\p{L}\p{N}\p{M}_ -]/gu, "").replaceAll(" ", "-");
+
+/**
+ * The fragments that lead into a document: one for each heading. A heading that comes again has a number.
+ * @param {string} text
+ */
+function fragmentsOf(text) {
+  const counts = new Map();
+  return text.split("\n").flatMap((line) => {
+    const heading = /^#{1,6} +(.*?)[ #]*$/.exec(line)?.[1];
+    if (heading === undefined) return [];
+    const fragment = fragmentOf(heading);
+    const count = counts.get(fragment) ?? 0;
+    counts.set(fragment, count + 1);
+    return [count === 0 ? fragment : `${fragment}-${count}`];
   });
 }
+
+/** Whether a link of a document leads to a file, and its fragment to a heading there. @param {string} from */
+const leadsSomewhere = (from) => (/** @type {string[]} */ [, path, fragment]) => {
+  if (/^https?:/.test(path)) return true;
+  const target = path === "" ? from : join(dirname(from), path);
+  if (!existsSync(join(TOP, target))) return false;
+  return fragment === undefined || fragmentsOf(textOf(target)).includes(fragment);
+};
+
+for (const path of DOCUMENTS) {
+  test(`each link of ${path} leads to a file, and to a heading of it if it names one`, () => {
+    const links = [...textOf(path).matchAll(LINK)];
+    assert.deepEqual(links.filter((link) => !leadsSomewhere(path)(link)).map(([link]) => link), []);
+  });
+}
+
+test("fragments are made of headings as GitHub makes them", () => {
+  const text = "# The map\n## The package, `./check` and the tests\ntext\n    $ #no\n## Agents\n### Agents\n## What can't be [so](x.md)";
+  const fragments = ["the-map", "the-package-check-and-the-tests", "agents", "agents-1", "what-cant-be-so"];
+  assert.deepEqual(fragmentsOf(text), fragments);
+});
