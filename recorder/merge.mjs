@@ -18,7 +18,7 @@ const USAGE = `usage: ${usageWords("merge")} FILE.. [options]
 Joins summaries of the recorder that --format json printed, as those of shards. The result is the summary that one
 command line for all these runs would print. A file may have several, each on a line of its own; - is standard input.
 
-  --format FORM   how the summary of all is printed: plain, or json, which is one line (plain)
+  --format FORM   how the summary of all is printed: plain, or json, which is one line [default: plain]
   -h, --help      this text
   -V, --version   the version
 

@@ -3,7 +3,8 @@
 import assert from "node:assert/strict";
 import { readFileSync } from "node:fs";
 import { test } from "node:test";
-import { optionsOf, wordOf } from "../lib/options/table.mjs";
+import { USAGE } from "../lib/command/options.mjs";
+import { OPTIONS, defaultText, optionsOf, wordOf } from "../lib/options/table.mjs";
 
 const textOf = (name) => readFileSync(new URL(`../${name}`, import.meta.url), "utf8");
 const REFERENCE = textOf("../docs/RECORDER.md");
@@ -51,4 +52,35 @@ test("each option of the command line has its line of help, and its default can 
       if (ifNone !== undefined) assert.deepEqual(kind.value(ifNone, name), ifNone, name);
     }
   }
+});
+
+/** The help about each option, on one line, by the option's word. */
+function helpByWord() {
+  const begins = /^ {2}(?:-\w, )?--([\w-]+)/;
+  const found = new Map();
+  let word;
+  for (const line of USAGE.slice(0, USAGE.indexOf("\nStatus:")).split("\n")) {
+    word = begins.exec(line)?.[1] ?? word;
+    if (word !== undefined) found.set(word, `${found.get(word) ?? ""} ${line.trim()}`);
+  }
+  return found;
+}
+
+test("the help names the default of each option once, as the command line takes it", () => {
+  const help = helpByWord();
+  assert.deepEqual([...help.keys()], optionsOf("command").map(([name]) => wordOf(name)));
+  for (const [name, row] of optionsOf("command")) {
+    const [own, ...defaults] = help.get(wordOf(name)).split(" [default: ");
+    const text = defaultText(row);
+    assert.deepEqual(defaults, text === undefined ? [] : [`${text}]`], name);
+    assert.ok(!own.endsWith(`(${text})`), `${name}: ${own}`);
+    const { kind, ifNone } = row;
+    if (text !== undefined && ifNone !== undefined) assert.deepEqual(kind.text(text, name), ifNone, name);
+  }
+});
+
+test("the default of an option is printed as it is, a range of seeds as A..B, and a flag has none", () => {
+  const names = ["strategy", "timeouts", "seeds", "fresh", "agents", "out"];
+  const defaults = ["mixed", "0.05", "1..100", undefined, "as the module's `setup` says", undefined];
+  assert.deepEqual(names.map((name) => defaultText(OPTIONS[name])), defaults);
 });

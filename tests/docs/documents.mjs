@@ -12,7 +12,7 @@ export const textOf = (path) => readFileSync(join(TOP, path), "utf8");
 /** The documents of the repository, by their paths from its top. */
 export const DOCUMENTS = [
   "README.md", "CHANGELOG.md", "CONTRIBUTING.md", "bench/README.md", "recorder/README.md",
-  "recorder/bench/README.md", "recorder/examples/README.md",
+  "recorder/bench/README.md",
   ...readdirSync(join(TOP, "docs")).filter((name) => name.endsWith(".md")).map((name) => `docs/${name}`),
 ];
 

@@ -4,7 +4,7 @@ import { parseArgs } from "node:util";
 import { usageWords, versionLine } from "../keeping/program.mjs";
 import { nearest } from "../options/nearest.mjs";
 import { Refused } from "../options/refused.mjs";
-import { defaultsOf, optionsOf as rowsOf, wordOf } from "../options/table.mjs";
+import { defaultText, defaultsOf, optionsOf as rowsOf, wordOf } from "../options/table.mjs";
 import { counted } from "../run/words.mjs";
 import { countOf, shardOf } from "../seeds/ranges.mjs";
 import { runFrom } from "./whole-program.mjs";
@@ -25,11 +25,18 @@ function wrapped(text) {
   return lines;
 }
 
+/** @type {(row: ReturnType<typeof rowsOf>[number]) => string} what it says, and what serves if it isn't given */
+const explanationOf = ([, row]) => {
+  const other = defaultText(row);
+  return `${row.help?.[1] ?? ""}${other === undefined ? "" : ` [default: ${other}]`}`;
+};
+
 /** @type {(row: ReturnType<typeof rowsOf>[number]) => string} */
-const helpOf = ([name, { help: [argument, text] = [], letter }]) => {
+const helpOf = (row) => {
+  const [name, { help: [argument] = [], letter }] = row;
   const words = `  ${letter === undefined ? "" : `-${letter}, `}--${wordOf(name)} ${argument}`.trimEnd();
   const margin = " ".repeat(INDENT);
-  const lines = wrapped(text ?? "").join(`\n${margin}`);
+  const lines = wrapped(explanationOf(row)).join(`\n${margin}`);
   // The explanation of a long option begins on a line of its own.
   return words.length < INDENT ? words.padEnd(INDENT) + lines : `${words}\n${margin}${lines}`;
 };
@@ -40,7 +47,6 @@ export const USAGE = `usage: ${usageWords("record")} MODULE [options] [-- argume
        ${usageWords("record")} --program FILE [options] [-- arguments for the program]
 
 Runs the agents of a module under seeded schedules, and keeps the first run that fails as a script for sabsim.
-An option's last parentheses hold its default.
 
 ${ROWS.map(helpOf).join("\n")}
 
