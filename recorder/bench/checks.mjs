@@ -16,7 +16,7 @@ import { BATCH } from "../lib/seeds/seed-queue.mjs";
 const RECORDER = new URL("../", import.meta.url);
 
 /** Whole numbers, ordinary data, and bytes that are written many at a time. */
-const MODULES = ["examples/mutex-naive.agents.mjs", "tests/known/ring.mjs", "tests/known/bulk-overlap.mjs"];
+const MODULES = ["examples/mutex-naive.agents.mjs", "examples/ring.agents.mjs", "tests/known/bulk-overlap.mjs"];
 
 /** So many runs are made first: by then the engine has compiled all. */
 const WARM = 1_000;

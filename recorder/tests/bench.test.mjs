@@ -46,11 +46,11 @@ test("each program says in its first line what is wrong", () => {
 test("the cost of the checks has a row for each program and number of jobs", async () => {
   /** @type {string[]} */
   const lines = [];
-  const module = fileURLToPath(new URL("known/ring.mjs", import.meta.url));
+  const module = fileURLToPath(new URL("../examples/ring.agents.mjs", import.meta.url));
   await printTable([module], [1, 2], { turns: 1, each: 8, warm: 8 }, (line) => lines.push(line));
   assert.equal(lines.length, 4);
   for (const jobs of [1, 2]) {
-    const row = new RegExp(String.raw`^\| \`tests/known/ring\.mjs\` \| ${jobs} \| [\d,]+ \| [\d,]+ \| \d+\.\d\d \|$`);
+    const row = new RegExp(String.raw`^\| \`examples/ring\.agents\.mjs\` \| ${jobs} \| [\d,]+ \| [\d,]+ \| \d+\.\d\d \|$`);
     assert.match(lines[jobs + 1], row);
   }
 });

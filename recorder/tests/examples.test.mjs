@@ -54,7 +54,10 @@ function runsByBytes(outcomes) {
 const wordsHex = (...words) => Buffer.from(Int32Array.from(words).buffer).toString("hex");
 
 /** How a wrong example fails. */
-const FAILS = { "late-notify": "failed", "mutex-naive": "deadlock", "node-cwd": "failed" };
+const FAILS = {
+  "late-notify": ["failed"], "mutex-naive": ["deadlock"], "node-cwd": ["failed"],
+  "ring-frees-first": ["failed", "race"],
+};
 
 /** Why an example isn't recorded here, if so: one is of node's own code. */
 const WHY_NOT = { "node-cwd": process.version.startsWith("v20.") ? false : "README says what node 20 does" };
@@ -89,6 +92,16 @@ const FOUND = {
   barrier: (outcomes) => {
     assert.equal(runsByBytes(outcomes).length, 1);
     return "nothing; every run ends with the same bytes";
+  },
+  ring: (outcomes) => {
+    assert.equal(runsByBytes(outcomes).length, 1);
+    return "nothing; every run ends with the same bytes";
+  },
+  "ring-frees-first": (outcomes) => {
+    const racing = outcomes.filter(({ races }) => races.length > 0);
+    const popped = outcomes.filter(({ ending }) => ending === "failed");
+    const wrong = `in ${popped.length} of them a wrong byte is popped`;
+    return `**${racing.length} runs race**, the first at seed ${racing[0].seed}; ${wrong}`;
   },
   "readers-writer": (outcomes) => {
     const [[most, runs], [least, others], ...more] = runsByBytes(outcomes);
@@ -125,9 +138,9 @@ function count(outcomes) {
 const NAMES = readdirSync(FOLDER).filter((name) => name.endsWith(".agents.mjs")).map((name) => name.split(".")[0]);
 
 describe("examples", () => {
-  test("there are nine", () => {
+  test("there are eleven", () => {
     const names = ["barrier", "bounded-queue", "late-notify", "late-notify-mended", "mutex-naive", "mutex-three-state"];
-    assert.deepEqual(NAMES.sort(), [...names, "node-cwd", "readers-writer", "semaphore"]);
+    assert.deepEqual(NAMES.sort(), [...names, "node-cwd", "readers-writer", "ring", "ring-frees-first", "semaphore"]);
   });
 
   for (const name of NAMES) {
@@ -135,7 +148,7 @@ describe("examples", () => {
       const outcomes = await outcomesOf(join(FOLDER, `${name}.agents.mjs`), SEEDS, 1);
       const failing = outcomes.filter(({ ending }) => ending !== "finished");
       if (FAILS[name] !== undefined) {
-        assert.ok(failing.length > 0 && failing.every(({ ending }) => ending === FAILS[name]));
+        assert.deepEqual([...new Set(failing.map(({ ending }) => ending))].sort(), FAILS[name]);
       } else {
         assert.deepEqual(failing.map(({ seed, ending, detail }) => ({ seed, ending, detail })), []);
       }
@@ -169,6 +182,11 @@ describe("the checks of the agents find a lock that isn't one", () => {
     semaphore: "class Semaphore { acquire() { return true; } release() {} }",
     barrier: "class Barrier { arrive() {} }",
     "readers-writer": "class ReadersWriterLock { lock() {} unlock() {} lockShared() {} unlockShared() {} }",
+    ring: `class Ring {
+      constructor(words) { this.words = words; }
+      push() {}
+      pop() { return Atomics.load(this.words, 0); }
+    }`,
     "bounded-queue": `class BoundedQueue {
       constructor(words) { this.words = words; this.count = 0; }
       put(value) { Atomics.store(this.words, this.count++ % 4, value); }

@@ -13,7 +13,7 @@ import { SIMULATOR_WORDS } from "./helpers/simulate.mjs";
 import { eventsOfTrace, slowJudge } from "./helpers/slow-judge.mjs";
 import { plainText, statusOf } from "./helpers/verdict-texts.mjs";
 
-const RING = fileURLToPath(new URL("./known/ring-frees-first.mjs", import.meta.url));
+const RING = fileURLToPath(new URL("../examples/ring-frees-first.agents.mjs", import.meta.url));
 const RACING_SEED = 3;
 
 /** Two agents without pilots, so that no worker begins that isn't needed. */
@@ -97,7 +97,7 @@ describe("the judge of checked runs", () => {
   });
 
   it("finds no race, and the recorder found one: both are reported", async (context) => {
-    const found = /^ {2}the recorder: agent 1 reads slots\[0\] at ring-frees-first\.mjs:32:17, .*; agent 0 writes /;
+    const found = /^ {2}the recorder: agent 1 reads slots\[0\] at ring-frees-first\.mjs:43:17, .*; agent 0 writes /;
     const sabsim = judging(temporaryFolder(context), FINDS_NONE);
     for (const races of ["fail", "allow"]) {
       await assert.rejects(record({ ...SMALL, seed: RACING_SEED, sabsim, races }), (error) => {

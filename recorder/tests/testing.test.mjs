@@ -81,7 +81,7 @@ function keptIn(temporary, isShortened) {
 // All that can move are alike, before each call.
 const ALIKE = 'module: "./agents.mjs", agents: 3, strategy: "uniform", everywhere: true';
 const AGENTS = `testAgents("no wake-up is lost", { ${ALIKE}, seeds: "1..200", shorten: false });`;
-const RING = fileURLToPath(new URL("known/ring-frees-first.mjs", import.meta.url));
+const RING = fileURLToPath(new URL("../examples/ring-frees-first.agents.mjs", import.meta.url));
 
 /** @type {ReturnType<typeof suite> | undefined} */
 let failingSuite;
@@ -179,8 +179,8 @@ test("the failing test of a race marks its two accesses among the last acts, wit
   assert.ok(lines.some((line) => line.endsWith("and their lines; > marks two accesses that nothing orders:")));
   // The reporter shows a failure twice.
   const [read, write, ...more] = new Set(lines.filter((line) => line.startsWith("> ")));
-  assert.match(read, /^> - 1 \d+ read +reads slots\[0\], which is 10, without Atomics, at ring-frees-first\.mjs:32:17$/);
-  assert.match(write, /^> \d+ 0 \d+ write +writes slots\[0\], without Atomics: .*, at ring-frees-first\.mjs:21:32$/);
+  assert.match(read, /^> - 1 \d+ read +reads slots\[0\], which is 10, without Atomics, at ring-frees-first\.mjs:43:17$/);
+  assert.match(write, /^> \d+ 0 \d+ write +writes slots\[0\], without Atomics: .*, at ring-frees-first\.mjs:31:32$/);
   assert.deepEqual(more, []);
   const load = /^\d+ \d \d+ act .* load\(TAIL, 0\) .*, at ring-frees-first\.mjs:\d+:\d+$/;
   assert.ok(lines.some((line) => load.test(line)), output);

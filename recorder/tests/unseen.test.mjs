@@ -15,7 +15,7 @@ import { CHECKING, withSabsim } from "./helpers/needs.mjs";
 import { recorded, summaryLines } from "./helpers/recorded.mjs";
 import { simulated } from "./helpers/simulate.mjs";
 
-const RING = fileURLToPath(new URL("./known/ring-frees-first.mjs", import.meta.url));
+const RING = fileURLToPath(new URL("../examples/ring-frees-first.agents.mjs", import.meta.url));
 const FORMATS = new URL("../../docs/FORMATS.md", import.meta.url);
 const RACING_SEED = 3;
 const MOST = SCRIPT_LIMITS.views;

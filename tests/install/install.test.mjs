@@ -120,7 +120,7 @@ test("each module that a command of its documents runs is a file of it", () => {
   const documents = FILES.filter((name) => name.endsWith(".md"));
   const texts = documents.map((name) => readFileSync(join(TOP, name), "utf8"));
   const modules = texts.flatMap((text) => [...text.matchAll(COMMAND)].map(([, module]) => module));
-  assert.ok(modules.length > 5 && modules.includes("recorder/tests/agents/naive-mutex.mjs"));
+  assert.ok(modules.length > 5 && modules.includes("recorder/examples/mutex-naive.agents.mjs"));
   assert.deepEqual(modules.filter((module) => !FILES.includes(module)), []);
 });
 

@@ -13,7 +13,7 @@ import { Browser } from "./browser.mjs";
 import { RECORD } from "./common.mjs";
 
 const PICTURES = fileURLToPath(new URL("../../pictures/", import.meta.url));
-const RING = fileURLToPath(new URL("../known/ring-frees-first.mjs", import.meta.url));
+const RING = fileURLToPath(new URL("../../examples/ring-frees-first.agents.mjs", import.meta.url));
 const WINDOW = { width: 1120, height: 900 };
 
 // The page shows the command that makes its run again, with this folder.
