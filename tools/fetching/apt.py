@@ -1,0 +1,82 @@
+"""Debian's packages, by apt-get with lists and archives in a folder of their own: nothing of this machine is changed, and
+nobody has to be root."""
+import os
+import re
+import shutil
+import subprocess
+from urllib.parse import unquote
+
+KEYS = "/usr/share/keyrings/debian-archive-keyring.gpg"
+INSTALLED = "/var/lib/dpkg/status"
+# A line of apt-get --print-uris: the address, the name of the file, its bytes.
+FILE = re.compile(r"'[^']*' (?P<name>[^_ ]+)_(?P<version>[^_ ]+)_(?P<architecture>[^_ ]+)\.deb ")
+
+
+class NotFetched(Exception):
+    """A part can't be fetched on this machine as it is. The message says why, for people."""
+
+
+def run(words, **how):
+    """Runs a command, and returns what it printed and what it complained of."""
+    try:
+        made = subprocess.run(words, stdin=subprocess.DEVNULL, capture_output=True, text=True, check=False, **how)
+    except FileNotFoundError:
+        raise NotFetched(f"there is no {words[0]} on this machine, and the tools come from Debian") from None
+    if made.returncode != 0:
+        raise NotFetched(f"{' '.join(words)}: {made.stderr.strip()}")
+    return made.stdout, made.stderr.strip()
+
+
+def debian_sources():
+    """Returns this machine's own sources that are Debian's, as (address, suite, component)."""
+    said, _ = run(["apt-get", "indextargets", "--format", "$(REPO_URI) $(RELEASE) $(COMPONENT)", "Created-By: Packages"])
+    found = [tuple(line.split()) for line in said.splitlines()]
+    sources = [source for source in found if re.search(r"/debian(-security)?/?$", source[0])]
+    if not sources:
+        raise NotFetched("apt-get knows no source of Debian's on this machine")
+    return sources
+
+
+def lines_of(suite):
+    """Returns the lines of a list of sources: this machine's, or those of one suite at the same address."""
+    sources = debian_sources()
+    if suite:
+        sources = [(sources[0][0], suite, "main")]
+    signed = f"[signed-by={KEYS}] " if os.path.exists(KEYS) else ""
+    return [f"deb {signed}{' '.join(source)}\n" for source in sources]
+
+
+class Apt:
+    """apt-get in a folder. `is_over` says that this machine's packages count as installed; else none is."""
+
+    def __init__(self, room, suite, is_over):
+        self.room = room
+        for folder in ("lists/partial", "cache"):
+            os.makedirs(f"{room}/{folder}")
+        with open(f"{room}/sources.list", "w", encoding="utf8") as file:
+            file.writelines(lines_of(suite))
+        shutil.copyfile(INSTALLED if is_over else os.devnull, f"{room}/status")
+        settings = {
+            "Dir::Etc::SourceList": "sources.list", "Dir::Etc::SourceParts": "none", "Dir::State": "",
+            "Dir::State::Lists": "lists", "Dir::State::status": "status", "Dir::Cache": "cache",
+        }
+        self.words = [word for name, path in settings.items() for word in ("-o", f"{name}={room}/{path}")]
+        self.words += ["-o", "Acquire::Languages=none", "-o", "APT::Sandbox::User=root", "-q"]
+        _, self.complaint = run(["apt-get", *self.words, "update"])
+
+    def install(self, packages, *words):
+        """Asks apt-get for packages and all that they need, and returns what it printed."""
+        try:
+            return run(["apt-get", *self.words, "install", "-y", "--no-install-recommends", *words, *packages])[0]
+        except NotFetched as problem:
+            raise NotFetched("\n".join(filter(None, [self.complaint, str(problem)]))) from None
+
+    def versions(self, packages):
+        """Returns the packages that are to be fetched: (name, version, architecture)."""
+        found = FILE.finditer(self.install(packages, "--print-uris"))
+        return [(it["name"], unquote(it["version"]).partition(":")[2] or unquote(it["version"]), it["architecture"]) for it in found]
+
+    def download(self, packages, into):
+        """Downloads packages and all that they need into a folder."""
+        os.makedirs(f"{into}/partial")
+        self.install(packages, "--download-only", "-o", f"Dir::Cache::Archives={into}/")

@@ -1,0 +1,47 @@
+"""The parts that can be fetched: the packages of each, and what is done with them."""
+import re
+from dataclasses import dataclass
+from typing import Callable
+
+# The files of Debian's jest that ask Debian's own node where its modules are, and what they ask.
+ASKING = ("jest-config/build/Defaults.js", "jest-resolve/build/resolver.js", "jest-resolve/build/nodeModulesPaths.js")
+VARIABLES = {"node_relative_path": "'share/nodejs'", "node_prefix": "require('path').join(__dirname, '../../../..')"}
+
+
+def lead_jest_to_its_folder(root):
+    """Changes Debian's jest so that it finds its modules beside itself, with each node."""
+    for name in ASKING:
+        path = f"{root}/usr/share/nodejs/{name}"
+        with open(path, encoding="utf8") as file:
+            text = file.read()
+        for variable, value in VARIABLES.items():
+            text = re.sub(rf"process\.config\.variables\.{variable}\b", lambda _: value, text)
+        with open(path, "w", encoding="utf8") as file:
+            file.write(text)
+
+
+@dataclass(frozen=True)
+class Part:
+    """Packages that are fetched together, by the name of their folder.
+
+    The version of the first package is that of the part. A part that is laid `over` this machine has the packages that
+    this machine lacks. Another has all that its packages need. If it is only JavaScript, it has those for every
+    processor alone: this machine's node runs them. `suite` is Debian's suite; without one it is this machine's.
+    """
+
+    packages: tuple
+    what: str
+    over: bool = False
+    only_javascript: bool = False
+    suite: str = ""
+    finish: Callable = None
+
+
+PARTS = {
+    "types": Part(("node-typescript",), "tsc", only_javascript=True),
+    "runners": Part(("mocha", "jest", "ava"), "mocha, jest and ava", only_javascript=True, finish=lead_jest_to_its_folder),
+    "pictures": Part(("librsvg2-bin", "fonts-dejavu-core"), "rsvg-convert", over=True),
+    "browsers": Part(("chromium", "firefox-esr", "fonts-dejavu-core"), "Chromium and Firefox", over=True),
+    "slurm": Part(("slurm-wlm", "munge"), "Slurm", over=True),
+    "node": Part(("nodejs",), "the newest node that Debian has", suite="sid"),
+}
