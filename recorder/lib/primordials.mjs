@@ -49,7 +49,7 @@ export const slotOf = (owner, name) => {
 
 /** @typedef {{ new (...given: any[]): any, readonly prototype: any }} Constructor of any typed array */
 
-/** What all eleven typed arrays inherit from, and the prototype of theirs. */
+/** What all typed arrays inherit from, and the prototype of theirs. */
 export const TypedArray = /** @type {Constructor} */ (getPrototypeOf(Int8Array));
 const { prototype: typedArrays } = TypedArray;
 

@@ -9,11 +9,24 @@ const ARRAYS = Object.freeze({
   BigUint64: BigUint64Array,
 });
 
+/** The kind that no script has, and not every engine. */
+const HALF = "Float16";
+
 /** The names of the kinds, for a pattern. */
-export const ANY_KIND = Object.keys(ARRAYS).join("|");
+export const ANY_KIND = [...Object.keys(ARRAYS), HALF].join("|");
 
 /** @param {string} kind its name @returns {number} how many bytes an element has */
-export const sizeOfKind = (kind) => ARRAYS[kind].BYTES_PER_ELEMENT;
+export const sizeOfKind = (kind) => ARRAYS[kind === HALF ? "Uint16" : kind].BYTES_PER_ELEMENT;
+
+/** @param {number} bits of a Float16: a sign, 5 bits of its exponent and 10 of its fraction @returns {number} */
+function halfOf(bits) {
+  const sign = bits >> 15 === 0 ? 1 : -1;
+  const exponent = (bits >> 10) & 31;
+  const fraction = bits & 1_023;
+  if (exponent === 31) return fraction === 0 ? sign * Infinity : NaN;
+  const value = exponent === 0 ? fraction * 2 ** -24 : (1_024 + fraction) * 2 ** (exponent - 25);
+  return sign * value;
+}
 
 /** @param {number | bigint} value @returns {string} as JavaScript writes it: 0.25, -0, 5n */
 function valueText(value) {
@@ -29,7 +42,8 @@ function valueText(value) {
  * @returns {string} as JavaScript writes it
  */
 export function elementText(kind, bytes, from = 0) {
-  return valueText(new ARRAYS[kind](bytes.slice(from, from + sizeOfKind(kind)).buffer)[0]);
+  const own = bytes.slice(from, from + sizeOfKind(kind)).buffer;
+  return valueText(kind === HALF ? halfOf(new Uint16Array(own)[0]) : new ARRAYS[kind](own)[0]);
 }
 
 /**

@@ -106,6 +106,8 @@ for (const [names, why] of [
   [{ a: { kind: "Int16", buffer: 1, offset: 15 } }, /^`names` puts a at offset 15: buffer 1 has 16 bytes/],
   [{ a: { kind: "Int16", buffer: 1, length: 1.5 } }, /gives a the length 1\.5/],
   [{ a: { kind: 5, buffer: 1 } }, /^`names` gives a the kind 5: /],
+  [{ a: ["Float16", 0] },
+    /^`names` gives a the kind Float16: no script can have such a view, so leave this name out$/],
   [{ a: { kind: "Int16", buffer: "1" } }, /^`names` puts a on buffer 1: there is no such buffer/],
   [{ a: { kind: "Int16", buffer: 0.5 } }, /^`names` puts a on buffer 0\.5: there is no such buffer/],
   [{ a: { kind: "Int16", buffer: -1 } }, /^`names` puts a on buffer -1: there is no such buffer/],

@@ -5,17 +5,18 @@ import { test } from "node:test";
 import { countFrom, indexFrom, limitOf, operandFrom, timeoutFrom } from "../lib/agent/conversions.mjs";
 import { Random } from "../lib/memory/random.mjs";
 import { Records } from "../lib/memory/records.mjs";
-import { CALLS, KINDS, kindOf } from "../script/kinds.mjs";
+import { CALLS, SCRIPT_KINDS as KINDS, kindOf } from "../script/kinds.mjs";
 import { shown } from "../script/operands.mjs";
 
-test("each of the eleven typed arrays has its kind, and nothing else has one", () => {
+test("each of the eleven typed arrays that scripts can have has its kind, and nothing else has one", () => {
   const names = KINDS.map((_, number) => KINDS[kindOf(new globalThis[`${KINDS[number]}Array`](1))]);
   assert.deepEqual(names, KINDS);
   assert.equal(KINDS.length, 11);
   class Words extends Int32Array {}
   assert.equal(KINDS[kindOf(new Words(1))], "Int32");
   const others = [undefined, null, 5, "Int32Array", [], {}, { [Symbol.toStringTag]: "Int32Array" }];
-  for (const other of [...others, new DataView(new ArrayBuffer(4)), new SharedArrayBuffer(4)]) {
+  const halves = typeof Float16Array === "undefined" ? [] : [new Float16Array(1)];
+  for (const other of [...others, ...halves, new DataView(new ArrayBuffer(4)), new SharedArrayBuffer(4)]) {
     assert.equal(kindOf(other), -1);
   }
 });

@@ -23,6 +23,9 @@ import { simulated } from "./helpers/simulate.mjs";
 const RING = agentsPath("sample-ring");
 const BITS = 4598175219545276416n;
 
+/** Why tests of Float16Array are skipped, if they are. */
+const NO_FLOAT16 = typeof Float16Array === "undefined" && "this engine has no Float16Array";
+
 /** The ring's two agents without pilots, so that no worker begins that isn't needed. */
 const SMALL = { agents: 2, everywhere: true };
 
@@ -36,9 +39,26 @@ test("a value is written as JavaScript writes it, whatever its kind", () => {
   for (const [Kind, value, text] of cases) {
     assert.equal(elementText(Kind.name.replace("Array", ""), bytesOf(Kind, value)), text);
   }
-  assert.deepEqual(KINDS.map((kind) => elementText(kind, new Uint8Array(8))), [...Array(9).fill("0"), "0n", "0n"]);
+  const zeros = [...Array(9).fill("0"), "0n", "0n", "0"];
+  assert.deepEqual(KINDS.map((kind) => elementText(kind, new Uint8Array(8))), zeros);
   assert.deepEqual(elementText("Float64", storedBytes("BigUint64", `${BITS}`)), "0.25");
   assert.deepEqual([...storedBytes("Int16", -2)], [254, 255]);
+});
+
+test("the value of a Float16 is read from its bits, also if the engine has none", () => {
+  const cases = [
+    [0x0000, "0"], [0x8000, "-0"], [0x3c00, "1"], [0xbe00, "-1.5"], [0x2e66, "0.0999755859375"], [0x7bff, "65504"],
+    [0x0400, "0.00006103515625"], [0x03ff, "0.00006097555160522461"], [0x8001, "-5.960464477539063e-8"],
+    [0x7c00, "Infinity"], [0xfc00, "-Infinity"], [0x7c01, "NaN"], [0xfe00, "NaN"],
+  ];
+  for (const [bits, text] of cases) assert.equal(elementText("Float16", storedBytes("Uint16", bits)), text);
+});
+
+test("the value of each Float16 is that of the engine's array", { skip: NO_FLOAT16 }, () => {
+  for (let bits = 0; bits < 2 ** 16; bits += 1) {
+    const [value] = new Float16Array(Uint16Array.of(bits).buffer);
+    assert.equal(elementText("Float16", storedBytes("Uint16", bits)), Object.is(value, -0) ? "-0" : `${value}`);
+  }
 });
 
 test("a store that stands for an ordinary write shows the array and the value of the code", () => {
@@ -218,6 +238,53 @@ test("an element of each kind, a DataView's too, has the code's kind", async (co
   assert.deepEqual(rows.map(({ name, cells }) => [name, cells.map(({ byte }) => byte)]), [
     ["ratio", [32]], ["Int8_b1", [1]], ["Float32_b0_at8_x1", [8]], ["BigInt64_b0", [16]], ["Uint8Clamped_b0", [1]],
     ["Uint8_b0", [41, 42]], ["Float64_b0", [48, 56]], ["Int32_b0", [0]],
+  ]);
+});
+
+test("a Float16Array is watched, and the script has the bits", { skip: NO_FLOAT16 }, async (context) => {
+  const module = join(temporaryFolder(context), "halves.mjs");
+  writeFileSync(module, `
+    export const setup = { agents: 1, buffers: [16], names: { ratios: { kind: "Uint16", buffer: 0, offset: 8 } } };
+    export function init([buffer]) {
+      new Float16Array(buffer)[0] = 0.25;
+    }
+    export default ({ buffers: [buffer] }) => {
+      const halves = new Float16Array(buffer);
+      halves[1] = 1.5;
+      new DataView(buffer).setFloat16(4, -2, true);
+      new Float16Array(buffer, 8).fill(0.5, 2);
+      halves.at(0) + halves[6];
+      Atomics.load(new Int32Array(buffer), 0);
+      for (const wrong of [() => Atomics.load(halves, 0), () => Atomics.wait(halves, 0, 0, 0)]) {
+        try {
+          wrong();
+        } catch (error) {
+          if (error instanceof TypeError) continue;
+        }
+        throw new Error("Atomics took a Float16Array");
+      }
+    };
+  `);
+  const [outcome] = await recorded({ module, agents: 1, trace: true }, [1]);
+  assert.equal(outcome.ending, "finished", outcome.detail);
+  const { views, agents } = JSON.parse(outcome.script);
+  assert.deepEqual(views.filter(({ kind }) => kind.startsWith("Float")), []);
+  assert.ok(views.some(({ name, kind }) => name === "ordinary_Float16" && kind === "Uint16"));
+  assert.deepEqual(agents[0].calls.filter(([name]) => name === "store").map((call) => call.slice(1)), [
+    ["ordinary_Float16", 1, 0x3e00], ["ordinary_Uint16", 2, 0xc000], ["ordinary_Float16", 6, 0x3800],
+    ["ordinary_Float16", 7, 0x3800],
+  ]);
+  const { output } = simulated(["replay", "--format", "json"], outcome.script);
+  const { steps } = new Run(pageData(outcome, output, pathToFileURL(module).href));
+  assert.deepEqual(steps.map(({ text, answer }) => `${text} ${answer}`.trim()), [
+    "the start",
+    "writes Float16[1]",
+    "writes bytes 4 to 5 of block 0",
+    "writes Float16_at8[2] to Float16_at8[3]",
+    "reads Float16[0] = 0.25",
+    "reads Float16[6] = 0.5",
+    `load(Int32, 0) = ${0x3e003400}`,
+    "the end: finished",
   ]);
 });
 

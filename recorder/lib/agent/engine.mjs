@@ -1,11 +1,11 @@
 // The engine's own Atomics, and elements as it compares them, from before agents get others.
 
-import { CALLS, CALL_NUMBERS, CONSTRUCTORS } from "../../script/kinds.mjs";
+import { CALLS, CALL_NUMBERS, SCRIPT_CONSTRUCTORS } from "../../script/kinds.mjs";
 
 /** @type {Record<string, Function>} */
 const functions = /** @type {any} */ (Atomics);
 const FUNCTIONS = Object.freeze(CALLS.map((call) => functions[call.name]));
-const ELEMENTS = Object.freeze(CONSTRUCTORS.map((Kind) => [new Kind(1), new Kind(1)]));
+const ELEMENTS = Object.freeze(SCRIPT_CONSTRUCTORS.map((Kind) => [new Kind(1), new Kind(1)]));
 const { wait: WAIT, notify: NOTIFY } = CALL_NUMBERS;
 
 /**

@@ -1,6 +1,6 @@
 // What a name in a module's `setup` stands for: an element or an array, in one of the forms that `names` takes.
 
-import { KINDS, SIZES } from "../../script/kinds.mjs";
+import { KINDS, SCRIPT_KINDS, SIZES } from "../../script/kinds.mjs";
 import { meant } from "./nearest.mjs";
 import { Refused } from "./refused.mjs";
 
@@ -22,9 +22,12 @@ export const isWithin = (value, least, most) => {
  * @returns {number}
  */
 function kindOf(name, kindName) {
-  const kind = KINDS.indexOf(/** @type {string} */ (kindName));
+  const kind = SCRIPT_KINDS.indexOf(/** @type {string} */ (kindName));
   if (kind >= 0) return kind;
-  throw new Refused(`\`names\` gives ${name} the kind ${kindName}: ${meant(`${kindName}`, [...KINDS])}`);
+  const why = KINDS.includes(/** @type {string} */ (kindName))
+    ? "no script can have such a view, so leave this name out"
+    : meant(`${kindName}`, [...SCRIPT_KINDS]);
+  throw new Refused(`\`names\` gives ${name} the kind ${kindName}: ${why}`);
 }
 
 /**

@@ -1,7 +1,7 @@
 // A run whose memory is shown in windows: its log, calls, stores and bytes are about the blocks of the script in place
 // of the program's buffers. All code that makes scripts and traces takes it as any other run.
 
-import { KINDS, SIZES } from "../../script/kinds.mjs";
+import { KINDS, SCRIPT_KINDS, SIZES } from "../../script/kinds.mjs";
 import { HELD, MESSAGES } from "../memory/blocks.mjs";
 import { FLAG, NO_CALL } from "../memory/log.mjs";
 import { byteOf } from "../memory/memory.mjs";
@@ -162,7 +162,7 @@ function kindsIn(log, windows) {
     if (log.blockAt(event) === MESSAGES || (log.flagsAt(event) & FLAG.AGAIN) !== 0) continue;
     const window = windows.at(log.blockAt(event), log.fromAt(event));
     const kind = log.kindAt(event);
-    if (window !== undefined && kind !== HELD) kinds.get(window)?.add(kind < KINDS.length ? kind : UINT8);
+    if (window !== undefined && kind !== HELD) kinds.get(window)?.add(kind < SCRIPT_KINDS.length ? kind : UINT8);
   }
   return new Map([...kinds].map(([window, each]) => [window, [...each].sort((one, other) => one - other)]));
 }

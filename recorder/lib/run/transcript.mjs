@@ -4,7 +4,7 @@
 // have some. A wait of Atomics.waitAsync is one of a helper, an agent of its own, to which its thread hands it over.
 
 import { BEGINS, ENDS } from "../../script/helpers.mjs";
-import { CONSTRUCTORS, KINDS, SIZES } from "../../script/kinds.mjs";
+import { KINDS, SCRIPT_CONSTRUCTORS, SIZES } from "../../script/kinds.mjs";
 import { answerText } from "../../script/report.mjs";
 import { JOIN, LEAVE, MAKE, MOVES, TIME_UP } from "../board/journal.mjs";
 import { READ } from "../memory/log.mjs";
@@ -45,7 +45,7 @@ function viewOf(name, { kind, block, offset, length }) {
 
 // An element of each kind on the same bytes: what a store's bytes stand for. Nothing outlives a look.
 const BYTES = new Uint8Array(Math.max(...SIZES));
-const ELEMENTS = CONSTRUCTORS.map((Kind) => new Kind(BYTES.buffer, 0, 1));
+const ELEMENTS = SCRIPT_CONSTRUCTORS.map((Kind) => new Kind(BYTES.buffer, 0, 1));
 
 class Writer {
   /** @param {Run} run @param {boolean[]} canBlock of each agent, also of the one of `init` */

@@ -6,7 +6,7 @@
 // and of `init` are no draws. A wait of a helper is one of the thread that has called waitAsync.
 
 import { handOverOf, helpersIn } from "../../script/helpers.mjs";
-import { CALLS, KINDS, SIZES } from "../../script/kinds.mjs";
+import { CALLS, KINDS, SCRIPT_KINDS, SIZES } from "../../script/kinds.mjs";
 import { OF_STORES, writtenText } from "../../script/written.mjs";
 import { callNumber } from "../board/row.mjs";
 import { byteOf } from "../memory/memory.mjs";
@@ -72,7 +72,7 @@ const isCount = (value) => Number.isInteger(value) && Number(value) >= 0;
 function viewsOf({ views }, lengths) {
   need(Array.isArray(views), "it has no views");
   return new Map(views.map(({ name, kind, block = 0, offset, length: given }) => {
-    const number = KINDS.indexOf(kind);
+    const number = SCRIPT_KINDS.indexOf(kind);
     // In a script that somebody has written it may be all up to the block's end.
     const length = given === null ? Math.floor((lengths[block] - offset) / SIZES[number]) : given;
     const isView = typeof name === "string" && number >= 0 && [block, offset, length].every(isCount);

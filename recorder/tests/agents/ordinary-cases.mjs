@@ -362,6 +362,7 @@ const OF_NUMBERS = {
 
 const SIZES = {
   Int8: 1, Uint8: 1, Int16: 2, Uint16: 2, Int32: 4, Uint32: 4, Float32: 4, Float64: 8, BigInt64: 8, BigUint64: 8,
+  ...(KINDS.includes("Float16") ? { Float16: 2 } : {}),
 };
 const viewAt = (buffer) => new DataView(buffer, OFFSET, 24);
 

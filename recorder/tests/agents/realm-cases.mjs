@@ -3,7 +3,7 @@
 import assert from "node:assert/strict";
 import crypto from "node:crypto";
 import fs from "node:fs";
-import { KINDS, collectedOf, difference, doneThough, notRefused, unwrapped } from "./watched-realm.mjs";
+import { DATA_VIEW, KINDS, collectedOf, difference, doneThough, notRefused, unwrapped } from "./watched-realm.mjs";
 
 const words = (buffer) => new Int32Array(buffer, 8, 4);
 const view = (buffer) => new DataView(buffer, 8, 16);
@@ -119,8 +119,8 @@ function place() {
   });
   const wanted = { block: 0, kind: KINDS.indexOf("Int32"), offset: 8, length: 4 };
   assert.deepEqual(places, [
-    wanted, wanted, { block: 0, kind: KINDS.length, offset: 3, length: 7 },
-    { block: 0, kind: KINDS.length + 1, offset: 0, length: 64 },
+    wanted, wanted, { block: 0, kind: DATA_VIEW, offset: 3, length: 7 },
+    { block: 0, kind: DATA_VIEW + 1, offset: 0, length: 64 },
   ]);
   assert.equal(places[0], places[1]);
 }

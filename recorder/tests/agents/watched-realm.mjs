@@ -4,9 +4,13 @@
 import { syncBuiltinESMExports } from "node:module";
 import { watchOrdinary } from "../../lib/agent/ordinary/watch.mjs";
 import { unwrapped } from "../../lib/agent/ordinary/watched.mjs";
-import { CONSTRUCTORS, KINDS } from "../../script/kinds.mjs";
+import { CONSTRUCTORS, KINDS as ALL_KINDS } from "../../script/kinds.mjs";
 
-export { KINDS, unwrapped };
+export { unwrapped };
+
+/** The kinds that this engine has, and the number of a place that is a DataView. */
+export const KINDS = ALL_KINDS.slice(0, CONSTRUCTORS.length);
+export const DATA_VIEW = ALL_KINDS.length;
 export const BYTES = 64;
 
 const EngineBytes = CONSTRUCTORS[KINDS.indexOf("Uint8")];

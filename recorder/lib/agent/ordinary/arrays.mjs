@@ -1,7 +1,6 @@
 // The typed arrays of a watched realm: their constructors, methods and getters. Private arrays are the engine's own;
 // their elements cost nothing more.
 
-import { KINDS, kindOf } from "../../../script/kinds.mjs";
 import {
   TypedArray, apply, bufferOf, byteLengthOf, construct, copyProperty, get, getPrototypeOf, hasOwn, isObject, lengthOf,
   likeEngine, offsetOf, ownKeys, put, setPrototypeOf, tagOf, uncurried,
@@ -14,7 +13,7 @@ import { needsFunction } from "./numbers.mjs";
 import { forWatched, methodOf, replace, replaceGetter } from "./patch.mjs";
 import { READING } from "./reading.mjs";
 import { arrayBy, standIns } from "./species.mjs";
-import { ENGINE, askedLength, reportAll, watchedOf } from "./watched.mjs";
+import { ENGINE, askedLength, kindNumbered, reportAll, watchedOf } from "./watched.mjs";
 import { WRITING, setFrom } from "./writing.mjs";
 
 const { TypeError: EngineTypeError } = globalThis;
@@ -26,7 +25,7 @@ const { iterator, toStringTag } = Symbol;
 
 /** @type {boolean[]} whether the elements of each kind are BigInts */
 const BIG = [];
-for (let kind = 0; kind < KINDS.length; kind += 1) BIG[kind] = typeof new ENGINE[kind](1)[0] === "bigint";
+for (let kind = 0; kind < ENGINE.length; kind += 1) BIG[kind] = typeof new ENGINE[kind](1)[0] === "bigint";
 
 /**
  * What a constructor makes of an object.
@@ -99,7 +98,7 @@ function filledBy(constructor, values, mapper, thisArgument) {
 function withoutIterator(source) {
   const tag = tagOf(source);
   if (tag === undefined || get(source, iterator) !== typedArrays[iterator]) return source;
-  const copy = new ENGINE[kindOf(source)](source);
+  const copy = new ENGINE[kindNumbered(tag)](source);
   put(copy, iterator, undefined);
   return copy;
 }
@@ -201,7 +200,7 @@ function replaceMethods() {
   refuseOthers(typedArrays);
 }
 
-/** The typed arrays that this engine has besides the eleven kinds: a script can't have them. */
+/** Typed arrays of kinds that aren't known here, as a later engine may have them. */
 function refuseOtherKinds() {
   const realm = /** @type {Record<string, unknown>} */ (globalThis);
   for (const name of ownKeys(realm)) {
@@ -232,7 +231,7 @@ export function watchArrays() {
   replaceGetters();
   replaceMethods();
   replaceSeal();
-  for (let kind = 0; kind < KINDS.length; kind += 1) {
+  for (let kind = 0; kind < ENGINE.length; kind += 1) {
     const StandIn = standInOf(kind);
     standIns[kind] = StandIn;
     refuseOthers(ENGINE[kind].prototype);

@@ -16,9 +16,10 @@ const { prototype: views } = EngineDataView;
 
 const OUTSIDE = "Offset is outside the bounds of the DataView";
 
-/** @type {Record<string, number>} how many bytes each accessor's value has; others aren't known here */
+/** @type {Record<string, number>} how many bytes each accessor's value has; an engine may lack one */
 const SIZES = {
-  Int8: 1, Uint8: 1, Int16: 2, Uint16: 2, Int32: 4, Uint32: 4, Float32: 4, Float64: 8, BigInt64: 8, BigUint64: 8,
+  Int8: 1, Uint8: 1, Int16: 2, Uint16: 2, Int32: 4, Uint32: 4, Float16: 2, Float32: 4, Float64: 8, BigInt64: 8,
+  BigUint64: 8,
 };
 
 /**

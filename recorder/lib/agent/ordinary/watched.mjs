@@ -1,6 +1,6 @@
 // What is known about each watched array: the engine's own array behind it, and what memory it is on.
 
-import { CONSTRUCTORS, KINDS } from "../../../script/kinds.mjs";
+import { CONSTRUCTORS, KINDS, SIZES } from "../../../script/kinds.mjs";
 import {
   bufferOf, create, defineProperty, getPrototypeOf, isGrowable, lengthOf, offsetOf, setPrototypeOf, tagOf, viewBufferOf,
   viewLengthOf, viewOffsetOf, weakGet, weakSet,
@@ -11,16 +11,13 @@ import { OTHER, originalOf, refused, reportOthers, watching } from "./context.mj
 export const DATA_VIEW = KINDS.length;
 export const WHOLE_BUFFER = KINDS.length + 1;
 
-/** The number and the bytes of an element of each kind, by the name of its constructor. */
-/** @type {Record<string, number>} */
+/** @type {Record<string, number>} the number of each kind, by the name of its constructor */
 const kindNumbers = create(null);
-/** @type {number[]} */
-const sizes = [];
-for (let kind = 0; kind < KINDS.length; kind += 1) {
-  kindNumbers[`${KINDS[kind]}Array`] = kind;
-  sizes[kind] = CONSTRUCTORS[kind].BYTES_PER_ELEMENT;
-}
+for (let kind = 0; kind < KINDS.length; kind += 1) kindNumbers[`${KINDS[kind]}Array`] = kind;
 const FIRST_BIG = kindNumbers.BigInt64Array;
+
+/** @param {string} tag of a typed array, which is its constructor's name @returns {number} its kind */
+export const kindNumbered = (tag) => kindNumbers[tag];
 
 /** The engine's constructors, by their kind. */
 export const ENGINE = CONSTRUCTORS;
@@ -140,7 +137,7 @@ export function arrayOn(real, block, Kind) {
   if (kind === undefined) refused(`a ${tagOf(real)} was made on a recorded buffer`);
   const buffer = bufferOf(real);
   const place = placed({ block, kind, offset: offsetOf(real), length: lengthOf(real) }, buffer);
-  const watched = new Kind(onOriginal(real, buffer, ENGINE[kind], place.offset, place.length), place, sizes[kind]);
+  const watched = new Kind(onOriginal(real, buffer, ENGINE[kind], place.offset, place.length), place, SIZES[kind]);
   watched.buffer = buffer;
   if (isGrowable(buffer)) follow(watched, lengthOf);
   return watched;
