@@ -7,6 +7,7 @@ import path from "node:path";
 import process from "node:process";
 import { pathToFileURL } from "node:url";
 import { CompiledFunctions } from "./compiled-functions.mjs";
+import { namesOfCommonJS } from "./internals.mjs";
 import { NAMES, isModuleSyntax } from "./module-urls.mjs";
 
 /** @typedef {(specifier: string, parent: string, attributes: any) => Promise<any>} Import */
@@ -14,7 +15,6 @@ import { NAMES, isModuleSyntax } from "./module-urls.mjs";
 const Modules = /** @type {any} */ (Module);
 const { createRequire } = Module;
 const { readFileSync } = /** @type {any} */ (fs);
-const { parse } = createRequire(import.meta.url)("internal/deps/cjs-module-lexer/lexer");
 
 /** @type {readonly string[]} */
 const NO_NAMES = Object.freeze([]);
@@ -115,7 +115,7 @@ export class CommonJS {
   #lexed(file, text, seen) {
     let lexed;
     try {
-      lexed = parse(text);
+      lexed = namesOfCommonJS(text);
     } catch {
       return [];
     }

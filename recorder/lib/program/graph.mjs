@@ -6,6 +6,7 @@ import path from "node:path";
 import { fileURLToPath } from "node:url";
 import { CommonJS } from "./commonjs.mjs";
 import { SourceTextModule, SyntheticModule, compiledOnce } from "./compiled-once.mjs";
+import { withoutWarning } from "./internals.mjs";
 import { formatOf, resolved, textOf, urlOf } from "./module-urls.mjs";
 import { nodeError } from "./node-error.mjs";
 import { nodeLoader } from "./node-loader.mjs";
@@ -22,14 +23,6 @@ const { parse } = JSON;
 
 const NO_EXPORT = /module '(.*)' does not provide an export named '(.+)'/;
 const NOT_DEFINED = /^(?:require|exports|module|__filename|__dirname) is not defined$/;
-
-/** The recorder causes node's warning that vm's modules are an experiment, so it isn't shown. */
-function makeWithoutWarning() {
-  const { emitWarning } = /** @type {any} */ (process);
-  /** @type {any} */ (process).emitWarning = () => {};
-  void new SourceTextModule("");
-  /** @type {any} */ (process).emitWarning = emitWarning;
-}
 
 /** @param {any} exports @param {string} name */
 const ownOf = (exports, name) => (Object.hasOwn(exports, name) ? exports[name] : undefined);
@@ -69,7 +62,7 @@ export class Graph {
    * @param {(name: string) => void} given.refuse called with what a program does that isn't simulated
    */
   constructor({ refuse }) {
-    makeWithoutWarning();
+    withoutWarning(() => new SourceTextModule(""));
     /** @type {import("./commonjs.mjs").Import} */
     const importModule = (specifier, parent, attributes) => this.#dynamic(specifier, parent, attributes);
     this.#commonJS = new CommonJS(importModule, refuse);
