@@ -168,6 +168,11 @@ describe("a thread is kept", { concurrency: 3 }, () => {
     assert.deepEqual(await replacedIn(context, EXITS), []);
   });
 
+  it("if it has left what queueMicrotask calls", async (context) => {
+    const worker = "setImmediate(() => { queueMicrotask(() => {}); process.exit(3); });";
+    assert.deepEqual(await replacedIn(context, { ...EXITS, "worker.mjs": worker }), []);
+  });
+
   it("if it throws", async (context) => {
     const main = `${MAIN}started().on("error", () => { throw new Error("so do I"); });`;
     const files = { "main.mjs": main, "worker.mjs": "throw new Error('wrong');" };
@@ -185,11 +190,6 @@ describe("a thread is replaced", { concurrency: 3 }, () => {
 
   it("if it has left a tick", async (context) => {
     assert.deepEqual(await replacedIn(context, LEAVES_TICK), [1]);
-  });
-
-  it("if it has left what queueMicrotask calls", async (context) => {
-    const worker = "setImmediate(() => { queueMicrotask(() => {}); process.exit(3); });";
-    assert.deepEqual(await replacedIn(context, { ...EXITS, "worker.mjs": worker }), [1]);
   });
 
   it("if its code makes no call", async (context) => {

@@ -4,7 +4,7 @@
 import process from "node:process";
 import { described } from "../agent/described.mjs";
 import { PHASE } from "../memory/layout.mjs";
-import { clearAsyncIdStack, serializeError } from "./internals.mjs";
+import { leaveContexts, serializeError } from "./internals.mjs";
 import { KIND } from "./ports.mjs";
 
 /** The exit code of a thread whose module is still being evaluated when nothing keeps it alive. */
@@ -66,7 +66,7 @@ export class Ends {
   uncaught(thrown, origin = "uncaughtException") {
     if (this.isOver) return;
     // What was thrown has left contexts of async_hooks open. Node, too, leaves all of them when it catches something.
-    clearAsyncIdStack();
+    leaveContexts();
     let isListenedTo = false;
     try {
       emit("uncaughtExceptionMonitor", thrown, origin);

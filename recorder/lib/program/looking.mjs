@@ -8,7 +8,7 @@ import { Immediate, Timeout } from "./internals.mjs";
 
 const { clearTimeout: clear, setImmediate: turnLater, setTimeout: wake } = timers;
 
-/** The classes of what is no answer: timers and immediates, of node's and the recorder's own, and the recorder's ports. */
+/** The classes of what is no answer: node's own timers and immediates, and the recorder's ports. */
 const OWN = [Timeout, Immediate, MessagePort, Promise, AsyncResource];
 
 /**
@@ -41,6 +41,14 @@ export class Looking {
   /** What is done while an answer is held back isn't done on its behalf. */
   #outside = new AsyncResource("sabsim");
 
+  /** @type {Function[]} the classes of what is no answer */
+  #own;
+
+  /** @param {Function[]} timers the classes of the run's timers and immediates, which are no answers either */
+  constructor(timers) {
+    this.#own = OWN.concat(/** @type {any[]} */ (timers));
+  }
+
   /** @param {Look} look begins; the caller returns to the real loop then */
   begin({ onCome, milliseconds, waitsFor, then }) {
     this.#then = then;
@@ -67,7 +75,7 @@ export class Looking {
   }
 
   #before() {
-    if (!isAnswer(executionAsyncResource())) return;
+    if (!this.#isAnswer(executionAsyncResource())) return;
     if (this.#guard !== undefined) {
       clear(this.#guard);
       this.#guard = undefined;
@@ -81,15 +89,15 @@ export class Looking {
     this.close();
     this.#then(found);
   }
-}
 
-/**
- * @param {any} resource of what node calls
- * @returns {boolean} whether that is an answer; if not, it is a tick, or what was done on behalf of an answer
- */
-function isAnswer(resource) {
-  for (let at = 0; at < OWN.length; at += 1) {
-    if (resource instanceof OWN[at]) return false;
+  /**
+   * @param {any} resource of what node calls
+   * @returns {boolean} whether that is an answer; if not, it is a tick, or what was done on behalf of an answer
+   */
+  #isAnswer(resource) {
+    for (let at = 0; at < this.#own.length; at += 1) {
+      if (resource instanceof this.#own[at]) return false;
+    }
+    return !("callback" in resource && "args" in resource);
   }
-  return !("callback" in resource && "args" in resource);
 }

@@ -1,36 +1,38 @@
-// Timers and immediates of a thread whose time is the run's. The functions take the place of node's: they check what
-// they get as node does, and return objects as node's. Nothing runs by itself: the loop of the thread asks what is due,
-// and runs one callback after the other. Load this file before anything replaces node's own timers.
+// Timers and immediates of a thread whose time is the run's. They are node's own code over lower functions of the run:
+// `timersOver`. Node's sockets keep node's first timers, whose time is real. Nothing runs by itself: the loop of the
+// thread asks what is due, and runs one callback after the other.
 
+import process from "node:process";
 import timers from "node:timers";
-import util from "node:util";
 import { apply, defineProperty, likeEngine } from "../primordials.mjs";
-import { TimerLists } from "./timer-lists.mjs";
-import {
-  EngineImmediate, EngineTimeout, Immediate, Timeout, isKnown, isRefed, runInScope, setRefed,
-} from "./timer-objects.mjs";
-import { promisesOf, timeoutSignalOf } from "./timer-promises.mjs";
+import { Immediate as EngineImmediate, Timeout as EngineTimeout, timersOver } from "./internals.mjs";
 
 /** @typedef {any} Item a Timeout or an Immediate */
 /** @typedef {{ kind: "timer" | "immediate", milliseconds: number, repeats: boolean, where: any }} Described */
 /** @typedef {Record<string, Function>} Functions */
 
 const engine = { ...timers };
+const { timeout: engineSignal } = /** @type {any} */ (AbortSignal);
+const MOST_MILLISECONDS = 2 ** 32 - 1;
 
-/** @param {Item} timer @returns {Described} */
-const describedTimer = (timer) => ({
-  kind: "timer", milliseconds: timer._idleTimeout, repeats: timer._repeat !== null, where: Timeout.whereOf(timer),
-});
+/** Which words of `immediateInfo` count immediates: all, and those that keep the thread alive. */
+const IMMEDIATES = 0;
+const REFED_IMMEDIATES = 1;
 
-/** @param {Item} immediate @returns {Described} */
-const describedImmediate = (immediate) =>
-  ({ kind: "immediate", milliseconds: 0, repeats: false, where: Immediate.whereOf(immediate) });
+/** Is thrown where node would run ticks between two callbacks: the loop goes on there. */
+const BETWEEN = new Error("one callback has run");
 
-/** @param {unknown[]} given @param {number} from @returns {unknown[] | undefined} what a callback gets */
-const givenFrom = (given, from) => (given.length > from ? given.slice(from) : undefined);
+/** @returns {never} */
+const stop = () => {
+  throw BETWEEN;
+};
 
 export class Timers {
-  #lists = new TimerLists();
+  #node;
+  /** Node's functions that run callbacks; one callback each time. */
+  #process;
+  /** @type {Map<number, { number: number, where: any }>} by numbers of async_hooks: what is known of timers */
+  #made = new Map();
   /** @type {Map<string, Item>} timers that were asked for their number */
   #known = new Map();
   /** @type {Item[]} immediates of the round that has begun, and those of the next one */
@@ -38,45 +40,45 @@ export class Timers {
   /** @type {Item[]} */
   #next = [];
   #numbers = 0;
-  #refed = 0;
-  #refedImmediates = 0;
-  #immediates = 0;
   /** The time of the pass: timers that are started in it aren't due before all others that are due have run. */
   #pass = 0;
-  /** What was reported last. */
-  #reported = { deadline: Infinity, immediates: 0 };
   #now;
-  #changed;
 
   /**
    * @param {object} given
    * @param {() => number} given.now the run's clock in milliseconds
-   * @param {() => void} given.changed called when the earliest deadline or the number of immediates has changed
    * @param {() => any} [given.here] where the code is that makes a timer
    */
-  constructor({ now, changed, here = () => undefined }) {
+  constructor({ now, here = () => undefined }) {
     this.#now = () => Math.floor(now());
-    this.#changed = changed;
-    this.here = here;
+    this.#node = timersOver({ now: this.#now, begins: (id) => void this.#made.set(id, this.#newMade(here())) });
+    const { inside, promises } = this.#node;
+    this.#process = inside.getTimerCallbacks(stop);
+    this.#count();
     /** @type {Functions} setTimeout and so on, for `globalThis` and `node:timers` */
     this.functions = this.#functions();
     /** @type {any} what `node:timers/promises` has */
-    this.promises = promisesOf(this);
+    this.promises = promises;
     /** @type {Function} AbortSignal.timeout */
-    this.timeoutSignal = timeoutSignalOf(this);
-    this.#joinPromises();
+    this.timeoutSignal = this.#timeoutSignal();
+    /** @type {Function[]} the classes of timers and immediates */
+    this.classes = [inside.Timeout, inside.Immediate];
   }
 
   // ---- what the loop asks
 
   /** @returns {number} when the first timer is due, on the run's clock; Infinity if there is none */
   get deadline() {
-    return this.#lists.earliest;
+    const first = this.#node.inside.timerListQueue.peek();
+    if (first === undefined) return Infinity;
+    if (dueOf(first) === first.expiry) return first.expiry;
+    // Node looks at a list whose first timer was cleared when that one would have been due.
+    return this.#lists().reduce((earliest, list) => Math.min(earliest, dueOf(list)), Infinity);
   }
 
   /** @returns {number} how many immediates are ready */
   get immediates() {
-    return this.#immediates;
+    return this.#node.counts.immediateInfo[IMMEDIATES];
   }
 
   /** @returns {number} how many of them belong to the round that has begun: node runs no timer between them */
@@ -86,247 +88,225 @@ export class Timers {
 
   /** @returns {boolean} whether a timer or an immediate keeps the thread alive */
   get alive() {
-    return this.#refed > 0 || this.#refedImmediates > 0;
+    const { timeoutInfo, immediateInfo } = this.#node.counts;
+    return timeoutInfo[0] > 0 || immediateInfo[REFED_IMMEDIATES] > 0;
   }
 
   /** @returns {Described[]} the timers, by deadline, and the immediates that keep the thread alive */
   keepers() {
-    const waiting = this.#lists.all().filter((timer) => isRefed(timer)).map(describedTimer);
-    const ready = this.#round.concat(this.#next).filter((immediate) => isRefed(immediate)).map(describedImmediate);
-    return waiting.concat(ready);
+    this.#gather();
+    const isRefed = (/** @type {Item} */ item) => item[this.#node.inside.kRefed];
+    const waiting = this.#lists().flatMap((list) => itemsOf(list)).filter(isRefed);
+    waiting.sort((one, other) => timeOf(one) - timeOf(other));
+    const ready = this.#round.concat(this.#next).filter(isRefed);
+    return waiting.map((timer) => this.#timer(timer)).concat(ready.map((immediate) => this.#immediate(immediate)));
   }
 
   /** @returns {Described | undefined} the timer that `runTimer` would run now */
   nextTimer() {
     const timer = this.#due();
-    return timer && describedTimer(timer);
+    return timer && this.#timer(timer);
   }
 
   /** @returns {Described | undefined} the immediate that `runImmediate` would run now */
   nextImmediate() {
-    const immediate = this.#firstOf(this.#round) ?? this.#firstOf(this.#next);
-    return immediate && describedImmediate(immediate);
+    this.#gather();
+    const immediate = firstOf(this.#round) ?? firstOf(this.#next);
+    return immediate && this.#immediate(immediate);
   }
 
   /**
-   * Runs the callback of the first timer that is due. What it throws is thrown here, when all is in order again.
+   * Runs the callback of the first timer that is due. What it throws is thrown here; contexts of async_hooks are open
+   * then.
    * @returns {boolean} whether there was one
    */
   runTimer() {
-    const timer = this.#due();
-    if (timer === undefined) return false;
-    this.#lists.take(timer);
-    const start = timer._repeat ? this.#now() : 0;
-    try {
-      runInScope(timer, () => apply(timer._onTimeout, timer, timer._timerArgs ?? []), timer);
-    } finally {
-      this.#ended(timer, start);
-      this.#report();
-    }
+    if (this.#due() === undefined) return false;
+    this.#turn();
     return true;
   }
 
   /**
-   * Runs the callback of the first immediate. One that is made meanwhile belongs to the next round.
+   * Runs the callback of the first immediate. One that is made meanwhile belongs to the next round. What it throws is
+   * thrown here; contexts of async_hooks are open then.
    * @returns {boolean} whether there was one
    */
   runImmediate() {
-    if (this.#firstOf(this.#round) === undefined) {
+    this.#gather();
+    if (firstOf(this.#round) === undefined) {
       this.#round = this.#next;
       this.#next = [];
     }
-    const immediate = this.#firstOf(this.#round);
+    const immediate = firstOf(this.#round);
     if (immediate === undefined) return false;
     this.#round.shift();
-    this.#endImmediate(immediate);
-    try {
-      runInScope(immediate, () => apply(immediate._onImmediate, immediate, immediate._argv ?? []), immediate);
-    } finally {
-      immediate._onImmediate = null;
-      this.#report();
-    }
+    this.#node.inside.immediateQueue.append(immediate);
+    apply(this.#process.processImmediate, process, []);
     return true;
   }
 
   /** Forgets all, for the next run. */
   clear() {
-    this.#lists.clear();
+    const { inside: { timerListMap, timerListQueue, immediateQueue }, counts } = this.#node;
+    for (const name of Object.keys(timerListMap)) delete timerListMap[name];
+    while (timerListQueue.peek() !== undefined) timerListQueue.shift();
+    [immediateQueue.head, immediateQueue.tail] = [null, null];
+    counts.immediateInfo.fill(0);
+    counts.timeoutInfo.fill(0);
+    this.#made.clear();
     this.#known.clear();
     [this.#round, this.#next] = [[], []];
-    [this.#numbers, this.#refed, this.#refedImmediates, this.#immediates, this.#pass] = [0, 0, 0, 0, 0];
-    this.#reported = { deadline: Infinity, immediates: 0 };
+    [this.#numbers, this.#pass] = [0, 0];
   }
 
-  // ---- what timers do
-
-  /**
-   * @param {Function} callback
-   * @param {unknown} after milliseconds
-   * @param {unknown[] | undefined} given
-   * @param {{ repeats: boolean, refed: boolean }} how
-   * @returns {Item}
-   */
-  start(callback, after, given, how) {
-    const timer = new Timeout(this, callback, after, given, how);
-    this.#lists.insert(timer, timer._idleTimeout, this.#now());
-    this.#report();
-    return timer;
-  }
-
-  /** @param {Function} callback @param {unknown[] | undefined} given @returns {Item} */
-  startImmediate(callback, given) {
-    const immediate = new Immediate(this, callback, given);
-    this.#next.push(immediate);
-    this.#immediates += 1;
-    this.#refedImmediates += 1;
-    this.#report();
-    return immediate;
-  }
-
-  /** @param {any} timer an object, or the number of one */
-  clearTimeout(timer) {
-    if (typeof timer === "number" || typeof timer === "string") {
-      const known = this.#known.get(String(timer));
-      if (known !== undefined) this.clearTimeout(known);
-    } else if (timer instanceof Timeout) {
-      if (!timer._onTimeout) return;
-      timer._onTimeout = null;
-      this.#unenroll(timer);
-    } else if (timer instanceof EngineTimeout) {
-      engine.clearTimeout(timer);
+  /** Lets node's code go over its timers until one has run, or one that can't run is out of the way. */
+  #turn() {
+    try {
+      apply(this.#process.processTimers, process, [this.#pass]);
+    } catch (thrown) {
+      if (thrown !== BETWEEN) throw thrown;
     }
   }
 
-  /** @param {any} immediate */
-  clearImmediate(immediate) {
-    if (immediate instanceof EngineImmediate) engine.clearImmediate(immediate);
-    if (!(immediate instanceof Immediate)) return;
-    const item = /** @type {Item} */ (immediate);
-    if (item._destroyed) return;
-    this.#endImmediate(item);
-    item._onImmediate = null;
-    this.#next = this.#next.filter((each) => each !== item);
-    this.#report();
-  }
-
-  /** @param {Item} timer */
-  refresh(timer) {
-    const milliseconds = timer._idleTimeout;
-    if (milliseconds < 0 || milliseconds === undefined) return;
-    this.#lists.insert(timer, milliseconds, this.#now());
-    if (timer._destroyed) {
-      timer._destroyed = false;
-      if (isRefed(timer)) this.countRefed(1);
-    }
-    this.#report();
-  }
-
-  /** @param {Item} timer that is asked for its number */
-  know(timer) {
-    this.#known.set(String(Timeout.numberOf(timer)), timer);
-  }
-
-  /** @returns {number} */
-  newNumber() {
-    this.#numbers += 1;
-    return this.#numbers;
-  }
-
-  /** @param {number} by */
-  countRefed(by) {
-    this.#refed += by;
-  }
-
-  /** @param {number} by */
-  countRefedImmediates(by) {
-    this.#refedImmediates += by;
-  }
-
+  /** @returns {Item | undefined} the timer that node runs next, if it is due */
   #due() {
-    const due = this.#lists.due(this.#pass);
+    const due = this.#dueInPass();
     if (due !== undefined) return due;
     this.#pass = this.#now();
-    return this.#lists.due(this.#pass);
+    return this.#dueInPass();
   }
 
-  /** @param {Item[]} immediates @returns {Item | undefined} the first that wasn't cleared */
-  #firstOf(immediates) {
-    while (immediates.length > 0 && immediates[0]._destroyed) immediates.shift();
-    return immediates[0];
-  }
-
-  /** @param {Item} timer that has run @param {number} start when it began to */
-  #ended(timer, start) {
-    if (timer._repeat && timer._idleTimeout !== -1) {
-      timer._idleTimeout = timer._repeat;
-      this.#lists.insert(timer, timer._idleTimeout, start);
-    } else if (!timer._idleNext && !timer._idlePrev && !timer._destroyed) {
-      if (isKnown(timer)) this.#known.delete(String(Timeout.numberOf(timer)));
-      if (isRefed(timer)) this.countRefed(-1);
-      timer._destroyed = true;
+  #dueInPass() {
+    const { timerListQueue } = this.#node.inside;
+    for (;;) {
+      const list = timerListQueue.peek();
+      if (list === undefined || list.expiry > this.#pass) return undefined;
+      const timer = list._idlePrev;
+      if (timer !== list && timeOf(timer) <= this.#pass && timer._onTimeout) return timer;
+      this.#turn();
     }
   }
 
-  /** @param {Item} immediate */
-  #endImmediate(immediate) {
-    immediate._destroyed = true;
-    this.#immediates -= 1;
-    if (isRefed(immediate)) this.countRefedImmediates(-1);
-    setRefed(immediate, null);
+  /** Takes the immediates that were made. So node's queue has one alone when it runs. */
+  #gather() {
+    const { immediateQueue } = this.#node.inside;
+    for (let item = immediateQueue.head; item !== null;) {
+      const next = item._idleNext;
+      [item._idlePrev, item._idleNext] = [null, null];
+      this.#next.push(item);
+      item = next;
+    }
+    [immediateQueue.head, immediateQueue.tail] = [null, null];
   }
 
-  /** @param {Item} timer that was cleared */
-  #unenroll(timer) {
-    if (timer._destroyed) return;
-    timer._destroyed = true;
-    if (isKnown(timer)) this.#known.delete(String(Timeout.numberOf(timer)));
-    this.#lists.remove(timer, isRefed(timer) === true);
-    if (isRefed(timer)) this.countRefed(-1);
-    timer._idleTimeout = -1;
-    this.#report();
+  /** @returns {any[]} node's lists, one for each number of milliseconds */
+  #lists() {
+    return Object.values(this.#node.inside.timerListMap);
   }
 
-  #report() {
-    const { deadline, immediates } = this.#reported;
-    if (deadline === this.deadline && immediates === this.#immediates) return;
-    this.#reported = { deadline: this.deadline, immediates: this.#immediates };
-    this.#changed();
+  /** @param {any} where */
+  #newMade(where) {
+    this.#numbers += 1;
+    return { number: this.#numbers, where };
+  }
+
+  /** @param {Item} item */
+  #madeOf(item) {
+    return this.#made.get(item[this.#node.inside.async_id_symbol]);
+  }
+
+  /** @param {Item} timer @returns {Described} */
+  #timer(timer) {
+    const { _idleTimeout: milliseconds, _repeat } = timer;
+    return { kind: "timer", milliseconds, repeats: _repeat !== null, where: this.#madeOf(timer)?.where };
+  }
+
+  /** @param {Item} immediate @returns {Described} */
+  #immediate(immediate) {
+    return { kind: "immediate", milliseconds: 0, repeats: false, where: this.#madeOf(immediate)?.where };
+  }
+
+  /** `Number(timer)` is counted for each run, so that it is the same in each: node's numbers also count other things. */
+  #count() {
+    const { Timeout } = this.#node.inside;
+    const numberOf = (/** @type {Item} */ timer) => this.#know(timer);
+    const name = Symbol.toPrimitive;
+    const own = likeEngine(/** @this {Item} */ function () {
+      return numberOf(this);
+    }, Timeout.prototype[name]);
+    defineProperty(Timeout.prototype, name, { value: own, writable: true, enumerable: true, configurable: true });
+  }
+
+  /** @param {Item} timer that is asked for its number @returns {number | undefined} */
+  #know(timer) {
+    const number = this.#madeOf(timer)?.number;
+    this.#known.set(String(number), timer);
+    timer[this.#node.inside.kHasPrimitive] = true;
+    return number;
+  }
+
+  /** @param {unknown} number @returns {Item | undefined} the timer that has this number, and hasn't ended */
+  #numbered(number) {
+    const timer = this.#known.get(String(number));
+    return timer === undefined || timer._destroyed || String(this.#madeOf(timer)?.number) !== String(number)
+      ? undefined : timer;
   }
 
   /** @returns {Functions} */
   #functions() {
-    /** @param {string} name @param {(...given: any[]) => any} make a function that replaces node's */
-    const starting = (name, make) => {
-      const engineOwn = engine[name];
-      return likeEngine(function (/** @type {any} */ callback, /** @type {unknown[]} */ ...given) {
-        // Node's own function throws its error, and starts nothing.
-        if (typeof callback !== "function") return engineOwn(callback);
-        return make(callback, given);
-      }, engineOwn);
-    };
-    /** @param {boolean} repeats */
-    const timing = (repeats) => (/** @type {Function} */ callback, /** @type {unknown[]} */ given) =>
-      this.start(callback, given[0], givenFrom(given, 1), { repeats, refed: true });
-    /** @param {string} name @param {"clearTimeout" | "clearImmediate"} method */
-    const clearing = (name, method) => likeEngine(function (/** @type {any} */ each) {
-      owner[method](each);
-    }, engine[name]);
-    const owner = this;
+    const { timers: { setTimeout, setInterval, setImmediate, clearTimeout, clearInterval, clearImmediate }, inside } =
+      this.#node;
+    const clearing = (/** @type {Function} */ own) => likeEngine((/** @type {any} */ timer) => {
+      if (timer instanceof EngineTimeout) return engine.clearTimeout(timer);
+      const isNumber = typeof timer === "number" || typeof timer === "string";
+      return own(isNumber ? this.#numbered(timer) : timer);
+    }, own);
     return {
-      setTimeout: starting("setTimeout", timing(false)),
-      setInterval: starting("setInterval", timing(true)),
-      setImmediate: starting("setImmediate", (callback, given) => this.startImmediate(callback, givenFrom(given, 0))),
-      clearTimeout: clearing("clearTimeout", "clearTimeout"),
-      clearInterval: clearing("clearInterval", "clearTimeout"),
-      clearImmediate: clearing("clearImmediate", "clearImmediate"),
+      setTimeout,
+      setInterval,
+      setImmediate,
+      clearTimeout: clearing(clearTimeout),
+      clearInterval: clearing(clearInterval),
+      clearImmediate: likeEngine((/** @type {any} */ immediate) => {
+        if (immediate instanceof EngineImmediate) engine.clearImmediate(immediate);
+        else if (immediate instanceof inside.Immediate) clearImmediate(immediate);
+      }, clearImmediate),
     };
   }
 
-  /** `util.promisify(setTimeout)` is the function of `timers/promises`. */
-  #joinPromises() {
-    for (const name of ["setTimeout", "setImmediate"]) {
-      const get = () => this.promises[name];
-      defineProperty(this.functions[name], util.promisify.custom, { enumerable: true, configurable: false, get });
-    }
+  /** @returns {Function} what AbortSignal.timeout is. Node's own function throws its error, and starts nothing then */
+  #timeoutSignal() {
+    const { Timeout, insert } = this.#node.inside;
+    return likeEngine(function (/** @type {any} */ delay) {
+      const isGood = Number.isInteger(delay) && delay >= 0 && delay <= MOST_MILLISECONDS;
+      if (!isGood) return apply(engineSignal, AbortSignal, [delay]);
+      const controller = new AbortController();
+      const abort = () => {
+        const text = "The operation was aborted due to timeout";
+        controller.abort(new DOMException(text, "TimeoutError"));
+      };
+      const timer = new Timeout(abort, delay, undefined, false, false);
+      insert(timer, timer._idleTimeout);
+      return controller.signal;
+    }, engineSignal);
   }
+}
+
+/** @param {Item} timer @returns {number} when it is due */
+const timeOf = (timer) => timer._idleStart + Math.trunc(timer._idleTimeout);
+
+/** @param {any} list of node's @returns {number} when its first timer is due; Infinity if it has none */
+const dueOf = (list) => (list._idlePrev === list ? Infinity : list._idlePrev._idleStart + list.msecs);
+
+/** @param {any} list of node's @returns {Item[]} its timers, the oldest first */
+function itemsOf(list) {
+  const items = [];
+  for (let item = list._idlePrev; item !== list; item = item._idlePrev) items.push(item);
+  return items;
+}
+
+/** @param {Item[]} immediates @returns {Item | undefined} the first that wasn't cleared */
+function firstOf(immediates) {
+  while (immediates.length > 0 && immediates[0]._destroyed) immediates.shift();
+  return immediates[0];
 }

@@ -9,7 +9,8 @@ import { promiseHooks } from "node:v8";
 import { MessagePort } from "node:worker_threads";
 import { restoreBuiltins } from "./builtins.mjs";
 import { restoreProcess } from "./install.mjs";
-import { clearAsyncIdStack } from "./internals.mjs";
+import { leaveContexts } from "./internals.mjs";
+import { isDropped } from "./microtasks.mjs";
 
 const { setImmediate: turnLater } = timers;
 
@@ -47,7 +48,7 @@ class Unwinding {
     this.hook.enable();
     this.#next ??= turnLater(this.#sweep);
     // What is unwound has left contexts of async_hooks open.
-    clearAsyncIdStack();
+    leaveContexts();
     this.#unwind();
   };
 
@@ -63,9 +64,9 @@ class Unwinding {
     this.unwound.goHome();
   };
 
-  /** @param {object} resource of what node calls @returns {boolean} whether that is the recorder's own */
+  /** @param {object} resource of what node calls @returns {boolean} whether that runs no code of the program */
   #isOwn(resource) {
-    return resource === this.#next || resource instanceof MessagePort;
+    return resource === this.#next || resource instanceof MessagePort || isDropped(resource);
   }
 
   /** @returns {never} */

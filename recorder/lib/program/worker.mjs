@@ -41,6 +41,7 @@ import { Looking } from "./looking.mjs";
 import { Loop } from "./loop.mjs";
 import { listingOf } from "./member.mjs";
 import { Mesh } from "./mesh.mjs";
+import { installMicrotasks } from "./microtasks.mjs";
 import { Moves } from "./moves.mjs";
 import { NODE } from "./node-surroundings.mjs";
 import { beginLoader } from "./node-loader.mjs";
@@ -216,13 +217,13 @@ function partsOf(player, blocks, mesh) {
   const ends = new surroundings.Ends({ agent, player, ports, threads: all, here, leave, closeSockets });
   const drain = () => late.loop?.drain();
   const events = new surroundings.PortEvents({ ports, uncaught: (thrown) => ends.uncaught(thrown), drain });
-  const timers = new Timers({ now: () => board.clock.now(), changed: () => {}, here: sourceOfCall });
+  const timers = new Timers({ now: () => board.clock.now(), here: sourceOfCall });
   const children = new Set();
   const keepers = new Keepers(shared.keepers[agent]);
   const waits = new WaitAsync({ moves, buffers, isPlaying, refuse });
   const loop = new Loop({
     moves, ports, events, timers, waits, ends, keepers, children, refuse, goHome: () => late.goHome?.(), leave,
-    notes: new TaskNotes(shared.tasks), here: sourceHere, hasPhases: surroundings.hasPhases, looking: new Looking(),
+    notes: new TaskNotes(shared.tasks), here: sourceHere, hasPhases: surroundings.hasPhases, looking: new Looking(timers.classes),
   });
   Object.assign(late, { loop, ends });
   return {
@@ -254,6 +255,7 @@ function installReplacements({ moves, buffers, waits, ends, events, timers, late
   globalThis.Atomics = atomics;
   waits.install(Atomics);
   installTimers(timers);
+  installMicrotasks(isPlaying);
   surroundings.serve(events);
   installRefusals(refuse);
   spawned.install();

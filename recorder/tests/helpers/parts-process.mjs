@@ -21,7 +21,7 @@ let now = 0;
 let tasks = [];
 const isPlaying = () => playing;
 const refuse = (name) => { throw new Error(`refused: ${name}`); };
-const own = new Timers({ now: () => now, changed() {} });
+const own = new Timers({ now: () => now });
 await beginLoader((url) => import(url));
 const graph = new Graph({ refuse });
 refuseRest({ refuse, isPlaying });

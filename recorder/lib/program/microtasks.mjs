@@ -1,0 +1,27 @@
+// What `queueMicrotask` calls. If the code of a run has been left, it is dropped: in some versions of node no hook shows
+// that it begins.
+
+import { apply, likeEngine, weakHas, weakSet } from "../primordials.mjs";
+import { member } from "./member.mjs";
+
+const { queueMicrotask: engine } = globalThis;
+
+/** @type {WeakMap<object, true>} what node is given to call */
+const ours = new WeakMap();
+
+/** @param {any} resource of what node calls @returns {boolean} whether it is dropped, as the code has been left */
+export const isDropped = ({ callback }) => typeof callback === "function" && weakHas(ours, callback);
+
+/** @param {() => boolean} isPlaying whether the thread's code has a part in a run */
+export function installMicrotasks(isPlaying) {
+  member(globalThis, "queueMicrotask", likeEngine((/** @type {any[]} */ ...given) => {
+    const [act] = given;
+    // Node throws its error.
+    if (typeof act !== "function") return apply(engine, undefined, given);
+    const call = () => {
+      if (isPlaying()) act();
+    };
+    weakSet(ours, call, true);
+    return engine(call);
+  }, engine));
+}
