@@ -42,7 +42,8 @@ function begin(parts, start, parentPort) {
   /** @type {any} */
   const { workerData, environment } = ports.unpacked({ workerData: start.workerData, environment: start.environment });
   const env = envOf(start.env, start.sharesEnv, refuse);
-  installThreads({ agent, workerData, parentPort, argv: argvOf(start), env, environment }, {
+  const { threadName } = start;
+  installThreads({ agent, workerData, parentPort, argv: argvOf(start), env, environment, threadName }, {
     Worker: workerClass({ ...parts, environment }), MessageChannel: channelClass(ports),
     receiveMessageOnPort: receiverOf(ports, moves),
     BroadcastChannel: broadcastClass({ ports, moves, mesh, buffers }),
@@ -61,7 +62,7 @@ export const NODE = {
   install: () => {},
   mainStart: ({ program, args }) => ({
     url: program, isCode: false, workerData: null, argv: args, env: { ...firstEnv }, sharesEnv: false,
-    environment: new Map(), where: "",
+    environment: new Map(), threadName: "", where: "",
   }),
   begin,
   evaluated,
