@@ -14,7 +14,6 @@ import { apply, construct, defineProperty, getOwnPropertyDescriptor, ownKeys, pr
  * @property {(name: string) => void} refuse gets names such as `net.Stream` and doesn't return
  * @property {(name: string) => void} [used] gets the name of what the machine answers, if the program calls it itself
  * @property {() => boolean} [isPlaying] until then nothing is refused
- * @property {(id: string) => void} [loads] gets each module that a program loads, the first time
  */
 
 const Modules = /** @type {any} */ (Module);
@@ -203,7 +202,6 @@ export function refuseRest(given) {
     if (AS_LOADED.includes(id) && (given.isPlaying?.() ?? true)) given.refuse(id);
     if (done.has(id)) return;
     done.add(id);
-    given.loads?.(id);
     if (MEMBERS[id] !== undefined) refuseOf(MEMBERS[id]);
     const exports = engineLoad(request, undefined, false);
     for (const name of namesIn(exports)) {
