@@ -205,8 +205,7 @@ export const SCHEME_MODULES = withLater({
   "node:sea": "harmless",
 }, ({ schemes }) => schemes);
 
-/** @type {Readonly<Partial<Record<Kind, string>>>} */
-export const { globals: GLOBALS } = withLater({ globals: {
+const ALL = withLater({ globals: {
   simulated: `Date Math console process clearImmediate setImmediate clearInterval clearTimeout setInterval setTimeout
     queueMicrotask structuredClone BroadcastChannel MessageChannel MessagePort performance SharedArrayBuffer Atomics
     WebAssembly crypto AbortSignal require module exports __filename __dirname`,
@@ -225,6 +224,9 @@ export const { globals: GLOBALS } = withLater({ globals: {
   real: "fetch",
   refused: "CompressionStream DecompressionStream PerformanceObserver EventSource",
 } }, ({ globals }) => ({ globals }));
+
+/** @type {Readonly<Partial<Record<Kind, string>>>} */
+export const GLOBALS = ALL.globals;
 
 /**
  * Methods that are refused though their objects aren't: what they do takes a thread of its own, or a real clock.
