@@ -45,14 +45,15 @@ describe("a module that each run makes anew", () => {
   });
 
   it("fails with the same stack each time if it can't be compiled", async (context) => {
-    const runs = await linesOf(context, {
+    const files = {
       "main.mjs": `const deep = async (times) => (times === 0 ? import("./bad.mjs") : deep(times - 1));
         try { await deep(2); } catch ({ stack }) {
-          console.log(/SyntaxError/.test(stack), /at deep .*main.mjs:1:\\d+/.test(stack), /compiled-once/.test(stack));
+          console.log(/SyntaxError/.test(stack), /at deep .*main.mjs:1:\\d+/.test(stack), /program-modules/.test(stack));
         }`,
       "bad.mjs": "export const bad = ;",
-    });
-    assert.deepEqual(runs, Array(3).fill(["true true false"]));
+    };
+    const { stdout } = await execute(process.execPath, [programOf(context, files)]);
+    assert.deepEqual(await linesOf(context, files), Array(3).fill([stdout.trim()]));
   });
 });
 

@@ -35,9 +35,9 @@ const PROGRAM = `
   AbortSignal.timeout(3); setTimeout(console.log, 30, "end");`;
 
 const REFUSED = `
-  import { fork } from "cluster"; import { createSecurePair } from "tls"; import fs from "fs";
+  import { fork } from "cluster"; import { takeCoverage } from "v8"; import fs from "fs";
   import { register } from "module";
-  for (const act of [() => fork(), () => createSecurePair("x"), () => new PerformanceObserver(() => {}), () => fs.watch("."),
+  for (const act of [() => fork(), () => takeCoverage("x"), () => new PerformanceObserver(() => {}), () => fs.watch("."),
     () => register("x"),
     () => new CompressionStream("gzip"), () => process.chdir("/")]) try { act();
     } catch (error) { console.log(error.message); }`;
@@ -64,7 +64,7 @@ test("a program with files, timers, promises and streams goes as in node, and re
 test("functions that aren't simulated are refused by name in ES modules, too", async (context) => {
   const file = join(temporaryFolder(context), "main.mjs");
   writeFileSync(file, REFUSED);
-  const names = ["cluster.fork", "tls.createSecurePair", "PerformanceObserver", "fs.watch", "module.register",
+  const names = ["cluster.fork", "v8.takeCoverage", "PerformanceObserver", "fs.watch", "module.register",
     "CompressionStream", "process.chdir"];
   for (const { lines } of await runsOf(file)) assert.deepEqual(lines, names.map((name) => `refused: ${name}`));
 });

@@ -5,6 +5,7 @@ import { spawnSync } from "node:child_process";
 import Module, { createRequire } from "node:module";
 import { test } from "node:test";
 import { fileURLToPath } from "node:url";
+import { LATER, isSince } from "../lib/program/node-versions.mjs";
 import { GLOBALS, METHODS, MODULES, SCHEME_MODULES } from "../lib/program/surface-table.mjs";
 import { kindOf, kindOfGlobal, refuseRest, unknownNames } from "../lib/program/surface.mjs";
 
@@ -13,8 +14,38 @@ const KINDS = ["simulated", "harmless", "real", "refused"];
 const words = (text) => text.split(/\s+/).filter((word) => word !== "");
 
 test("node has no module, export or global that the tables don't know", () => {
-  assert.match(process.version, /^v20\./, "another major version of node needs tables of its own");
   assert.deepEqual(unknownNames(), []);
+});
+
+/** The names of a version, as paths from an object that has all modules and globals. */
+function namesOf({ modules, schemes, globals, methods }) {
+  const ofModules = Object.entries({ ...modules, ...schemes }).flatMap(([id, row]) =>
+    Object.values(row).flatMap(words).map((name) => [id, name]));
+  const ofGlobals = Object.values(globals).flatMap(words).map((name) => ["globalThis", name]);
+  const ofMethods = Object.entries(methods).flatMap(([path, names]) => words(names).map((name) => [path, name]));
+  return { ofModules, others: [...ofGlobals, ...ofMethods] };
+}
+
+for (const version of LATER) {
+  test(`node has what the table has from version ${version.from} on, and no node before it has any of that`, () => {
+    const { ofModules, others } = namesOf(version);
+    const hasModule = (id) => Module.isBuiltin(id);
+    const owner = (path) => path.split(".").reduce((from, name) => from?.[name], globalThis);
+    const isThere = ([id, name]) => (hasModule(id) ? name in require(id) : name in (owner(id) ?? {}));
+    const wrong = [...ofModules, ...others].filter((each) => isThere(each) !== isSince(version.from));
+    assert.deepEqual(wrong.map((each) => each.join(".")), []);
+    assert.ok(ofModules.length > 30 && others.length > 10);
+  });
+}
+
+test("locks of other threads are refused by their names, and never node's own", { skip: !isSince(24) }, () => {
+  const found = inProcess(`
+    const { locks } = require("worker_threads");
+    console.log(JSON.stringify([locks === navigator.locks, by(() => locks.request("name", () => {})),
+      by(() => navigator.locks.query()), by(() => new Blob([]).textStream()),
+      by(() => performance.eventLoopUtilization()), by(() => require("perf_hooks").eventLoopUtilization())]));`);
+  assert.deepEqual(found, [true, "navigator.locks.request", "navigator.locks.query", "Blob.textStream",
+    "Performance.eventLoopUtilization", "Performance.eventLoopUtilization"]);
 });
 
 test("no name is of two kinds, and each kind is one of four", () => {
@@ -87,7 +118,7 @@ function inProcess(code) {
 
 test("all that is refused calls `refuse` with its name, by require, node: and getBuiltinModule", () => {
   const found = inProcess(`
-    const early = by(() => process.getBuiltinModule("node:tls").createSecurePair());
+    const early = by(() => process.getBuiltinModule("node:v8").takeCoverage());
     const ofMembers = by(() => require("fs").promises.watch());
     // What several modules export is refused by one of its names.
     const names = new Map();
@@ -103,6 +134,10 @@ test("all that is refused calls `refuse` with its name, by require, node: and ge
         if ("value" in descriptor) see(exports, name, id.replace("node:", "") + "." + name);
       }
     }
+    for (const [path, list] of Object.entries(METHODS)) {
+      const owner = path.split(".").reduce((from, name) => from?.[name], globalThis);
+      for (const name of list.split(/\\s+/)) if (owner?.[name]) see(owner, name, path.replace(/(.constructor)?.prototype$/, "") + "." + name);
+    }
     for (const name of Object.getOwnPropertyNames(globalThis)) if (kindOfGlobal(name) === "refused") see(globalThis, name, name);
     const wrong = [...names].flatMap(([value, shown]) => {
       const called = by(() => value()), made = by(() => new value());
@@ -116,7 +151,7 @@ test("all that is refused calls `refuse` with its name, by require, node: and ge
       by(() => require("domain")), by(() => require("node:domain")), ofMembers,
       PerformanceObserver === require("perf_hooks").PerformanceObserver,
       CompressionStream === require("stream/web").CompressionStream]));`);
-  assert.deepEqual(found, [[], true, "tls.createSecurePair", "cluster.fork", "Blob.text", "SubtleCrypto.digest",
+  assert.deepEqual(found, [[], true, "v8.takeCoverage", "cluster.fork", "Blob.text", "SubtleCrypto.digest",
     "WebAssembly.compileStreaming", "process.umask", "did", "inspector.console.log", "CompressionStream", "domain",
       "domain", "fs/promises.watch", true, true]);
 });
@@ -166,8 +201,11 @@ test("nothing is refused until the program plays, and what is harmless works", (
 
 test("each method that is refused is there", () => {
   for (const [path, names] of Object.entries(METHODS)) {
-    const owner = path.split(".").reduce((from, name) => from[name], globalThis);
-    for (const name of words(names)) assert.equal(typeof owner[name], "function", `${path}.${name}`);
+    const owner = path.split(".").reduce((from, name) => from?.[name], globalThis);
+    const isLater = (name) => LATER.some(({ from, methods }) => !isSince(from) && words(methods[path] ?? "").includes(name));
+    for (const name of words(names)) {
+      assert.equal(typeof owner?.[name], isLater(name) ? "undefined" : "function", `${path}.${name}`);
+    }
   }
   assert.equal(typeof refuseRest, "function");
 });

@@ -338,6 +338,41 @@ const SCENARIOS = {
   },
 };
 
+/** With what later versions of node have. */
+const LATER = {
+  "crypto: argon2 and keys in capsules": async (at, log) => {
+    const given = { message: "secret", nonce: Buffer.alloc(16), parallelism: 1, tagLength: 16, memory: 64, passes: 1 };
+    await noted(log, "argon2", (done) => crypto.argon2("argon2id", given, done));
+    await noted(log, "argon2", (done) => crypto.argon2("none", given, done));
+    const { publicKey, privateKey } = crypto.generateKeyPairSync("x25519");
+    const [, { sharedKey, ciphertext }] = await noted((name, error) => log(name, error), "encapsulate",
+      (done) => crypto.encapsulate(publicKey, done));
+    await noted((name, error, key) => log(name, error, key.equals(sharedKey)), "decapsulate",
+      (done) => crypto.decapsulate(privateKey, ciphertext, done));
+    await noted(log, "decapsulate", (done) => crypto.decapsulate(privateKey, Buffer.from("x"), done));
+  },
+  "fs.glob": async (at, log) => {
+    const sorted = (name, error, found) => log(name, error, [...found ?? []].sort());
+    await noted(sorted, "glob", (done) => fs.glob("**/*.txt", { cwd: at(".") }, done));
+    await noted(log, "glob", (done) => fs.glob("none*", { cwd: at(".") }, done));
+    const found = [];
+    for await (const each of fs.promises.glob("dir/*", { cwd: at(".") })) found.push(each);
+    log(found.sort());
+    try { fs.glob("*"); } catch (error) { log(error); }
+  },
+  "zlib: zstd": async (at, log) => {
+    const text = "text ".repeat(50);
+    const [, packed] = await noted(() => {}, "zstdCompress", (done) => zlib.zstdCompress(text, done));
+    await noted((name, error, data) => log(name, error, data.toString() === text), "zstdDecompress",
+      (done) => zlib.zstdDecompress(packed, done));
+    await noted(log, "zstdDecompress", (done) => zlib.zstdDecompress(Buffer.from("not packed"), done));
+    await noted(log, "zstdCompress", (done) => zlib.zstdCompress(5, done));
+    try { zlib.zstdCompress("x"); } catch (error) { log(error); }
+  },
+};
+
+if ("argon2" in crypto) Object.assign(SCENARIOS, LATER);
+
 for (const [name, scenario] of Object.entries(SCENARIOS)) {
   test(`as in node: ${name}`, async () => {
     playing = false;

@@ -141,13 +141,24 @@ function simulateNodeChance(chance) {
     return from + floor(chance.fraction() * (to - from));
   };
   put(crypto, "randomInt", likeEngine(randomIntOf, randomInt));
+  const { now } = Date;
+  const { randomUUIDv7 } = /** @type {any} */ (crypto);
+  // Later versions of node have it.
+  if (randomUUIDv7 !== undefined) put(crypto, "randomUUIDv7", likeEngine(() => uuidOf(chance, now()), randomUUIDv7));
 }
 
-/** @param {Chance} chance @returns {string} a version 4 UUID */
-function uuidOf(chance) {
+/**
+ * @param {Chance} chance
+ * @param {number} [time] in milliseconds
+ * @returns {string} a UUID of version 4; of version 7, if it begins with a time
+ */
+function uuidOf(chance, time) {
   const bytes = bytesFrom(16);
   chance.fill(bytes);
-  bytes[6] = (bytes[6] & 0x0f) | 0x40;
+  if (time !== undefined) {
+    for (let at = 5, left = time; at >= 0; at -= 1, left = floor(left / 256)) bytes[at] = left % 256;
+  }
+  bytes[6] = (bytes[6] & 0x0f) | (time === undefined ? 0x40 : 0x70);
   bytes[8] = (bytes[8] & 0x3f) | 0x80;
   /** @param {number} from @param {number} to */
   const part = (from, to) => hexOf(bytes, "hex", from, to);

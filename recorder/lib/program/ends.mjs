@@ -5,6 +5,7 @@ import process from "node:process";
 import { described } from "../agent/described.mjs";
 import { PHASE } from "../memory/layout.mjs";
 import { leaveContexts, serializeError } from "./internals.mjs";
+import { doesOtherwise } from "./node-versions.mjs";
 import { KIND } from "./ports.mjs";
 
 /** The exit code of a thread whose module is still being evaluated when nothing keeps it alive. */
@@ -109,11 +110,10 @@ export class Ends {
 
   /** Nothing keeps the thread alive. */
   leave() {
-    // Listeners get the code as it was before node sets that of an unsettled await.
     const before = Number(own.exitCode ?? 0);
     if (!this.isEvaluated) own.exitCode ??= UNSETTLED;
     const why = this.isEvaluated ? "" : "has a top-level await that never settles";
-    this.#emitExit(before);
+    this.#emitExit(doesOtherwise("unsettledAtExit") ? Number(own.exitCode ?? 0) : before);
     const code = Number(own.exitCode ?? 0);
     const { agent, player: { table: { board } } } = this.leaving;
     if (agent !== 0) {

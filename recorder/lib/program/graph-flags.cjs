@@ -3,8 +3,6 @@
 "use strict";
 
 /** The `execArgv` of a thread that has a graph. */
-const GRAPH_FLAGS = Object.freeze([
-  "--experimental-vm-modules", "--experimental-import-meta-resolve", "--expose-internals",
-]);
+const GRAPH_FLAGS = Object.freeze(["--experimental-vm-modules", "--expose-internals"]);
 
 module.exports = { GRAPH_FLAGS };

@@ -31,7 +31,7 @@ const FEW_TIMES = 3;
 
 const { store, notify } = Atomics;
 
-/** What a thread needs that makes modules anew, besides the words of this process: see `graph.mjs`. */
+/** What a thread needs that makes modules anew, besides the words of this process. */
 const FLAGS = [...process.execArgv, ...GRAPH_FLAGS];
 
 /**

@@ -64,6 +64,7 @@ export function installCloning(buffers) {
  * @property {string[]} argv
  * @property {Record<string, string | undefined> | undefined} env
  * @property {Map<unknown, unknown>} environment
+ * @property {string} threadName
  */
 
 /**
@@ -71,10 +72,11 @@ export function installCloning(buffers) {
  * @param {Place} place
  * @param {Record<string, unknown>} classes of `worker_threads`
  */
-export function installThreads({ agent, workerData, parentPort, argv, env, environment }, classes) {
+export function installThreads({ agent, workerData, parentPort, argv, env, environment, threadName }, classes) {
   for (const [name, each] of Object.entries(classes)) member(threads, name, each);
   member(threads, "isMainThread", agent === 0);
   member(threads, "threadId", agent);
+  if ("threadName" in threads) member(threads, "threadName", threadName);
   if (agent === 0) member(threads, "resourceLimits", {});
   member(threads, "workerData", workerData);
   member(threads, "parentPort", parentPort);

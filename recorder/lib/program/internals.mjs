@@ -1,12 +1,14 @@
-// Functions of node that none of its modules exports. Only threads with the flags of `graph-flags.cjs` have them.
+// What the recorder uses of node's inside: all of it is here, with what is needed of it. Only threads with the flags of
+// `graph-flags.cjs` have it. If this node lacks something, no thread of a program begins, and the error names all of it.
 
 import { createRequire } from "node:module";
 import process from "node:process";
+import { types } from "node:util";
 
 const required = createRequire(import.meta.url);
 
-/** @param {string} name of a module of node's own, which is no literal for the checker of types @returns {any} */
-const internal = (name) => required(`internal/${name}`);
+/** @type {string[]} what this node lacks */
+const lacking = [];
 
 /**
  * Node warns of experiments and of its inside. The recorder uses them, and not the program, so no warning is shown.
@@ -25,15 +27,35 @@ export function withoutWarning(make) {
   }
 }
 
+/**
+ * A module of node's own. Its name is no literal, which the checker of types would look for.
+ * @param {string} id without `internal/`
+ * @param {Record<string, string>} needed the names of what it has to export, and what `typeof` says about them
+ * @returns {any}
+ */
+function inside(id, needed) {
+  let exported = /** @type {any} */ ({});
+  try {
+    exported = withoutWarning(() => required(`internal/${id}`));
+  } catch {
+    // All that is needed of it is missing.
+  }
+  for (const [name, type] of Object.entries(needed)) {
+    if (typeof exported[name] !== type) lacking.push(`${name} of internal/${id}`);
+  }
+  return exported;
+}
+
+/** @param {string} id of a module of node's, without `internal/` @returns {boolean} whether this node has it */
+const has = (id) => required("node:module").builtinModules.includes(`internal/${id}`);
+
 /** What of node isn't JavaScript, by the names of its parts; and the language's functions as node's own code takes them. */
-const { internalBinding, primordials } = withoutWarning(() => internal("test/binding"));
+const { internalBinding, primordials } = inside("test/binding", { internalBinding: "function", primordials: "object" });
 
-/** @param {string} id of a module of node's @returns {boolean} whether this node has it */
-const has = (id) => required("node:module").builtinModules.includes(id);
+const asyncHooks = inside("async_hooks", { clearAsyncIdStack: "function", newAsyncId: "function" });
 
-const asyncHooks = internal("async_hooks");
 /** What AsyncLocalStorage holds now; a later node has it here, and not in async_hooks. */
-const contextFrames = has("internal/async_context_frame") ? internal("async_context_frame") : { set() {} };
+const contextFrames = has("async_context_frame") ? inside("async_context_frame", { set: "function" }) : { set() {} };
 
 /** Forgets which contexts of async_hooks are open, and what AsyncLocalStorage holds. */
 export function leaveContexts() {
@@ -42,29 +64,94 @@ export function leaveContexts() {
 }
 
 /** The classes of node's own timers and immediates. */
-export const { Timeout, Immediate } = internal("timers");
+export const { Timeout, Immediate } = inside("timers", { Timeout: "function", Immediate: "function" });
 
 /** All child processes begin by this; the functions are called as its members. */
-export const processes = internal("child_process");
+export const processes = inside("child_process", { ChildProcess: "function", spawnSync: "function" });
 
 /** The form in which a thread hands on what it threw, and what the other thread makes of that. */
-export const { serializeError, deserializeError } = internal("error_serdes");
+export const { serializeError, deserializeError } = inside("error_serdes", {
+  serializeError: "function", deserializeError: "function",
+});
+
+/** Adds to an error's stack where its code is. */
+export const { decorateErrorStack, SideEffectFreeRegExpPrototypeSymbolReplace } = inside("util", {
+  decorateErrorStack: "function", SideEffectFreeRegExpPrototypeSymbolReplace: "function",
+});
+
+/** Reads the text of a classic script. */
+export const parseScript = inside("deps/acorn/acorn/dist/acorn", { parse: "function" }).parse;
+
+/** What a Blob has of its bytes. */
+export const { isBlob, kHandle } = inside("blob", { isBlob: "function", kHandle: "symbol" });
+
+/** Makes a loader of ES modules. Node itself asks for its loader by the second function each time. */
+const loaders = inside("modules/esm/loader", {
+  createModuleLoader: "function", getOrInitializeCascadedLoader: "function",
+});
+
+/** Finds the file that a specifier stands for. Node itself loads it before what reads modules, which needs it. */
+const { defaultResolve } = inside("modules/esm/resolve", { defaultResolve: "function" });
+
+/** Reads a module, and finds its format. */
+const { defaultLoadSync } = inside("modules/esm/load", { defaultLoadSync: "function" });
+
+/** What makes modules of what was read, by their formats. */
+export const { translators } = inside("modules/esm/translators", { translators: "object" });
+
+/** Makes the `require` of a module of CommonJS, and finds a module of node's own. */
+export const { makeRequireFunction, loadBuiltinModule } = inside("modules/helpers", {
+  makeRequireFunction: "function", loadBuiltinModule: "function",
+});
+
+/** By which a module of CommonJS has whether its code is running. */
+export const { kIsExecuting } = inside("modules/cjs/loader", { kIsExecuting: "symbol" });
+
+/** Runs what was passed to `process.nextTick`, and all microtasks. */
+export const runTicks = /** @type {() => void} */ (tickCallback());
+
+/** @returns {Function} */
+function tickCallback() {
+  const { _tickCallback } = /** @type {any} */ (process);
+  if (typeof _tickCallback !== "function") lacking.push("process._tickCallback");
+  return _tickCallback?.bind(process);
+}
 
 /**
- * @callback FindNames
- * @param {string} text of a CommonJS module
- * @returns {{ exports: Iterable<string>, reexports: Iterable<string> }} the names that it exports, and the requests of
- *   the modules whose names it exports too
+ * Reads a module.
+ * @param {string} url
+ * @param {{ format?: string, importAttributes?: object }} [context]
+ * @returns {{ format: string, source: unknown }}
  */
+export const readModule = (url, context = {}) => defaultLoadSync(url, { ...context });
 
-const LEXER = "internal/deps/cjs-module-lexer/lexer";
+/**
+ * @param {string} specifier
+ * @param {string} parentURL of the module that imports it
+ * @returns {string} the URL of what it stands for
+ */
+export const resolveModule = (specifier, parentURL) => defaultResolve(specifier, { parentURL }).url;
 
-/** @type {FindNames} what node itself calls: a module of JavaScript, or later a function that isn't JavaScript */
-export const namesOfCommonJS = has(LEXER) ? required(LEXER).parse
-  : (text) => {
-    const [exports, reexports] = internalBinding("cjs_lexer").parse(text);
-    return { exports, reexports };
-  };
+/**
+ * Has node's loader replaced by one that has loaded nothing yet, and that reads modules at once.
+ * @returns {any}
+ */
+export function freshLoader() {
+  const loader = loaders.createModuleLoader();
+  if (types.isAsyncFunction(loader.load)) {
+    loader.load = async (/** @type {string} */ url, /** @type {object} */ context) => {
+      const found = readModule(url, context);
+      // A module of CommonJS is read by what runs it.
+      return found.format === "commonjs" ? { ...found, source: null } : found;
+    };
+  }
+  loaders.getOrInitializeCascadedLoader = () => loader;
+  return loader;
+}
+
+/** Compiles a module of node's own once more. */
+const { compileFunction } = internalBinding?.("builtins") ?? {};
+if (typeof compileFunction !== "function") lacking.push("compileFunction of the binding builtins");
 
 /** The modules that timers are made of. */
 const TIMERS = Object.freeze(["internal/timers", "timers", "timers/promises"]);
@@ -95,9 +182,8 @@ export function timersOver({ now, begins }) {
   };
   /** @type {Map<string, any>} what the copies require, by name; node's own code asks for the last one when it is used */
   const modules = new Map([
-    ["internal/async_hooks", { ...asyncHooks, newAsyncId }], ["internal/event_target", internal("event_target")],
+    ["internal/async_hooks", { ...asyncHooks, newAsyncId }], ["internal/event_target", required("internal/event_target")],
   ]);
-  const { compileFunction } = internalBinding("builtins");
   const load = (/** @type {string} */ id) => {
     if (modules.has(id)) return modules.get(id);
     if (!TIMERS.includes(id)) return required(id);
@@ -109,3 +195,5 @@ export function timersOver({ now, begins }) {
   const [inside, timers, promises] = TIMERS.map(load);
   return { inside, timers, promises, counts };
 }
+
+if (lacking.length > 0) throw new Error(`node ${process.version.slice(1)} lacks ${lacking.join(", ")}`);

@@ -6,6 +6,7 @@ import process from "node:process";
 import timers from "node:timers";
 import { WORD } from "../memory/layout.mjs";
 import { Random } from "../memory/random.mjs";
+import { runTicks } from "./internals.mjs";
 import { READING } from "./reading.mjs";
 import { isForeign, pendingOf } from "./real-work.mjs";
 import { keeperText, taskText } from "./timer-texts.mjs";
@@ -15,8 +16,6 @@ const { setImmediate: turnLater, clearImmediate: turnNever } = timers;
 const own = process;
 /** @type {() => string[]} */
 const resources = own.getActiveResourcesInfo.bind(own);
-/** @type {() => void} */
-const runTicks = own._tickCallback.bind(own);
 
 /** From here on are the numbers of the rows by which threads draw tasks. */
 const TASKS = 64;

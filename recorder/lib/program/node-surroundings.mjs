@@ -5,19 +5,21 @@ import process from "node:process";
 import { broadcastClass } from "./broadcast.mjs";
 import { Ends } from "./ends.mjs";
 import { installThreads } from "./install.mjs";
-import { Graph } from "./graph.mjs";
 import { PortEvents, servePorts } from "./port-events.mjs";
 import { KIND, channelClass } from "./ports.mjs";
 import { envOf } from "./process-env.mjs";
+import { ProgramModules } from "./program-modules.mjs";
 import { receiverOf } from "./receiving.mjs";
 import { argvOf, evaluated } from "./start.mjs";
 import { workerClass } from "./workers.mjs";
 
 const firstEnv = { ...process.env };
 
+/** @typedef {{ begin(): void }} ProgramGraph a thread's modules; it forgets them for the next run */
+
 /**
  * @typedef {object} Surroundings what the code of a program's thread finds besides the language
- * @property {typeof Graph} Graph makes the thread's modules
+ * @property {new (given: { refuse: (what: string, place?: string) => void }) => ProgramGraph} Graph makes the modules
  * @property {boolean} hasPhases whether the event loop has the phases of node's
  * @property {typeof Ends} Ends
  * @property {typeof PortEvents} PortEvents
@@ -42,7 +44,8 @@ function begin(parts, start, parentPort) {
   /** @type {any} */
   const { workerData, environment } = ports.unpacked({ workerData: start.workerData, environment: start.environment });
   const env = envOf(start.env, start.sharesEnv, refuse);
-  installThreads({ agent, workerData, parentPort, argv: argvOf(start), env, environment }, {
+  const { threadName } = start;
+  installThreads({ agent, workerData, parentPort, argv: argvOf(start), env, environment, threadName }, {
     Worker: workerClass({ ...parts, environment }), MessageChannel: channelClass(ports),
     receiveMessageOnPort: receiverOf(ports, moves),
     BroadcastChannel: broadcastClass({ ports, moves, mesh, buffers }),
@@ -52,7 +55,7 @@ function begin(parts, start, parentPort) {
 
 /** @type {Surroundings} */
 export const NODE = {
-  Graph,
+  Graph: ProgramModules,
   hasPhases: true,
   Ends,
   PortEvents,
@@ -61,7 +64,7 @@ export const NODE = {
   install: () => {},
   mainStart: ({ program, args }) => ({
     url: program, isCode: false, workerData: null, argv: args, env: { ...firstEnv }, sharesEnv: false,
-    environment: new Map(), where: "",
+    environment: new Map(), threadName: "", where: "",
   }),
   begin,
   evaluated,

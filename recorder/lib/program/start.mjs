@@ -29,7 +29,7 @@ function entryOf(url) {
 /**
  * Evaluates the thread's module.
  * @param {{ url: string, isCode: boolean }} start
- * @param {import("./graph.mjs").Graph} graph
+ * @param {import("./program-modules.mjs").ProgramModules} graph
  * @returns {Promise<unknown>}
  */
 export async function evaluated({ url, isCode }, graph) {

@@ -1,6 +1,9 @@
 // All that node 20 has for a program, and what becomes of it in a run: `simulated` is replaced or done by a synchronous
 // twin, and `harmless` stays node's own. `real` is answered by the machine and noted with its name and line. `refused`
-// ends the run with its name and line. One word stands for a whole module.
+// ends the run with its name and line. One word stands for a whole module. `node-versions.mjs` adds what later versions
+// have.
+
+import { withLater } from "./node-versions.mjs";
 
 /** @typedef {"simulated" | "harmless" | "real" | "refused"} Kind */
 /** @typedef {Kind | Partial<Record<Kind, string>>} Row of a module; the names of its exports by kind */
@@ -13,7 +16,7 @@ const PARTS = [
 ];
 
 /** @type {Readonly<Record<string, Row>>} by the names of the modules that take or leave `node:` */
-export const MODULES = Object.freeze({
+export const MODULES = withLater({
   ...Object.fromEntries(PARTS.map((name) => [name, /** @type {Kind} */ ("harmless")])),
   assert: "harmless",
   "assert/strict": "harmless",
@@ -83,8 +86,7 @@ export const MODULES = Object.freeze({
   },
   http: {
     harmless: `METHODS STATUS_CODES Agent IncomingMessage OutgoingMessage ServerResponse validateHeaderName
-      validateHeaderValue setMaxIdleHTTPParsers maxHeaderSize globalAgent _connectionListener WebSocket CloseEvent
-      MessageEvent`,
+      validateHeaderValue setMaxIdleHTTPParsers maxHeaderSize globalAgent _connectionListener`,
     real: "ClientRequest Server createServer get request",
   },
   http2: {
@@ -98,10 +100,9 @@ export const MODULES = Object.freeze({
   module: {
     harmless: `_cache _pathCache _extensions globalPaths wrap wrapper _debug isBuiltin _readPackage _findPath _stat
       _nodeModulePaths _resolveLookupPaths _load _resolveFilename createRequire _initPaths _preloadModules
-      Module builtinModules findSourceMap SourceMap stripTypeScriptTypes constants enableCompileCache flushCompileCache
-      getCompileCacheDir findPackageJSON`,
+      Module builtinModules findSourceMap SourceMap`,
     simulated: "syncBuiltinESMExports",
-    refused: "register registerHooks runMain",
+    refused: "register runMain",
   },
   net: {
     harmless: `_normalizeArgs _setSimultaneousAccepts BlockList SocketAddress isIP isIPv4 isIPv6 _createServerHandle
@@ -131,9 +132,9 @@ export const MODULES = Object.freeze({
       availableMemory getuid geteuid getgid getegid getgroups allowedNodeEnvironmentFlags assert features
       _fatalException hasUncaughtExceptionCaptureCallback _tickCallback sourceMapsEnabled setSourceMapsEnabled
       getBuiltinModule umask cwd title ppid execPath debugPort argv0 _eval _preload_modules report mainModule
-      _startProfilerIdleNotifier _stopProfilerIdleNotifier finalization loadEnvFile threadCpuUsage`,
+      _startProfilerIdleNotifier _stopProfilerIdleNotifier loadEnvFile`,
     refused: `binding _linkedBinding dlopen _kill kill openStdin setUncaughtExceptionCaptureCallback _debugProcess
-      _debugEnd chdir initgroups setgroups setegid seteuid setgid setuid ref unref execve`,
+      _debugEnd chdir initgroups setgroups setegid seteuid setgid setuid`,
   },
   punycode: "harmless",
   querystring: "harmless",
@@ -160,7 +161,7 @@ export const MODULES = Object.freeze({
   tls: {
     harmless: `CLIENT_RENEG_LIMIT CLIENT_RENEG_WINDOW DEFAULT_CIPHERS DEFAULT_ECDH_CURVE DEFAULT_MIN_VERSION
       DEFAULT_MAX_VERSION getCiphers rootCertificates convertALPNProtocols checkServerIdentity createSecureContext
-      SecureContext getCACertificates setDefaultCACertificates`,
+      SecureContext`,
     real: "TLSSocket Server createServer connect",
     refused: "createSecurePair",
   },
@@ -172,7 +173,7 @@ export const MODULES = Object.freeze({
   v8: {
     harmless: `cachedDataVersionTag getHeapSnapshot getHeapStatistics getHeapSpaceStatistics getHeapCodeStatistics
       Serializer Deserializer DefaultSerializer DefaultDeserializer deserialize serialize writeHeapSnapshot promiseHooks
-      queryObjects startupSnapshot GCProfiler isStringOneByteRepresentation`,
+      queryObjects startupSnapshot GCProfiler`,
     refused: "setFlagsFromString takeCoverage stopCoverage setHeapSnapshotNearHeapLimit",
   },
   vm: {
@@ -184,7 +185,7 @@ export const MODULES = Object.freeze({
   worker_threads: {
     simulated: `isMainThread MessagePort MessageChannel receiveMessageOnPort resourceLimits threadId SHARE_ENV Worker
       parentPort workerData BroadcastChannel setEnvironmentData getEnvironmentData`,
-    harmless: "markAsUntransferable isMarkedAsUntransferable",
+    harmless: "markAsUntransferable",
     refused: "moveMessagePortToContext postMessageToThread",
   },
   zlib: {
@@ -195,17 +196,16 @@ export const MODULES = Object.freeze({
       createInflate createDeflateRaw createInflateRaw createGzip createGunzip createUnzip createBrotliCompress
       createBrotliDecompress`,
   },
-});
+}, ({ modules }) => modules);
 
 /** @type {Readonly<Record<string, Row>>} the modules that are only there with `node:` */
-export const SCHEME_MODULES = Object.freeze({
+export const SCHEME_MODULES = withLater({
   "node:test": "refused",
   "node:test/reporters": "refused",
   "node:sea": "harmless",
-});
+}, ({ schemes }) => schemes);
 
-/** @type {Readonly<Partial<Record<Kind, string>>>} */
-export const GLOBALS = Object.freeze({
+const ALL = withLater({ globals: {
   simulated: `Date Math console process clearImmediate setImmediate clearInterval clearTimeout setInterval setTimeout
     queueMicrotask structuredClone BroadcastChannel MessageChannel MessagePort performance SharedArrayBuffer Atomics
     WebAssembly crypto AbortSignal require module exports __filename __dirname`,
@@ -222,16 +222,20 @@ export const GLOBALS = Object.freeze({
     PerformanceEntry PerformanceMark PerformanceMeasure PerformanceObserverEntryList PerformanceResourceTiming FormData
     Headers Request Response Crypto CryptoKey SubtleCrypto CustomEvent gc`,
   real: "fetch",
-  refused: "CompressionStream DecompressionStream PerformanceObserver WebSocket EventSource CloseEvent",
-});
+  refused: "CompressionStream DecompressionStream PerformanceObserver EventSource",
+} }, ({ globals }) => ({ globals }));
+
+/** @type {Readonly<Partial<Record<Kind, string>>>} */
+export const GLOBALS = ALL.globals;
 
 /**
  * Methods that are refused though their objects aren't: what they do takes a thread of its own, or a real clock.
  * @type {Readonly<Record<string, string>>}
  */
-export const METHODS = Object.freeze({
-  "Blob.prototype": "arrayBuffer text stream",
+export const METHODS = withLater({
+  "Blob.prototype": "arrayBuffer bytes text stream",
+  "Performance.prototype": "eventLoopUtilization",
   "SubtleCrypto.prototype": `encrypt decrypt sign verify digest generateKey deriveKey deriveBits importKey exportKey
     wrapKey unwrapKey`,
   WebAssembly: "compileStreaming instantiateStreaming",
-});
+}, ({ methods }) => methods);

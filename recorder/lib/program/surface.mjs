@@ -14,7 +14,6 @@ import { apply, construct, defineProperty, getOwnPropertyDescriptor, ownKeys, pr
  * @property {(name: string) => void} refuse gets names such as `net.Stream` and doesn't return
  * @property {(name: string) => void} [used] gets the name of what the machine answers, if the program calls it itself
  * @property {() => boolean} [isPlaying] until then nothing is refused
- * @property {(id: string) => void} [loads] gets each module that a program loads, the first time
  */
 
 const Modules = /** @type {any} */ (Module);
@@ -58,7 +57,7 @@ const namesIn = (exports) => Object.getOwnPropertyNames(exports).filter((name) =
  * @returns {string[]} such as `fs.readFile` and `fetch`
  */
 export function unknownNames() {
-  const ids = [...Modules.builtinModules, ...Object.keys(SCHEME_MODULES)];
+  const ids = [...Modules.builtinModules, ...Object.keys(SCHEME_MODULES).filter((id) => isBuiltin(id))];
   const publicIds = ids.filter((id) => !id.startsWith("internal/"));
   const exported = publicIds.flatMap((id) => {
     const row = rowOf(id);
@@ -173,6 +172,12 @@ function refuseOfProcess({ refuse, isPlaying = () => true }) {
   }
 }
 
+/** What isn't shown of the path of a method. */
+const OF_PROTOTYPE = /(?:\.constructor)?\.prototype\./;
+
+/** @param {string} path of what has methods @returns {any} undefined if this node doesn't have it */
+const ownerOf = (path) => path.split(".").reduce((from, name) => from?.[name], /** @type {any} */ (globalThis));
+
 /**
  * Replaces what the tables refuse, and what the machine answers: for globals and `process` now, and for each other
  * module as a program loads it. Some modules do something when they are loaded. Call it once in a thread. Ask for
@@ -185,8 +190,9 @@ export function refuseRest(given) {
   }
   for (const [path, names] of Object.entries(METHODS)) {
     const refused = (/** @type {string} */ shown) => refusing(shown, given);
-    const owner = path.split(".").reduce((from, name) => from[name], /** @type {any} */ (globalThis));
-    for (const name of words(names)) replace(owner, name, `${path}.${name}`.replace(".prototype.", "."), refused);
+    const owner = ownerOf(path);
+    if (owner === undefined) continue;
+    for (const name of words(names)) replace(owner, name, `${path}.${name}`.replace(OF_PROTOTYPE, "."), refused);
   }
   refuseOfProcess(given);
   /** @type {Set<string>} */
@@ -196,7 +202,6 @@ export function refuseRest(given) {
     if (AS_LOADED.includes(id) && (given.isPlaying?.() ?? true)) given.refuse(id);
     if (done.has(id)) return;
     done.add(id);
-    given.loads?.(id);
     if (MEMBERS[id] !== undefined) refuseOf(MEMBERS[id]);
     const exports = engineLoad(request, undefined, false);
     for (const name of namesIn(exports)) {

@@ -4,6 +4,7 @@
 import fs from "node:fs";
 import util from "node:util";
 import { BUFFER_SIZE, FileHandle, engine, isInPieces, takeWatching } from "./file-handle.mjs";
+import { doesOtherwise } from "./node-versions.mjs";
 import { callLater, isThrown, outcomeOf, promiseLater, putTwin, replaceCall } from "./twin-calls.mjs";
 import { apply, defineProperty, getOwnPropertyDescriptor } from "../primordials.mjs";
 
@@ -20,8 +21,13 @@ const PLAIN = Object.freeze([
 ]);
 const STATS = Object.freeze(["stat", "lstat"]);
 
-/** @param {any[]} all without the callback @returns {any[]} with the option that only the twins have */
-const statArguments = ([path, options]) => [path, { ...options, throwIfNoEntry: true }];
+/**
+ * @param {string} name `stat` or `lstat`
+ * @param {any[]} all without the callback
+ * @returns {any} what its twin returns, without the option that only the twin has
+ */
+const statOf = (name, [path, options]) => engine[`${name}Sync`](path, name === "stat" && doesOtherwise("statWithoutEntry")
+  ? options : { ...options, throwIfNoEntry: true });
 
 /**
  * What the callback of read and write gets, and of their forms for several buffers.
@@ -29,6 +35,9 @@ const statArguments = ([path, options]) => [path, { ...options, throwIfNoEntry: 
  * @param {any[]} all
  */
 const counted = ({ value = 0, problem = null }, [, data]) => [problem, value, data];
+
+/** @param {Outcome} outcome @returns {unknown[]} what a callback gets, also if the value is undefined */
+const always = ({ value, problem }) => (problem === undefined ? [null, value] : [problem]);
 
 /** @param {Given} given */
 function putReads(given) {
@@ -52,11 +61,10 @@ function putCallbacks(given) {
   const { isPlaying = () => true } = given;
   for (const name of PLAIN) putTwin(given, files, name, engine[`${name}Sync`]);
   for (const name of STATS) {
-    putTwin(given, files, name, (...all) => engine[`${name}Sync`](...statArguments(all)));
+    putTwin(given, files, name, (...all) => statOf(name, all), { answer: always });
   }
-  putTwin(given, files, "cp", engine.cpSync, {
-    answer: ({ value, problem }) => (problem === undefined ? [null, value] : [problem]),
-  });
+  putTwin(given, files, "cp", engine.cpSync, { answer: always });
+  if ("glob" in files) putTwin(given, files, "glob", engine.globSync);
   putReads(given);
   const native = { native: engine.realpath.native };
   putTwin(given, native, "native", engine.realpathSync.native);
@@ -94,9 +102,10 @@ function putPromises(given) {
   const hasTwin = (/** @type {string} */ name) =>
     typeof promises[name] === "function" && typeof engine[`${name}Sync`] === "function";
   for (const name of PLAIN.filter((each) => each !== "open" && hasTwin(each))) put(name, engine[`${name}Sync`]);
-  for (const name of STATS) put(name, (...all) => engine[`${name}Sync`](...statArguments(all)));
+  for (const name of STATS) put(name, (...all) => statOf(name, all));
   put("cp", engine.cpSync);
   put("realpath", engine.realpathSync.native);
+  if ("glob" in promises) putGlob(given, promises);
   put("open", (...all) => new FileHandle(given, engine.openSync(...all)));
   for (const name of ["readFile", "writeFile", "appendFile"]) {
     const onPath = promises[name];
@@ -108,6 +117,14 @@ function putPromises(given) {
       return onPath(file, ...rest);
     });
   }
+}
+
+/** @param {Given} given @param {any} promises of which one function returns an iterator */
+function putGlob(given, promises) {
+  const { isPlaying = () => true } = given;
+  replaceCall(promises, "glob", async function* (/** @type {any[]} */ ...all) {
+    yield* isPlaying() ? await promiseLater(given, "glob", () => engine.globSync(...all)) : enginePromises.glob(...all);
+  });
 }
 
 /** @param {any} promises @param {any} path @param {any[]} rest */

@@ -9,20 +9,25 @@ import { promiseLater, putTwin, replaceCall } from "./twin-calls.mjs";
 
 /** @typedef {import("./twin-calls.mjs").Given} Given */
 
+/** The frames of `zstdCompress` have the size of their content, since all of it is there at once. Node's have not. */
 const ZLIB = Object.freeze([
   "brotliCompress", "brotliDecompress", "deflate", "deflateRaw", "gunzip", "gzip", "inflate", "inflateRaw", "unzip",
+  "zstdCompress", "zstdDecompress",
 ]);
 const CRYPTO = Object.freeze([
-  "checkPrime", "generateKey", "generatePrime", "hkdf", "pbkdf2", "randomFill", "scrypt",
+  "argon2", "checkPrime", "generateKey", "generatePrime", "hkdf", "pbkdf2", "randomFill", "scrypt",
 ]);
 const CRYPTO_ITSELF = Object.freeze([
-  "prng", "pseudoRandomBytes", "randomBytes", "randomInt", "rng", "sign", "verify",
+  "decapsulate", "encapsulate", "prng", "pseudoRandomBytes", "randomBytes", "randomInt", "rng", "sign", "verify",
 ]);
 
 /** Those whose callback gets undefined, not null, when there is no error. */
 const WITHOUT_NULL = Object.freeze(["checkPrime", "generatePrime", "randomInt"]);
 const withoutNull = (/** @type {import("./twin-calls.mjs").Outcome} */ { value, problem }) =>
   (problem === undefined ? [undefined, value] : [problem]);
+
+/** @param {readonly string[]} names @param {any} owner @returns {string[]} those that this node has */
+const thoseIn = (names, owner) => names.filter((name) => name in owner);
 
 /** @param {any} problem @returns {boolean} whether node's crypto throws it before it begins */
 const isOfArguments = (problem) => typeof problem?.code === "string" && problem.code.startsWith("ERR_");
@@ -32,8 +37,8 @@ function putCrypto(given) {
   const owner = /** @type {any} */ (crypto);
   /** @param {string} name */
   const howOf = (name) => ({ throws: isOfArguments, ...(WITHOUT_NULL.includes(name) && { answer: withoutNull }) });
-  for (const name of CRYPTO) putTwin(given, owner, name, owner[`${name}Sync`], howOf(name));
-  for (const name of CRYPTO_ITSELF) putTwin(given, owner, name, owner[name], howOf(name));
+  for (const name of thoseIn(CRYPTO, owner)) putTwin(given, owner, name, owner[`${name}Sync`], howOf(name));
+  for (const name of thoseIn(CRYPTO_ITSELF, owner)) putTwin(given, owner, name, owner[name], howOf(name));
   putTwin(given, owner, "generateKeyPair", owner.generateKeyPairSync, {
     throws: isOfArguments,
     answer: ({ value, problem }) => (problem === undefined ? [null, value.publicKey, value.privateKey] : [problem]),
@@ -84,7 +89,7 @@ function putWebAssembly(given) {
 export function putTwins(given) {
   putFiles(given);
   const owner = /** @type {any} */ (zlib);
-  for (const name of ZLIB) putTwin(given, owner, name, owner[`${name}Sync`]);
+  for (const name of thoseIn(ZLIB, owner)) putTwin(given, owner, name, owner[`${name}Sync`]);
   putCrypto(given);
   putWebAssembly(given);
 }

@@ -44,7 +44,6 @@ import { Mesh } from "./mesh.mjs";
 import { installMicrotasks } from "./microtasks.mjs";
 import { Moves } from "./moves.mjs";
 import { NODE } from "./node-surroundings.mjs";
-import { beginLoader } from "./node-loader.mjs";
 import { PortTable } from "../board/port-table.mjs";
 import { Ports } from "./ports.mjs";
 import { printAtOnce } from "./printing.mjs";
@@ -295,7 +294,7 @@ function printedName() {
 /**
  * Begins the thread's part in a run.
  * @param {Parts} parts
- * @param {import("./graph.mjs").Graph} graph
+ * @param {import("./node-surroundings.mjs").ProgramGraph} graph
  */
 function begin(parts, graph) {
   const { moves: { agent }, mesh, ends, keepers, loop } = parts;
@@ -336,7 +335,7 @@ function clear(parts) {
 /**
  * Awaits the thread's next part in a run, and begins it. It is called by the real loop.
  * @param {Parts} parts
- * @param {import("./graph.mjs").Graph} graph
+ * @param {import("./node-surroundings.mjs").ProgramGraph} graph
  */
 function serve(parts, graph) {
   const { agent, player, board } = parts.moves;
@@ -358,10 +357,9 @@ function serve(parts, graph) {
   }
 }
 
-/** @param {(url: string) => Promise<any>} load imports a module */
-export async function main(load) {
+/** The thread's part in the runs of its group. */
+export async function main() {
   const numbered = nextMessage();
-  await beginLoader(load);
   const graph = new surroundings.Graph({
     refuse: (/** @type {string} */ what, /** @type {string} */ place) =>
       refuse(`used ${what}, which isn't simulated`, place),
@@ -380,7 +378,6 @@ export async function main(load) {
   refuseRest({
     refuse: (/** @type {string} */ name) => refuse(`called ${name}, which isn't simulated`), isPlaying,
     used: (/** @type {string} */ name) => parts.real.note(name),
-    loads: (/** @type {string} */ id) => graph.loads(id),
   });
   surroundings.install(parts, graph);
   const home = () => {

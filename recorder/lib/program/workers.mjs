@@ -17,6 +17,8 @@ import { startThread } from "./thread-start.mjs";
 import { sent } from "./values.mjs";
 
 const { SHARE_ENV } = /** @type {any} */ (threads);
+/** What the Worker of this node has: later versions have more. */
+const { prototype: engine } = /** @type {any} */ (threads.Worker);
 
 /**
  * @typedef {object} OfNode what else workers of node need of their thread
@@ -35,6 +37,7 @@ const { SHARE_ENV } = /** @type {any} */ (threads);
  * @property {string[]} argv
  * @property {Record<string, string | undefined>} env
  * @property {boolean} sharesEnv whether it is that of the thread that starts it
+ * @property {string} threadName
  * @property {Map<unknown, unknown>} environment
  * @property {string} where it was started
  */
@@ -61,6 +64,9 @@ function urlOf(file, options) {
   throw typeError(`The worker script or module filename must be an absolute path or a relative path starting with `
     + `'./' or '../'.${/^(?:file:|data:)/.test(file) ? " Wrap URLs with `new URL`." : ""} Received "${file}"`, "ERR_WORKER_PATH");
 }
+
+/** @param {any} options @returns {string} what `threadName` is */
+const nameOf = ({ name }) => (name ? name.trim() : "WorkerThread");
 
 /** @param {any} options that node refuses if they aren't of these kinds */
 function checkKinds({ argv, execArgv, env, name }) {
@@ -103,6 +109,7 @@ function started(starting, file, options, called) {
   const start = {
     url, isCode: options.eval === true, workerData, argv: itemsOf(options.argv ?? []).map(String),
     env: sharesEnv ? sharedEnv() : { ...(options.env ?? process.env) }, sharesEnv, environment,
+    threadName: nameOf(options),
   };
   return startThread(starting, start, itemsOf(options.transferList ?? []), called);
 }
@@ -122,6 +129,7 @@ class Worker extends EventEmitter {
   #port;
   #own;
   #isAlive = true;
+  #name;
   /** @type {((code: number | undefined) => void)[]} */
   #awaiting = [];
 
@@ -132,6 +140,7 @@ class Worker extends EventEmitter {
     this.#agent = agent;
     this.#port = port;
     this.#own = { refed: true, where };
+    this.#name = nameOf(options ?? {});
     this.threadId = agent;
     /** @type {any} */ (this).stdin = null;
     this.resourceLimits = {};
@@ -169,6 +178,11 @@ class Worker extends EventEmitter {
     return ended;
   }
 
+  /** @param {Worker} worker @returns {string | null} its name, while it hasn't ended */
+  static nameOf(worker) {
+    return worker.#isAlive ? worker.#name : null;
+  }
+
   /** @param {number} code of its end: what was sent before comes before that */
   #leave(code) {
     const { ports } = world();
@@ -198,10 +212,30 @@ class Worker extends EventEmitter {
   }
 }
 
-for (const name of ["stdout", "stderr", "performance", "getHeapSnapshot"]) {
+/** What isn't simulated of a Worker, though later versions of node alone have some of it. */
+const NOT_SIMULATED = Object.freeze([
+  "cpuUsage", "getHeapSnapshot", "getHeapStatistics", "startCpuProfile", "startHeapProfile", "stderr", "stdout",
+]);
+
+for (const name of NOT_SIMULATED.filter((each) => each in engine).concat("performance")) {
   // Node itself, and what lists its members, gets none.
   const get = () => (isCalledByAgents(get) ? world().refuse(`read Worker.${name}, which isn't simulated`) : undefined);
   defineProperty(Worker.prototype, name, { configurable: true, get });
+}
+
+if ("threadName" in engine) {
+  const get = /** @this {Worker} */ function () {
+    return Worker.nameOf(this);
+  };
+  defineProperty(Worker.prototype, "threadName", { configurable: true, get });
+}
+
+const DISPOSE = /** @type {any} */ (Symbol).asyncDispose;
+if (DISPOSE !== undefined && DISPOSE in engine) {
+  const value = /** @this {Worker} */ async function () {
+    await this.terminate();
+  };
+  defineProperty(Worker.prototype, DISPOSE, { configurable: true, writable: true, value });
 }
 
 /** @param {Starting} given @returns {Function} the class by which the program starts workers */

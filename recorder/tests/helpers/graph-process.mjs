@@ -2,16 +2,11 @@
 // each run of each program printed, and what was refused.
 
 import util from "node:util";
-import { Graph } from "../../lib/program/graph.mjs";
-import { beginLoader } from "../../lib/program/node-loader.mjs";
+import { ProgramModules } from "../../lib/program/program-modules.mjs";
 
 const [programs, runs] = process.argv.slice(2).map((word) => JSON.parse(word));
 let lines = [];
-await beginLoader((url) => import(url));
-const graph = new Graph({ refuse: (name) => {
-  lines.push(`refused: ${name}`);
-  throw new Error(name);
-} });
+const graph = new ProgramModules();
 const { log } = console;
 const { setTimeout } = globalThis;
 

@@ -1,10 +1,9 @@
 // The `blob:` URLs of a run. Each thread knows all of them: one that makes or revokes a URL hands that to the others. A
 // URL ends with the thread that has made it.
 
-import { createRequire } from "node:module";
 import { defineProperty } from "../../primordials.mjs";
+import { isBlob, kHandle } from "../internals.mjs";
 
-const { isBlob, kHandle } = createRequire(import.meta.url)("internal/blob");
 const { TypeError: EngineTypeError, Uint8Array: EngineBytes, URL: EngineURL } = globalThis;
 const { concat } = Buffer;
 

@@ -1,7 +1,7 @@
 // The modules and scripts of a program for browsers. A file is a module if a module imports it, whatever its name or
 // package says. Node's own modules aren't there.
 
-import { Graph as NodeGraph } from "../graph.mjs";
+import { Graph as ModuleGraph } from "./vm-graph.mjs";
 import { Scripts, placeOfImport } from "./scripts.mjs";
 
 const EngineException = DOMException;
@@ -10,7 +10,7 @@ const { TextDecoder: EngineDecoder, TypeError: EngineTypeError } = /** @type {an
 /** The types of modules in a blob. */
 const JAVASCRIPT = /^(?:text|application)\/(?:x-)?(?:java|ecma)script\s*(?:;|$)/i;
 
-export class Graph extends NodeGraph {
+export class Graph extends ModuleGraph {
   #scripts;
   #refuse;
 
@@ -26,7 +26,7 @@ export class Graph extends NodeGraph {
    * @param {(what: string, place?: string) => void} given.refuse called with what a program uses that isn't simulated
    */
   constructor({ refuse }) {
-    super({ refuse });
+    super();
     this.#refuse = refuse;
     this.#scripts = new Scripts((specifier, parent, attributes) => this.import(specifier, parent, attributes));
   }
@@ -58,7 +58,7 @@ export class Graph extends NodeGraph {
     return decoded(content);
   }
 
-  /** @param {string} url of a module that is there @returns {import("../module-urls.mjs").Format} */
+  /** @param {string} url of a module that is there @returns {import("./module-urls.mjs").Format} */
   formatOf(url) {
     const format = super.formatOf(url);
     return format === "json" || format === "builtin" ? format : "module";

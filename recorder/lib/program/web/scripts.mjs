@@ -2,10 +2,9 @@
 // stays in that scope for good: a `let` or a class couldn't be declared again in the next run. So these become
 // variables, in the same lines, and after a run the global object is as it was before.
 
-import { createRequire } from "node:module";
 import vm from "node:vm";
+import { parseScript } from "../internals.mjs";
 
-const { parse } = createRequire(import.meta.url)("internal/deps/acorn/acorn/dist/acorn");
 const { Script } = /** @type {any} */ (vm);
 
 /** @typedef {{ names: Set<string>, text: string, script: any }} Known a script, and what it declares */
@@ -58,7 +57,7 @@ function lexical({ type, kind, declarations, id, start, end }) {
 export function asVariables(text) {
   let body;
   try {
-    ({ body } = parse(text, { ecmaVersion: "latest", sourceType: "script", allowHashBang: true }));
+    ({ body } = parseScript(text, { ecmaVersion: "latest", sourceType: "script", allowHashBang: true }));
   } catch {
     return { text, names: new Set() };
   }
@@ -140,7 +139,7 @@ export class Scripts {
  */
 export function placeOfImport(text, specifier) {
   try {
-    const { body } = parse(text, { ecmaVersion: "latest", sourceType: "module", locations: true, allowHashBang: true });
+    const { body } = parseScript(text, { ecmaVersion: "latest", sourceType: "module", locations: true, allowHashBang: true });
     const found = body.find((/** @type {any} */ { source }) => source?.value === specifier);
     return found && { line: found.loc.start.line, column: found.loc.start.column + 1 };
   } catch {

@@ -1,6 +1,8 @@
 // Right: main and a worker add properties to Object.prototype, with names of descriptors' members and of proxies' traps.
 import { BroadcastChannel, Worker } from "node:worker_threads";
 
+// Later versions of node load this class when it is first needed, and fail if objects inherit such a setter by then.
+void MessageEvent;
 Object.prototype.get = function get() { return this; };
 Object.prototype.set = 5;
 Object.prototype.value = false;

@@ -1,12 +1,12 @@
-// Which file a specifier of an ES module stands for, and what kind of module a file is. Node's own resolver finds it
-// (import.meta.resolve with --experimental-import-meta-resolve), so packages, their conditions and errors are node's.
+// Which file a specifier of an ES module stands for, and what kind of module a file is. Node's own resolver finds it, so
+// packages, their conditions and errors are node's.
 
 import fs from "node:fs";
 import path from "node:path";
 import vm from "node:vm";
 import { fileURLToPath } from "node:url";
-import { nodeError } from "./node-error.mjs";
-import { nodeLoader } from "./node-loader.mjs";
+import { resolveModule } from "../internals.mjs";
+import { nodeError } from "../node-error.mjs";
 
 /** @typedef {"module" | "commonjs" | "json" | "builtin" | "other"} Format of a module; node refuses to load another */
 
@@ -29,6 +29,9 @@ const LIKELY_IN_MODULES = Object.freeze([
   "await is only valid in async functions and the top level bodies of modules", "Unexpected reserved word",
 ]);
 
+/** The codes of errors about a file that isn't there. Its URL is known. */
+const NO_FILE = Object.freeze(["ERR_UNSUPPORTED_DIR_IMPORT", "ERR_MODULE_NOT_FOUND"]);
+
 /** @param {string} url @returns {string} how node's messages name a module */
 const shown = (url) => (url.startsWith("file:") ? fileURLToPath(url) : url);
 
@@ -37,7 +40,15 @@ const shown = (url) => (url.startsWith("file:") ? fileURLToPath(url) : url);
  * @param {string} parent URL of the module that imports it
  * @returns {string} the URL as import.meta.resolve returns it, also if there is no such file
  */
-export const urlOf = (specifier, parent) => nodeLoader.resolve(`${specifier}`, parent);
+export function urlOf(specifier, parent) {
+  try {
+    return resolveModule(`${specifier}`, parent);
+  } catch (error) {
+    const { code, url } = /** @type {any} */ (error);
+    if (NO_FILE.includes(code) && url !== undefined) return url;
+    throw error;
+  }
+}
 
 /**
  * @param {string} specifier

@@ -1,0 +1,114 @@
+// What later versions of node have besides what `surface-table.mjs` has of node 20. Nothing else compares versions of
+// node. The first of the versions that were tried with a name is given; versions between them weren't tried.
+
+import process from "node:process";
+
+/** @typedef {import("./surface-table.mjs").Kind} Kind */
+/** @typedef {Partial<Record<Kind, string>>} Names of exports, by kind */
+
+/**
+ * @typedef {object} Version
+ * @property {number} from the major version of node
+ * @property {Readonly<Record<string, Names>>} modules
+ * @property {Readonly<Record<string, Names>>} schemes modules that are only there with `node:`
+ * @property {Names} globals
+ * @property {Readonly<Record<string, string>>} methods that are refused, as in `surface-table.mjs`
+ */
+
+/** @type {readonly Version[]} */
+export const LATER = Object.freeze([{
+  from: 24,
+  modules: {
+    crypto: {
+      simulated: "argon2 decapsulate encapsulate randomUUIDv7",
+      harmless: "argon2Sync createMac getMacs parsePKCS12",
+    },
+    dns: { real: "resolveTlsa" },
+    "dns/promises": { real: "resolveTlsa" },
+    fs: { simulated: "glob", harmless: "globSync mkdtempDisposableSync", refused: "Utf8Stream" },
+    "fs/promises": { simulated: "glob", refused: "mkdtempDisposable" },
+    http: { harmless: "CloseEvent MessageEvent", refused: "WebSocket setGlobalProxyFromEnv" },
+    module: {
+      harmless: `stripTypeScriptTypes constants enableCompileCache flushCompileCache getCompileCacheDir findPackageJSON
+        getSourceMapsSupport setSourceMapsSupport`,
+      refused: "registerHooks",
+    },
+    net: { refused: "_TransferredBoundSocket BoundSocket" },
+    perf_hooks: {
+      harmless: "importHistogram timerify", refused: "createSlidingWindowHistogram eventLoopUtilization",
+    },
+    process: { harmless: "finalization threadCpuUsage", refused: "execve ref unref" },
+    "stream/web": { harmless: "ReadableStreamTee" },
+    tls: { harmless: "getCACertificates getCertificateCompressionAlgorithms setDefaultCACertificates" },
+    v8: { harmless: "getCppHeapStatistics isStringOneByteRepresentation", refused: "startCpuProfile" },
+    worker_threads: {
+      simulated: "threadName",
+      harmless: "isInternalThread isMarkedAsUntransferable markAsUncloneable",
+      // Its methods are those of `navigator.locks`.
+      refused: "locks",
+    },
+    zlib: {
+      simulated: "zstdCompress zstdDecompress",
+      harmless: "zstdCompressSync zstdDecompressSync",
+      refused: "ZstdCompress ZstdDecompress createZstdCompress createZstdDecompress",
+    },
+  },
+  schemes: {
+    "node:sqlite": { harmless: "DatabaseSync Session StatementSync constants", refused: "backup" },
+  },
+  globals: {
+    harmless: `AsyncDisposableStack CloseEvent DisposableStack Float16Array Iterator Navigator SuppressedError URLPattern
+      navigator`,
+    refused: "WebSocket",
+  },
+  methods: {
+    "Blob.prototype": "textStream",
+    "SubtleCrypto.prototype": "decapsulateBits decapsulateKey encapsulateBits encapsulateKey getPublicKey",
+    "navigator.locks.constructor.prototype": "query request",
+  },
+}]);
+
+/** What functions of both do otherwise, by the version from which they do so. */
+const OTHERWISE = Object.freeze({
+  /** `fs.stat` and `fs.promises.stat` take the option `throwIfNoEntry`. */
+  statWithoutEntry: 24,
+  /** Listeners of `exit` get the code of a top-level await that never settles, and not the code before it. */
+  unsettledAtExit: 24,
+});
+
+/** @type {number} */
+const major = Number(/^v(\d+)\./.exec(process.version)?.[1]);
+
+/** @param {number} from @returns {boolean} whether this node is that version, or a later one */
+export const isSince = (from) => major >= from;
+
+/** @param {keyof typeof OTHERWISE} what @returns {boolean} whether this node does so */
+export const doesOtherwise = (what) => isSince(OTHERWISE[what]);
+
+/**
+ * Adds the names of later versions to those of the first one.
+ * @param {Readonly<Record<string, any>>} first
+ * @param {(version: Version) => Readonly<Record<string, any>>} ofVersion
+ * @returns {Readonly<Record<string, any>>} a row is a text, or texts by kind; a word for a whole module stays
+ */
+export function withLater(first, ofVersion) {
+  const all = { ...first };
+  for (const version of LATER) {
+    for (const [name, more] of Object.entries(ofVersion(version))) all[name] = joined(all[name], more);
+  }
+  return Object.freeze(all);
+}
+
+/** @param {any} first @param {any} more @returns {any} */
+function joined(first, more) {
+  if (first === undefined) return more;
+  if (typeof more === "string") return `${first} ${more}`;
+  return withNames(first, more);
+}
+
+/** @param {any} first @param {Names} more */
+function withNames(first, more) {
+  const names = { ...first };
+  for (const kind of /** @type {Kind[]} */ (Object.keys(more))) names[kind] = `${names[kind] ?? ""} ${more[kind]}`;
+  return names;
+}
