@@ -81,6 +81,8 @@ test("TypeScript that this node doesn't load is refused with what to do, without
     + ".js file. Source maps are followed, so lines are those of the .ts file";
   const problem = 'TypeError [ERR_UNKNOWN_FILE_EXTENSION]: Unknown file extension ".ts" for /agents.ts\n    at node';
   assert.equal(loadProblem(url, problem), why);
+  const without = "Error [ERR_NO_TYPESCRIPT]: Node.js is not compiled with TypeScript support\n    at node";
+  assert.equal(loadProblem(url, without), why);
   assert.equal(loadProblem(url, "Error: its own"), `${url} can't be loaded: Error: its own`);
   if (process.features.typescript) return;
   const { status, errors } = run(RECORD, [file, "--agents", "1", "--buffers", "4"]);

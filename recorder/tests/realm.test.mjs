@@ -95,7 +95,7 @@ describe("work that goes on later", () => {
     ["a callback of fs", "fs.readFile('/', () => { throw new Error('never seen'); });", "a callback"],
     ["a promise of fs", "fs.promises.readFile('/').catch(() => { throw new Error('never seen'); });", "a promise"],
     ["a stream of zlib", "zlib.createInflate().on('error', () => {}).end('none of it');", "a stream of zlib"],
-    ["a fetch", "fetch('data:,a').then(() => { throw new Error('never seen'); });", "a promise"],
+    ["a fetch", "fetch('data:,a').then(() => { throw new Error('never seen'); });", "a fetch"],
     ["a callback of crypto", "crypto.randomBytes(4, () => { throw new Error('never seen'); });", "a callback"],
     ["a callback of dns", "dns.lookup('localhost', () => { throw new Error('never seen'); });", "a callback"],
   ];

@@ -5,18 +5,17 @@
 import { createHook } from "node:async_hooks";
 import util from "node:util";
 import { promiseHooks } from "node:v8";
-import {
-  apply, defineProperty, getOwnPropertyDescriptor, uncurried, weakHas, weakSet,
-} from "../primordials.mjs";
-import { framesHere, sourceHere } from "./frames.mjs";
+import { apply, uncurried, weakHas, weakSet } from "../primordials.mjs";
+import { framesHere, isAgentsFile, sourceHere } from "./frames.mjs";
+import { methodOf, replace } from "./ordinary/patch.mjs";
 import { withoutOwn } from "./stack.mjs";
 
 const { inspect } = util;
 const { WeakMap: EngineWeakMap } = globalThis;
 const startsWith = uncurried(String.prototype.startsWith);
 const endsWith = uncurried(String.prototype.endsWith);
-const indexOf = uncurried(String.prototype.indexOf);
 const partOf = uncurried(String.prototype.slice);
+const found = uncurried(RegExp.prototype.exec);
 
 /** @type {Readonly<Record<string, string>>} what goes on later, by the type of node's resource */
 const WORDS = Object.freeze({
@@ -40,25 +39,28 @@ const LISTENERS = Object.freeze({
   type: "TickObject", file: "node:internal/event_target", throwing: "emitUncaughtException",
 });
 
-// Globals that node loads when they are asked for first. What their code does then is nothing of the agent's.
-const LOADED_LATE = Object.freeze([
-  "FormData", "Headers", "Request", "Response", "MessageEvent", "WebSocket", "EventSource", "CloseEvent",
-]);
+// Node loads some of its own modules when they are asked for first. What their code does then is nothing of the agent's.
+const LOADING = "node:internal/bootstrap/realm";
 
 // The frames of this file come before those of its caller.
 const OWN = import.meta.url;
 
 const SHOWN = Object.freeze({ depth: 0, customInspect: false, compact: true, breakLength: Infinity });
-const REJECTED = "{ <rejected> ";
-const HOOKS = ", [Symbol(async_id_symbol)]";
+const REJECTED = /\{\s+<rejected> /;
+/** What node's hooks have put in a promise. */
+const HOOKS = /,\s+\[?Symbol\(async_id_symbol\)/;
+const END = " }";
 
 /**
- * Where the reason ends in the text by which node shows a promise: before what its hooks have put there.
+ * Why a promise was rejected, from the text by which node shows it: nothing else says so at once.
  * @param {string} text
+ * @returns {string | undefined} undefined if it wasn't
  */
-function endOf(text) {
-  const found = indexOf(text, HOOKS);
-  return found < 0 ? text.length - 2 : found;
+function reasonIn(text) {
+  const begin = found(REJECTED, text);
+  if (begin === null) return undefined;
+  const reason = partOf(text, begin.index + begin[0].length);
+  return partOf(reason, 0, found(HOOKS, reason)?.index ?? reason.length - END.length);
 }
 
 /**
@@ -118,6 +120,17 @@ function isHarmlessTick() {
   return false;
 }
 
+/** @returns {boolean} whether node loads one of its own modules */
+function isLoading() {
+  const frames = framesHere();
+  for (let at = 0; at < frames.length; at += 1) {
+    const file = frames[at].getFileName();
+    if (file === LOADING) return true;
+    if (isAgentsFile(file)) return false;
+  }
+  return false;
+}
+
 export class Later {
   /** It notes from now on which promises something comes after, so it is made before the agents' module is loaded. */
   constructor() {
@@ -146,7 +159,7 @@ export class Later {
       if (weakHas(this.awaited, promise)) this.#find("a promise that it settles");
       this.settled[this.settled.length] = promise;
     });
-    this.#leaveLoading();
+    this.#nameFetch();
   }
 
   /**
@@ -179,7 +192,7 @@ export class Later {
    * @param {string | undefined} word
    */
   #find(word) {
-    if (word === undefined || this.found !== undefined) return;
+    if (word === undefined || this.found !== undefined || isLoading()) return;
     this.found = word;
     this.place = sourceHere();
   }
@@ -209,38 +222,20 @@ export class Later {
   /** @returns {string | undefined} why a promise was rejected, if nobody handles that */
   rejected() {
     for (let at = 0; at < this.settled.length; at += 1) {
-      const text = inspect(this.settled[at], SHOWN);
-      const from = indexOf(text, REJECTED);
-      if (from >= 0) return withoutOwn(partOf(text, from + REJECTED.length, endOf(text)));
+      const reason = reasonIn(inspect(this.settled[at], SHOWN));
+      if (reason !== undefined) return withoutOwn(reason);
     }
     return undefined;
   }
 
-  /** Lets node load what it loads late, without a note of it. */
-  #leaveLoading() {
-    for (const name of LOADED_LATE) {
-      const found = getOwnPropertyDescriptor(globalThis, name);
-      if (found?.get === undefined) continue;
-      const { get } = found;
-      found.get = () => this.#unwatched(() => apply(get, globalThis, []));
-      defineProperty(globalThis, name, found);
-    }
-  }
-
-  /**
-   * Does something that is no part of the agent's code.
-   * @template T
-   * @param {() => T} act
-   * @returns {T}
-   */
-  #unwatched(act) {
-    const { isWatching } = this;
-    this.isWatching = false;
-    try {
-      return act();
-    } finally {
-      this.isWatching = isWatching;
-    }
+  /** What a fetch leaves to be done is node's own, and differs from node to node: so the fetch itself is named. */
+  #nameFetch() {
+    replace(globalThis, "fetch", (engine) => methodOf((_self, given) => {
+      const isFirst = this.found === undefined;
+      const answer = apply(engine, globalThis, given);
+      if (isFirst && this.found !== undefined) this.found = "a fetch";
+      return answer;
+    }));
   }
 
   /** @param {string} type of node's resource @param {any} resource of which node's own names are known */

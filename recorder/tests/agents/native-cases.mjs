@@ -29,8 +29,18 @@ const read = { reads: PART, writes: [] };
 const written = { reads: [], writes: PART };
 const untouched = { reads: [], writes: [] };
 
+/** Whether this node's Response takes an array on shared memory, as a text; else it throws. */
+const TAKES_SHARED = Object.getOwnPropertyDescriptor(globalThis, "Response").get === undefined;
+
+/** Whether this node's `copy` takes any array; else it takes one of bytes alone, and throws. */
+const COPIES_ANY = doesNotThrow(() => Buffer.from("ab").copy(new Uint16Array(1)));
+
 /** What the cases that work do, what they are tried on, and which accesses must be seen. */
 const WORKING = {
+  "copy into words": [
+    words, (array) => Buffer.from("abcdef").copy(array, 2), { reads: [], writes: COPIES_ANY ? range(10, 16) : [] },
+  ],
+  ...(TAKES_SHARED ? { "Response": [bytes, (array) => new Response(array).headers.get("content-type"), read] } : {}),
   "TextDecoder.decode": [bytes, (array) => new TextDecoder().decode(array), read],
   "TextDecoder.decode of a DataView": [view, (array) => new TextDecoder().decode(array), read],
   "TextDecoder.decode of a buffer": [whole, (buffer) => new TextDecoder().decode(buffer), { reads: ALL, writes: [] }],
@@ -237,7 +247,7 @@ const REFUSED = {
   "crypto.randomFill": [bytes, (array) => crypto.randomFill(array, () => {})],
   "zlib.deflate": [bytes, (array) => zlib.deflate(array, () => {})],
   "execFileSync's input": [bytes, (array) => childProcess.execFileSync("cat", { input: array })],
-  "Response": [bytes, (array) => new Response(array)],
+  ...(TAKES_SHARED ? {} : { "Response": [bytes, (array) => new Response(array)] }),
   "vm.createContext": [whole, () => vm.createContext({})],
   "vm.runInNewContext": [whole, (buffer) => vm.runInNewContext("new Int32Array(buffer)[1]", { buffer })],
   "runInNewContext of a vm.Script": [whole, (buffer) => new vm.Script("buffer").runInNewContext({ buffer })],
@@ -247,6 +257,16 @@ const REFUSED = {
 };
 
 const path = join(tmpdir(), `recorder-natives-${process.pid}`);
+
+/** @returns {boolean} whether a function throws nothing */
+function doesNotThrow(body) {
+  try {
+    body();
+    return true;
+  } catch {
+    return false;
+  }
+}
 
 function writeAndRead(write) {
   const file = fs.openSync(path, "w+");

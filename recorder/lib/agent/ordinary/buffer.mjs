@@ -3,14 +3,14 @@
 
 import { KINDS } from "../../../script/kinds.mjs";
 import { apply, bufferOf, lengthOf, offsetOf, put, setPrototypeOf, tagOf, uncurried } from "../../primordials.mjs";
-import { blockNumber, refused } from "./context.mjs";
+import { blockNumber, refused, watching } from "./context.mjs";
 import { wrappedArray } from "./elements.mjs";
 import { constructing, copying, looking, madePrivate } from "./guards.mjs";
 import { wholeOf } from "./numbers.mjs";
 import { methodOf, replace, replaceEach } from "./patch.mjs";
 import { privateView } from "./reach.mjs";
 import { standIns } from "./species.mjs";
-import { ENGINE, report, reportAll, unwrapped, watchedOf } from "./watched.mjs";
+import { ENGINE, askedLength, report, reportAll, unwrapped, watchedOf } from "./watched.mjs";
 
 const EngineBytes = Uint8Array;
 const EngineBuffer = Buffer;
@@ -138,6 +138,17 @@ const likeness = (value) => {
 };
 
 /**
+ * Reports that bytes are read or written, of an array whose elements may be larger.
+ * @param {Watched} watched
+ * @param {number} from
+ * @param {number} to
+ * @param {boolean} writes
+ */
+function reportBytes({ place, offset }, from, to, writes) {
+  if (from < to) watching.seen(place, offset + from, offset + to, writes);
+}
+
+/**
  * `copy`, if one of the two is watched.
  * @param {Function} engine
  * @param {unknown} source
@@ -153,8 +164,8 @@ function copiedTo(engine, source, target, targetStart, sourceStart, sourceEnd) {
   const count = apply(engine, likeness(source), [likeness(target), to, from, end]);
   const read = watchedOf(source);
   const write = watchedOf(target);
-  if (read !== undefined) report(read, from, from + count, false);
-  if (write !== undefined) report(write, to, to + count, true);
+  if (read !== undefined) reportBytes(read, from, from + count, false);
+  if (write !== undefined) reportBytes(write, to, to + count, true);
   return apply(engine, unwrapped(source), [unwrapped(target), to, from, end]);
 }
 
@@ -171,8 +182,13 @@ const reading = (engine) => methodOf((self, given) => {
 
 /** @type {Standing} a method that returns another Buffer on the same memory */
 const sharingSlice = (engine) => methodOf((self, given) => {
-  const answer = apply(engine, self, given);
-  return tagOf(answer) === undefined || watchedOf(self) === undefined ? answer : wrappedArray(answer);
+  const watched = watchedOf(self);
+  if (watched === undefined) return apply(engine, self, given);
+  askedLength(watched);
+  const made = wrappedArray(apply(engine, watched.real, given));
+  const part = watchedOf(made);
+  if (part !== undefined) part.buffer = watched.buffer;
+  return made;
 });
 
 /** @type {(size: number) => (engine: Function) => Function} */
@@ -204,7 +220,7 @@ function replaceMethods() {
   replace(buffers, "write", (engine) => forBytes(engine, textWrite));
   replace(buffers, "toString", (engine) => forBytes(engine, textOf));
   put(buffers, "toLocaleString", buffers.toString);
-  replaceEach(buffers, ["equals", "compare", "indexOf", "lastIndexOf", "includes"], reading);
+  replaceEach(buffers, ["equals", "compare", "indexOf", "lastIndexOf", "includes", "toJSON"], reading);
   replaceEach(buffers, ["subarray", "slice"], sharingSlice);
   replace(buffers, "swap16", swapping(2));
   replace(buffers, "swap32", swapping(4));

@@ -12,7 +12,7 @@ import util from "node:util";
 import v8 from "node:v8";
 import vm from "node:vm";
 import zlib from "node:zlib";
-import { apply, is, ownKeys, put, tagOf, uncurried } from "../../primordials.mjs";
+import { apply, getOwnPropertyDescriptor, is, ownKeys, put, tagOf, uncurried } from "../../primordials.mjs";
 import { refused } from "./context.mjs";
 import {
   constructing, copying, copyingGiven, looking, madePrivate, refusing, refusingGiven, writing,
@@ -189,10 +189,15 @@ function watchMarks() {
   put(globalThis, "PerformanceMark", StandIn);
 }
 
-/** Classes that are loaded when they are asked for. */
+/**
+ * Classes that node loads when they are asked for. Where they are no getters, a look at them would load them in each
+ * thread, and they needn't be refused: they take an array on shared memory as a text, which reads it at once.
+ */
 function watchFetching() {
+  replace(globalThis, "fetch", refusing("fetch"));
+  if (getOwnPropertyDescriptor(globalThis, "BroadcastChannel")?.get === undefined) return;
   for (const name of ["Request", "Response", "WebSocket"]) {
-    const found = Object.getOwnPropertyDescriptor(globalThis, name);
+    const found = getOwnPropertyDescriptor(globalThis, name);
     if (found?.get === undefined) continue;
     const { get } = found;
     /** @type {Function | undefined} */
@@ -203,7 +208,6 @@ function watchFetching() {
     };
     Object.defineProperty(globalThis, name, found);
   }
-  replace(globalThis, "fetch", refusing("fetch"));
 }
 
 /** Patches the functions of node's modules and of the engine. */

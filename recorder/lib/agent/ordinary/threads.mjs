@@ -1,10 +1,10 @@
 // Memory that is given to other threads, by messages or as they are started. Nobody sees what they do with it. So
 // recorded memory is refused there, whatever is done with ordinary accesses, and other shared memory is noted.
 
-import { apply, bufferBehind, construct, proxyOf, put, uncurried, weakGet, weakSet } from "../../primordials.mjs";
+import { apply, bufferBehind, construct, getPrototypeOf, proxyOf, put, uncurried, weakGet, weakSet } from "../../primordials.mjs";
 import { blockNumber, watching } from "./context.mjs";
 import { anyReaches, revealed } from "./guards.mjs";
-import { methodOf, replace, replaceNeeded } from "./patch.mjs";
+import { methodOf, replace, replaceEach, replaceNeeded } from "./patch.mjs";
 import { WHOLLY, isRecorded } from "./reach.mjs";
 import { anyWatchedOf } from "./watched.mjs";
 
@@ -138,6 +138,13 @@ function started(made, given) {
   }
 }
 
+/** Node's locks are those of all its threads, and nobody orders who gets them. @param {{ locks?: object }} threads */
+function refuseLocks({ locks }) {
+  if (locks === undefined) return;
+  replaceEach(getPrototypeOf(locks), ["request", "query"], (_engine, name) => methodOf(() => watching.refuse(
+    `navigator.locks.${name} was called, and its locks aren't simulated: use a lock in \`buffers\``)));
+}
+
 /**
  * Patches what gives values to other threads.
  * @param {Threads} threads
@@ -151,5 +158,6 @@ export function watchThreads(threads) {
   }
   replaceNeeded(threads, "setEnvironmentData", handing("setEnvironmentData"));
   replace(threads, "postMessageToThread", handing("postMessageToThread"));
+  refuseLocks(threads);
   if (typeof process.send === "function") replace(process, "send", handing("process.send"));
 }
