@@ -13,11 +13,12 @@ import { simulated } from "./helpers/simulate.mjs";
 const module = agentsPath("cases");
 
 test("each entry of the package exports the functions and classes that its types declare, and no others", async () => {
-  for (const entry of ["recorder", "testing"]) {
-    const types = readFileSync(new URL(`../${entry}.d.mts`, import.meta.url), "utf8");
+  for (const entry of ["recorder.mjs", "testing.mjs", "testing.cjs"]) {
+    const types = readFileSync(new URL(`../${entry.replace(/mjs|cjs/, "d.cts")}`, import.meta.url), "utf8");
     const declared = [...types.matchAll(/^export (?:declare )?(?:function|class|const) (\w+)/gm)].map(([, name]) => name);
     assert.ok(declared.length > 1);
-    assert.deepEqual(Object.keys(await import(`../${entry}.mjs`)), declared.sort());
+    const { default: all, ...named } = await import(`../${entry}`);
+    assert.deepEqual(Object.keys(all ?? named).sort(), declared.sort());
   }
 });
 

@@ -8,7 +8,7 @@ import { OPTIONS, defaultText, optionsOf, wordOf } from "../lib/options/table.mj
 
 const textOf = (name) => readFileSync(new URL(`../${name}`, import.meta.url), "utf8");
 const REFERENCE = textOf("../docs/RECORDER.md");
-const TYPES = textOf("recorder.d.mts");
+const TYPES = textOf("recorder.d.cts");
 
 /** The names of the options that somebody takes. */
 const namesOf = (taker) => optionsOf(taker).map(([name]) => name);

@@ -152,10 +152,10 @@ test("`testProgram` fails with the finding, shortened and kept, and passes other
   assert.match(readdirSync(join(temporary, own))[0], /^waits-elsewhere\.mjs-[0-9a-f]{12}$/);
 });
 
-test("`assertProgram` is a part of any test: it fails with an AssertionError if a run fails", async (context) => {
+test("`assertProgram` is a part of any test: it fails with RunFailed if a run fails", async (context) => {
   await assertProgram({ program: knownProgram("hand-over/right.mjs"), seeds: 3 });
   const out = temporaryFolder(context);
   await assert.rejects(assertProgram({ program: TOO_SOON, seeds: "1..40", shorten: false, out }), (error) => {
-    return error instanceof assert.AssertionError && /^seed \d+: race/.test(error.message);
+    return error.name === "RunFailed" && /^seed \d+: race/.test(error.message);
   });
 });

@@ -183,7 +183,7 @@ test("each row of the table is a strategy by its word, and draws among the agent
 });
 
 test("each row of the table is named in the help, in the reference and in the declared types", () => {
-  const [reference, types] = ["../docs/RECORDER.md", "recorder.d.mts"].map((name) => {
+  const [reference, types] = ["../docs/RECORDER.md", "recorder.d.cts"].map((name) => {
     return readFileSync(new URL(`../${name}`, import.meta.url), "utf8");
   });
   for (const [name, { hasLikelihood }] of Object.entries(STRATEGIES)) {

@@ -105,7 +105,7 @@ test("a failing test shows seed, ending, its explained end, and where its files 
   const shown = explained.slice(explained.findIndex((line) => line.startsWith("block ")), -1);
   // The failure as the reporter shows it, without the indentation that it gives.
   const lines = output.split("\n").map((line) => line.replace(/^ {2}/, ""));
-  const from = lines.indexOf("AssertionError [ERR_ASSERTION]: seed 29: deadlock; the 28 runs before it passed");
+  const from = lines.indexOf("RunFailed: seed 29: deadlock; the 28 runs before it passed");
   assert.notEqual(from, -1, output);
   assert.deepEqual(lines.slice(from + 1, from + 4), [
     '  agent 0 waits at byte 4 of block 0: its call 19, ["wait", "Int32", 1, 0], at agents.mjs:12:60', "",
@@ -208,14 +208,15 @@ test("a test's failing run is kept in the same folder each time, which no link l
   assert.throws(() => keptFolder(module, "one"), /isn't a folder of this user: `out` can name another one$/);
 });
 
-test("assertAgents fails as an assertion does, in any test", async (the) => {
+test("assertAgents fails with RunFailed, in any test", async (the) => {
   const out = join(temporaryFolder(the), "out");
   const options = { module: "./agents/cases.mjs", agents: 2, buffers: [12], everywhere: true, sabsim: false, out };
   await assertAgents({ ...options, args: ["addition"], seeds: 5 });
   assert.ok(!existsSync(out));
   await assert.rejects(assertAgents({ ...options, args: ["waitsForEver"], seeds: "4..9" }), (error) => {
-    assert.ok(error instanceof assert.AssertionError);
-    assert.equal(error.code, "ERR_ASSERTION");
+    // jest shows two values that differ if an error says that it is an AssertionError.
+    assert.ok(error instanceof Error && !(error instanceof assert.AssertionError));
+    assert.deepEqual([error.name, error.code, Object.keys(error)], ["RunFailed", undefined, []]);
     assert.match(error.message, /^seed 4: deadlock\n {2}agent \d waits at /);
     assert.match(error.stack, /\n {4}at file:\/\/.*testing\.test\.mjs:\d+:\d+$/);
     return true;

@@ -6,6 +6,7 @@ interface ImportMeta {
 }
 
 // Of a CommonJS module.
+declare const __dirname: string;
 declare const __filename: string;
 declare const require: (name: string) => any;
 
@@ -59,7 +60,7 @@ declare namespace NodeJS {
     cwd(): string;
     kill(id: number, signal: Signals): true;
     /** Only the process of a job, and others that were forked, have it. */
-    send?(message: unknown): boolean;
+    send?(message: unknown, done?: () => void): boolean;
     readonly connected?: boolean;
   }
 }
@@ -187,7 +188,7 @@ declare module "node:child_process" {
     execArgv: string[];
     env?: Record<string, string | undefined>;
     serialization: "advanced" | "json";
-    detached: boolean;
+    detached?: boolean;
     windowsHide: boolean;
   }
   interface SyncOptions {
@@ -295,6 +296,7 @@ declare module "node:path" {
   export function join(...parts: string[]): string;
   export function relative(from: string, to: string): string;
   export function resolve(...parts: string[]): string;
+  export const sep: string;
 }
 
 declare module "node:perf_hooks" {

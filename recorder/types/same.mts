@@ -1,4 +1,4 @@
-// Compares the types that the package declares (recorder.d.mts) with those of the code: each pair must be the same.
+// Compares the types that the package declares (recorder.d.cts) with those of the code: each pair must be the same.
 
 import * as declared from "../recorder.mjs";
 import * as difference from "../lib/check/difference.mjs";

@@ -163,7 +163,7 @@ test("the test that the README shows finds the lost wake-up", () => {
 
 test("each exported name has a type, and is used below", async () => {
   for (const [from, file, user] of [["sabsim", "recorder", "uses"], ["sabsim/test", "testing", "uses-test"]]) {
-    const types = readFileSync(join(project, `node_modules/sabsim/recorder/${file}.d.mts`), "utf8");
+    const types = readFileSync(join(project, `node_modules/sabsim/recorder/${file}.d.cts`), "utf8");
     const found = [...types.matchAll(/^export (function|class|interface|type) (\w+)/gm)];
     const names = (...kinds) => found.filter(([, kind]) => kinds.includes(kind)).map(([, , name]) => name).sort();
     const words = `import("${from}").then((all) => console.log(Object.keys(all).sort().join()))`;
@@ -177,13 +177,12 @@ test("each exported name has a type, and is used below", async () => {
 for (const words of [
   ["--module", "nodenext", "--moduleResolution", "nodenext"],
   ["--module", "esnext", "--moduleResolution", "node"],
+  ["--module", "commonjs", "--moduleResolution", "node"],
   ["--module", "nodenext", "--moduleResolution", "nodenext", "--lib", "es2022"],
 ]) {
   test(`TypeScript takes its types: ${words.join(" ")}`, withCompiler, () => {
     const strictly = ["--noEmit", "--strict", "--allowJs", "--checkJs", "--target", "es2022"];
-    // The older resolution doesn't know `exports` of a package, and so not `sabsim/test`.
-    const others = words.includes("node") ? [] : ["uses-test.mts"];
-    succeeds(project, "tsc", [...strictly, ...words, "uses.mts", ...others, "lock.mjs"]);
+    succeeds(project, "tsc", [...strictly, ...words, "uses.mts", "uses-test.mts", "uses-test.cts", "lock.mjs"]);
   });
 }
 

@@ -16,7 +16,7 @@ import { productsOf } from "./table.mjs";
 const RECORDER = fileURLToPath(new URL("../../recorder/record.mjs", import.meta.url));
 
 /** @typedef {import("./table.mjs").Product} Product */
-/** @typedef {import("../../recorder/summary.d.mts").Summary} Summary */
+/** @typedef {import("../../recorder/summary.d.cts").Summary} Summary */
 /** @typedef {{ text: string, runs: number, early: number, first: number }} Finding what failing runs have in common */
 
 /** @param {Product} product @returns {Summary | string} of its runs, or why it can't be relied on */

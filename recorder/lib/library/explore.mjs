@@ -4,7 +4,7 @@ import { Job } from "../seeds/job.mjs";
 import { Runs, outcomesOf } from "../seeds/runs.mjs";
 import { BATCH } from "../seeds/seed-queue.mjs";
 import { chosenProgram } from "../simulator/chosen.mjs";
-import { folderOfCaller } from "./caller.mjs";
+import { folderOfCaller } from "./caller.cjs";
 import { exploreOptions } from "./library-options.mjs";
 
 /** @typedef {import("../simulator/native.mjs").NoSabsim} NoSabsim */

@@ -3,7 +3,7 @@
 import { Job } from "../seeds/job.mjs";
 import { Runs } from "../seeds/runs.mjs";
 import { chosenProgram } from "../simulator/chosen.mjs";
-import { folderOfCaller } from "./caller.mjs";
+import { folderOfCaller } from "./caller.cjs";
 import { checkedOptions } from "./library-options.mjs";
 
 /** @typedef {import("../check/check.mjs").Check} Check */

@@ -1,7 +1,7 @@
 // Tests of modules of agents and of whole programs, for node's own test runner and for others.
 
-import { test } from "node:test";
-import { callerOf } from "../library/caller.mjs";
+import { callerOf } from "../library/caller.cjs";
+import { nodeTest } from "./node-test.cjs";
 import { tried } from "./trial.mjs";
 
 /** @typedef {import("../library/library-options.mjs").TrialOptions} TrialOptions */
@@ -14,13 +14,13 @@ import { tried } from "./trial.mjs";
  * @returns {Promise<void>} as `test` of node:test returns it
  */
 export function testAgents(name, options) {
-  return tested(name, options, callerOf(testAgents));
+  return nodeTest("testAgents", "assertAgents")(name, {}, bodyOf(name, options, callerOf(testAgents)));
 }
 
 /**
  * Runs agents under the schedules of many seeds, up to the first run that fails, as a part of any test.
  * @param {TrialOptions} options
- * @returns {Promise<void>} fails with an AssertionError if a run fails
+ * @returns {Promise<void>} fails with RunFailed if a run fails
  */
 export async function assertAgents(options) {
   await tried(options, callerOf(assertAgents));
@@ -33,25 +33,27 @@ export async function assertAgents(options) {
  * @returns {Promise<void>} as `test` of node:test returns it
  */
 export function testProgram(name, options) {
-  return tested(name, options, callerOf(testProgram));
+  return nodeTest("testProgram", "assertProgram")(name, {}, bodyOf(name, options, callerOf(testProgram)));
 }
 
 /**
  * Runs a whole program under the schedules of many seeds, up to the first run that fails, as a part of any test.
  * @param {ProgramTrialOptions} options
- * @returns {Promise<void>} fails with an AssertionError if a run fails
+ * @returns {Promise<void>} fails with RunFailed if a run fails
  */
 export async function assertProgram(options) {
   await tried(options, callerOf(assertProgram));
 }
 
 /**
+ * What a test of node:test does.
  * @param {string} name of the test
  * @param {TrialOptions | ProgramTrialOptions} options
- * @param {import("./trial.mjs").Caller} caller whose code asks for the test
+ * @param {import("../library/caller.cjs").Caller} caller whose code asks for the test
+ * @returns {(context: import("node:test").TestContext) => Promise<void>}
  */
-function tested(name, options, caller) {
-  return test(name, {}, async (context) => {
+function bodyOf(name, options, caller) {
+  return async (context) => {
     context.diagnostic(await tried({ signal: context.signal, ...options }, { ...caller, name }));
-  });
+  };
 }

@@ -1,7 +1,5 @@
-// A trial of a module of agents, or of a program, in somebody's test suite: it fails as an assertion does if a run
-// fails.
+// A trial of a module of agents, or of a program, in somebody's test suite: it fails if a run fails.
 
-import { AssertionError } from "node:assert";
 import { resolve } from "node:path";
 import { OnlyByTime, onlyByTimeLines } from "../command/only-by-time.mjs";
 import { isExpected, messageOf } from "../command/problems.mjs";
@@ -17,30 +15,14 @@ import { rememberingText } from "../seeds/first-again.mjs";
 import { simulatorAt } from "../simulator/chosen.mjs";
 import { failureText } from "./failure.mjs";
 import { keptFolder } from "./kept-folder.mjs";
+import { RunFailed, stackOf } from "./run-failed.cjs";
 
 /** @typedef {import("../library/recorder.mjs").Outcome} Outcome */
 /** @typedef {import("../seeds/runs.mjs").Runs} Runs */
 /** @typedef {import("../library/library-options.mjs").TrialOptions} TrialOptions */
 /** @typedef {import("../library/library-options.mjs").ProgramTrialOptions} ProgramTrialOptions */
-
-/**
- * @typedef {object} Caller whose code asks for the trial
- * @property {() => string | undefined} folder from which a relative path of the module is taken
- * @property {string | undefined} place file, line and column
- * @property {string} [name] of the test; undefined: it differs from others by its place
- */
-
-/** A run of agents has failed: the message says all of it. */
-class AgentsFailed extends AssertionError {
-  /** @param {string} message @param {string | undefined} place where the trial is asked for */
-  constructor(message, place) {
-    super({ message });
-    // There are no two values that differ, and nobody needs to know where the recorder has thrown this.
-    for (const name of Object.keys(this)) Object.defineProperty(this, name, { enumerable: false });
-    const at = place === undefined ? "" : `\n\n    at ${place}`;
-    this.stack = `AssertionError [ERR_ASSERTION]: ${message}${at}`;
-  }
-}
+/** @typedef {TrialOptions | ProgramTrialOptions} AnyTrialOptions */
+/** @typedef {import("../library/caller.cjs").Caller} Caller */
 
 /** What the runs of a trial that passed have in common. */
 class Passed {
@@ -78,16 +60,16 @@ class Passed {
  */
 function atCaller(problem, place) {
   if (!(problem instanceof Error) || place === undefined || !isExpected(problem)) return problem;
-  problem.stack = `${problem.name}: ${problem.message}\n    at ${place}`;
+  problem.stack = stackOf(problem, place);
   return problem;
 }
 
 /**
  * Makes runs until one fails. If it fails only after the early end of a timed wait, runs are made until one fails
  * without that.
- * @param {TrialOptions | ProgramTrialOptions} given
+ * @param {AnyTrialOptions} given
  * @param {Caller} caller
- * @returns {Promise<string>} what is to be said if none failed; fails with an AssertionError if one did
+ * @returns {Promise<string>} what is to be said if none failed; fails with RunFailed if one did
  */
 export async function tried(given, caller) {
   try {
@@ -97,7 +79,7 @@ export async function tried(given, caller) {
   }
 }
 
-/** @param {TrialOptions | ProgramTrialOptions} given @param {Caller} caller @returns {Promise<string>} as above */
+/** @param {AnyTrialOptions} given @param {Caller} caller @returns {Promise<string>} as above */
 async function passedOf(given, caller) {
   const { out, shorten = true, ...options } = checkedOwn(given);
   const passed = new Passed();
@@ -113,7 +95,7 @@ async function passedOf(given, caller) {
     }
     if (first !== undefined) {
       const text = await failureOf(runs, first.outcome, first.before, { out, shorten, caller });
-      throw new AgentsFailed(text, caller.place);
+      throw new RunFailed(text, caller.place);
     }
     besides = await rememberingLines(runs);
   } finally {

@@ -18,9 +18,9 @@ test("a wake-up is lost by the bell", async () => {
   assert.fail("no run has failed");
 });
 
-test("what fails is an assertion", async () => {
+test("a run that fails is an error of that name", async () => {
   const trial = assertAgents({ module: "./lock.mjs", seeds: "1..50", out: "found" });
-  await assert.rejects(trial, /^AssertionError.*: seed \d+: deadlock/);
+  await assert.rejects(trial, /^RunFailed: seed \d+: deadlock/);
 });
 
 test("an option that isn't known is refused", async () => {

@@ -1,7 +1,7 @@
 // The summary of many runs, as `record.mjs --format json` and `merge.mjs --format json` print it: one JSON object.
 // All members are always there; later versions may add some. `tests/types` compares this type with the code's own.
 
-import type { OnlyByTime, Standing } from "./recorder.mjs";
+import type { OnlyByTime, Standing } from "./recorder.cjs";
 
 /** The seeds from the first to the last, both included. */
 export interface SeedRange {
