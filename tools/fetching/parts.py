@@ -1,4 +1,5 @@
 """The parts that can be fetched: the packages of each, and what is done with them."""
+import os
 import re
 from dataclasses import dataclass
 from typing import Callable
@@ -20,6 +21,24 @@ def lead_jest_to_its_folder(root):
             file.write(text)
 
 
+def replace_with_link(path, target):
+    """Puts a link where a file may be."""
+    if os.path.lexists(path):
+        os.remove(path)
+    os.symlink(target, path)
+
+
+def start_chromium_itself(root):
+    """Names Chromium itself `chromium`. Debian's script of that name needs files in /etc, where nothing is laid."""
+    replace_with_link(f"{root}/usr/bin/chromium", "../lib/chromium/chromium")
+
+
+def name_the_daemons_of_slurm(root):
+    """Gives Slurm's daemons the names that they have when Debian installs them."""
+    for name in ("slurmctld", "slurmd", "slurmstepd"):
+        replace_with_link(f"{root}/usr/sbin/{name}", f"{name}-wlm")
+
+
 @dataclass(frozen=True)
 class Part:
     """Packages that are fetched together, by the name of their folder.
@@ -39,9 +58,13 @@ class Part:
 
 PARTS = {
     "types": Part(("node-typescript",), "tsc", only_javascript=True),
-    "runners": Part(("mocha", "jest", "ava"), "mocha, jest and ava", only_javascript=True, finish=lead_jest_to_its_folder),
+    "runners": Part(
+        ("mocha", "jest", "ava"), "mocha, jest and ava", only_javascript=True, finish=lead_jest_to_its_folder
+    ),
     "pictures": Part(("librsvg2-bin", "fonts-dejavu-core"), "rsvg-convert", over=True),
-    "browsers": Part(("chromium", "firefox-esr", "fonts-dejavu-core"), "Chromium and Firefox", over=True),
-    "slurm": Part(("slurm-wlm", "munge"), "Slurm", over=True),
+    "browsers": Part(
+        ("chromium", "firefox-esr", "fonts-dejavu-core"), "Chromium and Firefox", over=True, finish=start_chromium_itself
+    ),
+    "slurm": Part(("slurm-wlm", "munge"), "Slurm", over=True, finish=name_the_daemons_of_slurm),
     "node": Part(("nodejs",), "the newest node that Debian has", suite="sid"),
 }
