@@ -117,13 +117,8 @@ function tickCallback() {
   return _tickCallback?.bind(process);
 }
 
-/**
- * Reads a module.
- * @param {string} url
- * @param {{ format?: string, importAttributes?: object }} [context]
- * @returns {{ format: string, source: unknown }}
- */
-export const readModule = (url, context = {}) => defaultLoadSync(url, { ...context });
+/** @typedef {{ format: string, source: unknown }} Read what was read of a module */
+/** @typedef {{ format?: string, importAttributes?: object }} Asked what is known of a module before it is read */
 
 /**
  * @param {string} specifier
@@ -132,21 +127,24 @@ export const readModule = (url, context = {}) => defaultLoadSync(url, { ...conte
  */
 export const resolveModule = (specifier, parentURL) => defaultResolve(specifier, { parentURL }).url;
 
+/** @param {string} url @param {Asked} [asked] @returns {Read} */
+function readAtOnce(url, asked) {
+  const found = defaultLoadSync(url, { ...asked });
+  // A module of CommonJS is read by what runs it.
+  return found.format === "commonjs" ? { ...found, source: null } : found;
+}
+
 /**
  * Has node's loader replaced by one that has loaded nothing yet, and that reads modules at once.
- * @returns {any}
+ * @returns {{ loader: any, read: (url: string, asked: Asked) => Read }} the loader, and by what it reads
  */
 export function freshLoader() {
   const loader = loaders.createModuleLoader();
-  if (types.isAsyncFunction(loader.load)) {
-    loader.load = async (/** @type {string} */ url, /** @type {object} */ context) => {
-      const found = readModule(url, context);
-      // A module of CommonJS is read by what runs it.
-      return found.format === "commonjs" ? { ...found, source: null } : found;
-    };
-  }
   loaders.getOrInitializeCascadedLoader = () => loader;
-  return loader;
+  // A later node reads at once by itself.
+  if (!types.isAsyncFunction(loader.load)) return { loader, read: (url, asked) => loader.load(url, asked) };
+  loader.load = async (/** @type {string} */ url, /** @type {Asked} */ asked) => readAtOnce(url, asked);
+  return { loader, read: readAtOnce };
 }
 
 /** Compiles a module of node's own once more. */

@@ -10,7 +10,8 @@ import { fileURLToPath, pathToFileURL } from "node:url";
 import { apply } from "../primordials.mjs";
 import { CompiledFunctions } from "./compiled-functions.mjs";
 import {
-  SideEffectFreeRegExpPrototypeSymbolReplace, freshLoader, kIsExecuting, loadBuiltinModule, makeRequireFunction, readModule, translators,
+  SideEffectFreeRegExpPrototypeSymbolReplace, freshLoader, kIsExecuting, loadBuiltinModule, makeRequireFunction,
+  translators,
 } from "./internals.mjs";
 
 // Node makes a context of its own when it first needs one, for the text of an error. From now on it has one.
@@ -26,11 +27,15 @@ const NAMES = Object.freeze(["exports", "require", "module", "__filename", "__di
 /** The formats of files that only node's loader of ES modules takes. */
 const OF_LOADER = Object.freeze(["module", "module-typescript", "wasm"]);
 
-/** @param {string} url of a file that a thread begins with @returns {boolean} whether it is an ES module */
-function isOfLoader(url) {
+/**
+ * @param {string} url of a file that a thread begins with
+ * @param {ReturnType<typeof freshLoader>["read"]} read
+ * @returns {boolean} whether it is an ES module
+ */
+function isOfLoader(url, read) {
   if (url.endsWith(".mjs")) return true;
   try {
-    return OF_LOADER.includes(readModule(url).format);
+    return OF_LOADER.includes(read(url, {}).format);
   } catch {
     // What has no known format is CommonJS, as in node.
     return false;
@@ -96,8 +101,8 @@ function requireBuiltins() {
 }
 
 export class ProgramModules {
-  /** @type {any} the run's */
-  #loader = freshLoader();
+  /** The run's. */
+  #loading = freshLoader();
   #places = new Places();
   #functions = new CompiledFunctions();
 
@@ -117,7 +122,7 @@ export class ProgramModules {
 
   /** Forgets all modules, for the next run. */
   begin() {
-    this.#loader = freshLoader();
+    this.#loading = freshLoader();
     for (const file of Object.keys(Modules._cache)) delete Modules._cache[file];
     this.#places.forget();
     // Where files were found. The files may be gone.
@@ -134,8 +139,9 @@ export class ProgramModules {
    * @returns {Promise<void>} settled once it is evaluated
    */
   async enter(url) {
-    if (url.startsWith("file:") && !isOfLoader(url)) Modules._load(fileURLToPath(url), null, true);
-    else await this.#loader.import(url, undefined, { __proto__: null }, undefined, true);
+    const { loader, read } = this.#loading;
+    if (url.startsWith("file:") && !isOfLoader(url, read)) Modules._load(fileURLToPath(url), null, true);
+    else await loader.import(url, undefined, { __proto__: null }, undefined, true);
   }
 
   /**
@@ -175,7 +181,7 @@ export class ProgramModules {
     return this.#functions.compiled(code, names, {
       filename,
       importModuleDynamically: (/** @type {string} */ specifier, /** @type {any} */ _, /** @type {any} */ attributes) =>
-        this.#loader.import(specifier, parent, attributes),
+        this.#loading.loader.import(specifier, parent, attributes),
     });
   }
 }

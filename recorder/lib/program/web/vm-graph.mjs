@@ -172,7 +172,7 @@ const isKnownType = (type) => type === undefined || type === "json";
  * @param {Record<string, string>} attributes
  */
 async function failNatively(url, attributes) {
-  await freshLoader().import(url, url, attributes);
+  await freshLoader().loader.import(url, url, attributes);
   throw nodeError("ERR_UNKNOWN_MODULE_FORMAT", `sabsim can't load ${url}`);
 }
 
