@@ -2,6 +2,7 @@
 
 import { needsAgents } from "../library/agents-file.mjs";
 import { isFile, moduleUrl } from "../library/module-url.mjs";
+import { needsJavaScript } from "../library/program-file.mjs";
 import { Refused } from "../options/refused.mjs";
 import { RemoteJob } from "../seeds/remote-job.mjs";
 import { endBy, Interrupted } from "./interruption.mjs";
@@ -17,7 +18,8 @@ import { STATUS } from "./status.mjs";
 function existing({ module, isProgram }) {
   const url = moduleUrl(module);
   if (!isFile(url)) throw new Refused(`there is no file ${module}`);
-  if (!isProgram) needsAgents(url, module);
+  if (isProgram) needsJavaScript(url, module);
+  else needsAgents(url, module);
   return url;
 }
 

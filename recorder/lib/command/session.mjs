@@ -74,6 +74,7 @@ export class Session {
         problems.push(problem);
       }
     };
+    if (this.options.isProgram) await attempt(() => this.#noteNode());
     await attempt(() => this.#record());
     const [stopped] = problems;
     this.progress.clear();
@@ -82,6 +83,13 @@ export class Session {
     await attempt(() => this.closed);
     await attempt(() => this.interruption.end());
     return { failed: this.summary.failed > 0, problems };
+  }
+
+  /** Notes whether programs were tried on this node. */
+  async #noteNode() {
+    const { untriedVersion } = await import("../program/node-versions.mjs");
+    const version = untriedVersion();
+    if (version !== undefined) this.summary.untriedNodes.add(version);
   }
 
   /** Makes the runs, looks for the shortest one that fails as the one that is kept, and shows what a program prints. */

@@ -53,6 +53,8 @@
  * @property {number} calls
  * @property {number | null} accesses null: they weren't seen
  * @property {string[]} unseen
+ * @property {string[]} [untriedNodes] versions of node that ran programs, and that weren't tried. Earlier summaries of
+ * this form have none
  * @property {import("../keeping/keep.mjs").Kept | null} kept
  * @property {string[]} notKept
  * @property {string[]} problems

@@ -18,6 +18,9 @@ const that = (holds) => (value, place) => (holds(value) ? undefined : place);
 const orNull = (check) => (value, place) => (value === null ? undefined : check(value, place));
 
 /** @type {(check: Check) => Check} */
+const orNone = (check) => (value, place) => (value === undefined ? undefined : check(value, place));
+
+/** @type {(check: Check) => Check} */
 const list = (check) => (value, place) => {
   if (!Array.isArray(value)) return place;
   return value.map((each, at) => check(each, `${place}[${at}]`)).find((wrong) => wrong !== undefined);
@@ -101,6 +104,7 @@ const MEMBERS = object({
   calls: whole,
   accesses: orNull(whole),
   unseen: texts,
+  untriedNodes: orNone(texts),
   kept: orNull(object({ folder: text, path: text, files: texts })),
   notKept: texts,
   problems: texts,

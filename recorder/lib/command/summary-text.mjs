@@ -17,7 +17,7 @@ const MOST_LISTED = 8;
 
 /** @param {SummaryData} summary @returns {string} lines, each with its end */
 export function summaryText(summary) {
-  const { stopped, missing, runs, unseen, kept, notKept } = summary;
+  const { stopped, missing, runs, unseen, untriedNodes = [], kept, notKept } = summary;
   const lines = missing.map(missingText);
   if (stopped !== null) lines.push(`${stopped.why} after ${digits(runs)} of ${counted(stopped.wanted, "run")}`);
   if (runs > 0) {
@@ -26,7 +26,7 @@ export function summaryText(summary) {
     lines.push(...rememberingLines(summary));
     lines.push(...stateLines(summary));
     lines.push(...coverageLines(summary), ...checkLines(summary), ...scriptLines(summary), accessLine(summary));
-    lines.push(...unseen);
+    lines.push(...unseen, ...untriedNodes.map(untriedText));
   }
   if (kept !== null) lines.push(`kept in ${kept.folder}: ${kept.files.join(", ")}`, ...kept.notes ?? []);
   return [...lines, ...notKept].map((line) => `${line}\n`).join("");
@@ -181,6 +181,9 @@ function scriptLines({ sabsim: { asked }, scripts: { parts, none } }) {
   const touched = `${hold} only the ordinary writes of bytes that calls touch, since not all fit`;
   return [`${touched}; ${their} other bytes weren't compared`, ...all];
 }
+
+/** @param {string} version of node */
+const untriedText = (version) => `programs weren't tried on node ${version}: README says on which versions they were`;
 
 /** @param {SummaryData} summary */
 function accessLine({ runs, calls, accesses }) {

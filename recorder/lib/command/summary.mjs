@@ -86,6 +86,8 @@ export class Summary {
     this.scriptless = new Tally();
     /** What agents used that isn't recorded, and what programs used that the machine answers. */
     this.uses = { unrecorded: new Uses(), real: new Uses() };
+    /** @type {Set<string>} versions of node that ran programs, and that weren't tried */
+    this.untriedNodes = new Set();
     /** @type {import("../seeds/first-again.mjs").Remembering | undefined} */
     this.remembers = undefined;
     /** @type {Failing | undefined} the first failing run */
@@ -146,6 +148,7 @@ export class Summary {
     this.scriptless.join(none.listed.map(({ why, ...entry }) => ({ ...entry, ...of(why) })), none.others);
     this.uses.unrecorded.join(data.unrecorded);
     this.uses.real.join(data.real);
+    for (const version of data.untriedNodes ?? []) this.untriedNodes.add(version);
     if (data.remembers !== null) this.#addRemembering(data.remembers);
     if (data.coverage !== null) this.coverage = Coverage.joined(this.coverage, data.coverage);
     if (firstFailing !== null) this.#addFailing(failingOf(firstFailing));
@@ -184,6 +187,7 @@ export class Summary {
       calls: this.calls,
       accesses: this.ordinary === "watch" ? this.accesses : null,
       unseen: this.preloads ? [...UNSEEN[this.ordinary], UNSEEN_BEFORE] : UNSEEN[this.ordinary],
+      untriedNodes: [...this.untriedNodes].sort(),
       kept,
       notKept,
       problems,

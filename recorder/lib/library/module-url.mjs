@@ -5,6 +5,7 @@ import { isAbsolute, resolve } from "node:path";
 import { fileURLToPath, pathToFileURL } from "node:url";
 import { Refused } from "../options/refused.mjs";
 import { needsAgents } from "./agents-file.mjs";
+import { needsJavaScript } from "./program-file.mjs";
 
 /**
  * The URL of a module.
@@ -57,6 +58,7 @@ export function moduleUrlOf(name, module, folderOf) {
   if (!url.startsWith("file:")) return url;
   if (isFile(url)) {
     if (name === "module") needsAgents(url, pathOf(url));
+    else needsJavaScript(url, pathOf(url));
     return url;
   }
   const from = isRelative ? `: \`${name}\` is "${module}", from the folder of the file that asks for it` : "";

@@ -8,7 +8,7 @@ import { Board } from "../board/board.mjs";
 import { programWaysOf } from "../board/strategy/ways.mjs";
 import { WORD } from "../memory/layout.mjs";
 import { Pids } from "../memory/pids.mjs";
-import { Refused } from "../options/refused.mjs";
+import { REFUSED, Refused } from "../options/refused.mjs";
 import { FIRST_THREADS } from "../processes/first-workers.cjs";
 import { begunThread } from "../processes/thread.mjs";
 import { Group } from "../run/group.mjs";
@@ -39,6 +39,13 @@ const FLAGS = [...process.execArgv, ...GRAPH_FLAGS];
  * a run takes twice as long as in one that has made hundreds.
  */
 export const MOST_RUNS = 2_000;
+
+/** @param {string} program @param {string} why its thread has ended @returns {string} */
+function beginProblem(program, why) {
+  const refusal = `${REFUSED}: `;
+  return why.startsWith(refusal) ? why.slice(refusal.length)
+    : `a thread for ${program} ended before it could begin: ${why}`;
+}
 
 /** @type {() => { port1: any, port2: any }} */
 const channel = () => new MessageChannel();
@@ -203,7 +210,7 @@ export class ProgramGroup extends Group {
     thread.onEnd = (why) => this.board?.turn.die(agent, why);
     /** @type {any} */ (thread.port).postMessage({ agent, control: port2, main: { program, args } }, [port2]);
     const { ended } = await this.inTime(thread.next());
-    if (ended !== undefined) throw new Refused(`a thread for ${this.options.module} ended before it could begin: ${ended}`);
+    if (ended !== undefined) throw new Refused(beginProblem(this.options.module, ended));
     this.agents[agent] = thread;
     this.#controls[agent] = port1;
     this.#connect(agent);

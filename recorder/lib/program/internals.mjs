@@ -4,6 +4,8 @@
 import { createRequire } from "node:module";
 import process from "node:process";
 import { types } from "node:util";
+import { REFUSED } from "../options/refused.mjs";
+import { TRIED } from "./node-versions.mjs";
 
 const required = createRequire(import.meta.url);
 
@@ -194,4 +196,8 @@ export function timersOver({ now, begins }) {
   return { inside, timers, promises, counts };
 }
 
-if (lacking.length > 0) throw new Error(`node ${process.version.slice(1)} lacks ${lacking.join(", ")}`);
+if (lacking.length > 0) {
+  const why = `whole programs don't run on node ${process.version.slice(1)}, which lacks ${lacking.join(", ")}. They were `
+    + `tried on node ${TRIED.join(" and ")}. Modules of agents run on this node, too`;
+  throw Object.assign(new Error(why), { name: REFUSED });
+}

@@ -76,6 +76,15 @@ const OTHERWISE = Object.freeze({
   unsettledAtExit: 24,
 });
 
+/** The versions of node on which programs were tried. */
+export const TRIED = Object.freeze(["20.20", "24.22"]);
+
+/** @returns {string | undefined} this node's version, if programs weren't tried on it */
+export function untriedVersion() {
+  const version = process.version.slice(1);
+  return TRIED.some((tried) => version.startsWith(`${tried}.`)) ? undefined : version;
+}
+
 /** @type {number} */
 const major = Number(/^v(\d+)\./.exec(process.version)?.[1]);
 

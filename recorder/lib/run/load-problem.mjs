@@ -3,9 +3,11 @@
 import { readFileSync } from "node:fs";
 import { fileURLToPath } from "node:url";
 
-const TYPESCRIPT = /\.[cm]?tsx?$/;
+/** The URL of a file with types. */
+export const TYPESCRIPT = /\.[cm]?tsx?$/;
 const NOT_LOADED_AS_IT_IS = /ERR_UNKNOWN_FILE_EXTENSION|ERR_NO_TYPESCRIPT|ERR_UNSUPPORTED_TYPESCRIPT_SYNTAX/;
-const COMPILE = "it is TypeScript, which this node doesn't load: compile it first, and give the .js file. Source maps "
+/** What helps. */
+export const COMPILE = "it is TypeScript, which this node doesn't load: compile it first, and give the .js file. Source maps "
   + "are followed, so lines are those of the .ts file";
 
 // What only code has that starts threads, or that runs in one.
