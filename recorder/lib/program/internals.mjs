@@ -65,8 +65,12 @@ export function leaveContexts() {
   contextFrames.set(undefined);
 }
 
-/** The classes of node's own timers and immediates. */
-export const { Timeout, Immediate } = inside("timers", { Timeout: "function", Immediate: "function" });
+/** The classes of node's own timers and immediates; the rest is used of a copy that `timersOver` makes. */
+export const { Timeout, Immediate } = inside("timers", {
+  Timeout: "function", Immediate: "function", insert: "function", getTimerCallbacks: "function",
+  timerListMap: "object", timerListQueue: "object", immediateQueue: "object",
+  async_id_symbol: "symbol", kHasPrimitive: "symbol", kRefed: "symbol",
+});
 
 /** All child processes begin by this; the functions are called as its members. */
 export const processes = inside("child_process", { ChildProcess: "function", spawnSync: "function" });

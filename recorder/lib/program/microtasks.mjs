@@ -4,7 +4,7 @@
 import { apply, likeEngine, weakHas, weakSet } from "../primordials.mjs";
 import { member } from "./member.mjs";
 
-const { queueMicrotask: engine } = globalThis;
+const { queueMicrotask: engine } = /** @type {any} */ (globalThis);
 
 /** @type {WeakMap<object, true>} what node is given to call */
 const ours = new WeakMap();

@@ -74,6 +74,8 @@ const OTHERWISE = Object.freeze({
   statWithoutEntry: 24,
   /** Listeners of `exit` get the code of a top-level await that never settles, and not the code before it. */
   unsettledAtExit: 24,
+  /** An atomic access of WebAssembly that is neither aligned nor within the memory traps as one that isn't aligned. */
+  wasmAlignsFirst: 24,
 });
 
 /** The versions of node on which programs were tried. */

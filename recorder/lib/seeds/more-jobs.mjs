@@ -45,7 +45,7 @@ export async function* moreJobs(opened, progress, signal) {
   await opened;
   const opening = performance.now() - begun;
   const options = { ref: false, signal };
-  await pause(max(0, FIRST_MILLISECONDS - opening), undefined, options);
+  await pause(Math.max(0, FIRST_MILLISECONDS - opening), undefined, options);
   for (let now = progress(); now.left > 0 && now.jobs < availableParallelism(); now = progress()) {
     const [idle, time] = [idleTime(), performance.now()];
     await pause(LOOK_MILLISECONDS, undefined, options);

@@ -17,8 +17,8 @@ export const NOT_YET = Object.freeze({ "slow-functions.mjs": "SubtleCrypto.diges
 /** What the recorder puts before each line that a program prints: the thread. */
 const THREAD = /^\[[^\]]*\] /;
 
-/** What node prints of a warning. */
-const WARNING = /^\((?:node:\d+|Use `node --trace-warnings)/;
+/** What node prints of a warning; that of a timer has two lines. */
+const WARNING = /^(?:\((?:node:\d+|Use `node --trace-warnings)|Timeout duration was set to 1\.$)/;
 
 const RECORDING = fileURLToPath(new URL("../helpers/order-process.mjs", import.meta.url));
 

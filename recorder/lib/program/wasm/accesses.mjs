@@ -5,6 +5,7 @@ import { KINDS, SIZES } from "../../../script/kinds.mjs";
 import { compiled } from "../../agent/frames.mjs";
 import { DATA_VIEW } from "../../agent/ordinary/watched.mjs";
 import { sharedLengthOf } from "../../primordials.mjs";
+import { doesOtherwise } from "../node-versions.mjs";
 import { atomicFunctions } from "./atomics.mjs";
 import { PAGE } from "./slots.mjs";
 
@@ -20,6 +21,13 @@ const KIND_NAMES = Object.freeze({ 1: "Uint8", 2: "Uint16", 4: "Int32", 8: "BigI
 
 /** @type {Readonly<Record<string, number>>} what a wait returns, by what Atomics.wait returns */
 const WORDS = Object.freeze({ "ok": 0, "not-equal": 1, "timed-out": 2 });
+
+const ALIGNS_FIRST = doesOtherwise("wasmAlignsFirst");
+
+/** @param {number} at @param {number} size of an atomic access that begins there */
+function demandAligned(at, size) {
+  if (at % size !== 0) throw new EngineTrap("operation does not support unaligned accesses");
+}
 
 /** @typedef {import("../../agent/ordinary/context.mjs").Place} Place */
 
@@ -99,8 +107,12 @@ export class Accesses {
    * @returns {number}
    */
   aligned(address, offset, size, where) {
+    if (ALIGNS_FIRST) {
+      compiled.at = where;
+      demandAligned((address >>> 0) + (offset >>> 0), size);
+    }
     const at = this.at(address, offset, size, where);
-    if (at % size !== 0) throw new EngineTrap("operation does not support unaligned accesses");
+    demandAligned(at, size);
     return at / size;
   }
 

@@ -6,7 +6,7 @@ import process from "node:process";
 import { described } from "../../agent/described.mjs";
 import { WORD } from "../../memory/layout.mjs";
 import { Ends } from "../ends.mjs";
-import { clearAsyncIdStack } from "../internals.mjs";
+import { leaveContexts } from "../internals.mjs";
 import { KIND } from "../ports.mjs";
 import { ErrorEvent, PromiseRejectionEvent } from "./targets.mjs";
 
@@ -60,7 +60,7 @@ export class WebEnds extends Ends {
   /** @param {unknown} thrown */
   uncaught(thrown) {
     if (this.isOver) return;
-    clearAsyncIdStack();
+    leaveContexts();
     const text = `agent ${this.leaving.agent} threw ${described(thrown)}`;
     this.raise({ ...placed(thrown), text, isListenedTo: false }, thrown);
   }
