@@ -19,8 +19,7 @@ case "$*" in
 *indextargets*) echo 'http://mirror/debian/ bookworm main'; echo 'http://elsewhere/other nodistro main' ;;
 *--print-uris*) echo "'http://mirror/a.deb' node-typescript_1%3a\${VERSION}_all.deb 100 SHA256:00"
     echo "'http://mirror/b.deb' libc6_2.0_amd64.deb 100 SHA256:00" ;;
-*--download-only*) into=\${*##*Dir::Cache::Archives=}; into=\${into%% *}
-    touch "$into/node-typescript_1%3a\${VERSION}_all.deb" "$into/libc6_2.0_amd64.deb" ;;
+*download*) touch "node-typescript_1%3a\${VERSION}_all.deb" ;;
 esac
 `;
 const DPKG_DEB = `#!/bin/sh
@@ -54,23 +53,24 @@ function machineOf(context, { aptGet = APT_GET, dpkgDeb = DPKG_DEB } = {}) {
 test("a part is fetched once, by its version, and only what is for every processor", (context) => {
   const { tools, fetch, there, calls } = machineOf(context);
   const { status, stdout, stderr } = fetch(["types"]);
-  assert.deepEqual([status, stdout, stderr], [0, "fetched: types 1.0-1\n", ""]);
-  assert.deepEqual(there(), ["types", "types-1.0-1"]);
+  assert.deepEqual([status, stdout, stderr], [0, "fetched: types 1-1.0-1\n", ""]);
+  assert.deepEqual(there(), ["types", "types-1-1.0-1"]);
   assert.match(readFileSync(join(tools, "types/usr/bin/tsc"), "utf8"), /node-typescript_1%3a1\.0-1_all\.deb\n$/);
-  assert.equal(readFileSync(join(tools, "types/versions"), "utf8"), "node-typescript 1.0-1\nlibc6 2.0\n");
+  assert.equal(readFileSync(join(tools, "types/versions"), "utf8"), "node-typescript 1:1.0-1\n");
+  assert.match(calls(), / download node-typescript=1:1\.0-1$/m);
   assert.equal(calls().match(/^dpkg-deb /gm)?.length, 1);
   const before = calls();
-  assert.equal(fetch(["types"]).stdout, "there: types 1.0-1\n");
+  assert.equal(fetch(["types"]).stdout, "there: types 1-1.0-1\n");
   assert.equal(calls(), before);
 });
 
 test("--newest fetches a newer version, which replaces the older one", (context) => {
   const { fetch, there, calls } = machineOf(context);
   fetch(["types"]);
-  assert.equal(fetch(["--newest", "types"]).stdout, "newest, was there: types 1.0-1\n");
-  assert.equal(calls().match(/--download-only/g)?.length, 1);
-  assert.equal(fetch(["--newest", "types"], { VERSION: "1.1-1" }).stdout, "fetched: types 1.1-1\n");
-  assert.deepEqual(there(), ["types", "types-1.1-1"]);
+  assert.equal(fetch(["--newest", "types"]).stdout, "newest, was there: types 1-1.0-1\n");
+  assert.equal(calls().match(/ download /g)?.length, 1);
+  assert.equal(fetch(["--newest", "types"], { VERSION: "1.1-1" }).stdout, "fetched: types 1-1.1-1\n");
+  assert.deepEqual(there(), ["types", "types-1-1.1-1"]);
 });
 
 test("only Debian's sources are asked, and what is this machine's isn't changed", (context) => {
@@ -79,11 +79,19 @@ test("only Debian's sources are asked, and what is this machine's isn't changed"
   fetch(["types"]);
   assert.match(calls(), /^deb .*http:\/\/mirror\/debian\/ bookworm main$/m);
   assert.doesNotMatch(calls(), /elsewhere/);
-  const asked = calls().split("\n").filter((line) => / (?:update|install) ?/.test(line));
+  const asked = calls().split("\n").filter((line) => / (?:update|install|download) ?/.test(line));
   assert.equal(asked.length, 3);
   for (const name of ["Etc::SourceList", "State", "State::Lists", "State::status", "Cache"]) {
     for (const line of asked) assert.match(line, new RegExp(`-o Dir::${name}=\\S*/tools/\\.new-`));
   }
+});
+
+test("of a part that is installed nothing is fetched", (context) => {
+  const aptGet = APT_GET.replace("*--print-uris*)", "*--print-uris*) exit 0");
+  const { fetch, there } = machineOf(context, { aptGet });
+  const { status, stdout } = fetch(["pictures"]);
+  assert.deepEqual([status, stdout], [0, "installed on this machine: pictures\n"]);
+  assert.deepEqual(there(), []);
 });
 
 test("what can't be unpacked leaves nothing", (context) => {
@@ -99,8 +107,8 @@ test("a fetch that was killed leaves no part, and the next one removes its rest"
   assert.equal(fetch(["types"]).signal, "SIGKILL");
   assert.match(there().join(), /^\.new-\w+$/);
   write("dpkg-deb", DPKG_DEB);
-  assert.equal(fetch(["types"]).stdout, "fetched: types 1.0-1\n");
-  assert.deepEqual(there(), ["types", "types-1.0-1"]);
+  assert.equal(fetch(["types"]).stdout, "fetched: types 1-1.0-1\n");
+  assert.deepEqual(there(), ["types", "types-1-1.0-1"]);
 });
 
 test("without a network it prints what apt-get says", (context) => {
