@@ -3,8 +3,9 @@
 // usage: npm run published [-- NAME ..]
 //
 // A program fails here if a run of a right one fails, if the known bug of another isn't found, or if a run fails by
-// anything else. A test of an engine's fails if it isn't as engines/table.mjs has it. What isn't fetched is skipped. Tests
-// that don't pass for a known reason aren't counted. The last line is `N passed, M failed`. The status is 0 if none failed.
+// anything else. A test of an engine's fails if it isn't as engines/table.mjs has it. What isn't fetched is skipped, and
+// mended code of node's, if this node has it mended itself. Tests that don't pass for a known reason aren't counted. The
+// last line is `N passed, M failed`. The status is 0 if none failed.
 
 import { spawnSync } from "node:child_process";
 import { fileURLToPath } from "node:url";
@@ -13,6 +14,8 @@ import { fetchSource, isFetched, programOf } from "./fetching.mjs";
 import { MENDED } from "./folder.mjs";
 import { productsOf } from "./table.mjs";
 
+/** The version of the node that runs this, whose own code is tried. */
+const NODE = Number.parseInt(process.versions.node, 10);
 const RECORDER = fileURLToPath(new URL("../../recorder/record.mjs", import.meta.url));
 
 /** @typedef {import("./table.mjs").Product} Product */
@@ -75,17 +78,22 @@ function tried(product) {
   if (typeof summary === "string") return { verdict: "failed", says: summary };
   const speed = (1_000 * summary.runs / (performance.now() - begun)).toPrecision(2);
   const findings = findingsOf(summary);
-  const wrong = wrongIn(findings, product.bugs ?? []);
+  const bugs = (product.bugs ?? []).filter(({ mendedIn = Infinity }) => NODE < mendedIn);
+  const wrong = wrongIn(findings, bugs);
   if (summary.runs !== product.seeds) wrong.push(`only ${summary.runs} runs were made`);
   const count = `${summary.failed} of ${summary.runs} runs failed, ${speed} runs a second`;
   return {
     verdict: wrong.length === 0 ? "passed" : "failed",
-    says: [count, ...foundIn(findings, product.bugs ?? []), ...wrong].join("; "),
+    says: [count, ...foundIn(findings, bugs), ...wrong].join("; "),
   };
 }
 
 const counts = { passed: 0, failed: 0 };
 for (const product of productsOf(process.argv.slice(2))) {
+  if (NODE >= product.before) {
+    console.log(`${product.name}: skipped: node ${product.before} and later don't have the bug that is mended here`);
+    continue;
+  }
   // The user's own node is there.
   product.sources.filter(({ kind }) => kind === "node").forEach(fetchSource);
   if (!product.sources.every(isFetched)) {

@@ -4,12 +4,22 @@ import os
 import re
 import shutil
 import subprocess
+from dataclasses import dataclass
 from urllib.parse import unquote
 
 KEYS = "/usr/share/keyrings/debian-archive-keyring.gpg"
 INSTALLED = "/var/lib/dpkg/status"
 # A line of apt-get --print-uris: the address, the name of the file, its bytes.
 FILE = re.compile(r"'[^']*' (?P<name>[^_ ]+)_(?P<version>[^_ ]+)_(?P<architecture>[^_ ]+)\.deb ")
+
+
+@dataclass(frozen=True)
+class Package:
+    """A package of Debian's, in one version."""
+
+    name: str
+    version: str
+    architecture: str
 
 
 class NotFetched(Exception):
@@ -64,19 +74,19 @@ class Apt:
         self.words += ["-o", "Acquire::Languages=none", "-o", "APT::Sandbox::User=root", "-q"]
         _, self.complaint = run(["apt-get", *self.words, "update"])
 
-    def install(self, packages, *words):
-        """Asks apt-get for packages and all that they need, and returns what it printed."""
+    def ask(self, words, **how):
+        """Runs apt-get here, and returns what it printed. If it fails, what `update` complained of says why."""
         try:
-            return run(["apt-get", *self.words, "install", "-y", "--no-install-recommends", *words, *packages])[0]
+            return run(["apt-get", *self.words, *words], **how)[0]
         except NotFetched as problem:
             raise NotFetched("\n".join(filter(None, [self.complaint, str(problem)]))) from None
 
-    def versions(self, packages):
-        """Returns the packages that are to be fetched: (name, version, architecture)."""
-        found = FILE.finditer(self.install(packages, "--print-uris"))
-        return [(it["name"], unquote(it["version"]).partition(":")[2] or unquote(it["version"]), it["architecture"]) for it in found]
+    def lacking(self, names):
+        """Returns packages that aren't installed: those with these names, and all that they need."""
+        said = self.ask(["install", "-y", "--no-install-recommends", "--print-uris", *names])
+        return [Package(it["name"], unquote(it["version"]), it["architecture"]) for it in FILE.finditer(said)]
 
     def download(self, packages, into):
-        """Downloads packages and all that they need into a folder."""
-        os.makedirs(f"{into}/partial")
-        self.install(packages, "--download-only", "-o", f"Dir::Cache::Archives={into}/")
+        """Downloads packages into a folder."""
+        os.makedirs(into)
+        self.ask(["download", *(f"{it.name}={it.version}" for it in packages)], cwd=into)

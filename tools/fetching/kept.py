@@ -5,7 +5,7 @@ import os
 import shutil
 import tempfile
 
-from .apt import Apt, NotFetched, run
+from .apt import Apt, run
 
 # How the name of a folder begins that isn't whole yet.
 NEW = ".new-"
@@ -40,27 +40,24 @@ def room_in(folder):
 
 
 def unpack(archives, root):
-    """Unpacks packages into one folder, as if they were installed there."""
+    """Unpacks the packages of a folder into one folder, as if they were installed there."""
     for name in MERGED:
         os.makedirs(f"{root}/usr/{name}")
         os.symlink(f"usr/{name}", f"{root}/{name}")
-    for path in archives:
-        run(["dpkg-deb", "--extract", path, root])
+    for name in sorted(os.listdir(archives)):
+        run(["dpkg-deb", "--extract", f"{archives}/{name}", root])
 
 
-def fetch_anew(part, wanted, apt, room):
-    """Fetches the packages of a part into the folder `root` of a room, whose name it returns."""
+def fetch_anew(part, packages, apt, room):
+    """Fetches the packages of a part into a folder of a room, whose name it returns."""
     root, archives = f"{room}/root", f"{room}/archives"
     os.makedirs(root)
-    apt.download(part.packages, archives)
-    names = sorted(name for name in os.listdir(archives) if name.endswith(".deb"))
-    if part.only_javascript:
-        names = [name for name in names if name.endswith("_all.deb")]
-    unpack([f"{archives}/{name}" for name in names], root)
+    apt.download(packages, archives)
+    unpack(archives, root)
     if part.finish:
         part.finish(root)
     with open(f"{root}/versions", "w", encoding="utf8") as file:
-        file.writelines(f"{name} {version}\n" for name, version, _ in wanted)
+        file.writelines(f"{it.name} {it.version}\n" for it in packages)
     return root
 
 
@@ -71,19 +68,23 @@ def replace_link(folder, name, target):
 
 
 def fetch(name, part, room, apts):
-    """Fetches a part, unless its newest version is there, and returns the version and whether it was fetched."""
+    """Fetches a part, unless its newest version is there, and returns the version and whether it was fetched.
+
+    Of a part that is installed on this machine, nothing is fetched, and the version is empty.
+    """
     folder, key = tools_folder(), (part.suite, part.over)
     if key not in apts:
         apts[key] = Apt(f"{room}/apt-{len(apts)}", *key)
-    wanted = apts[key].versions(part.packages)
-    version = next((version for package, version, _ in wanted if package == part.packages[0]), "")
+    packages = [it for it in apts[key].lacking(part.packages) if it.architecture == "all" or not part.only_javascript]
+    versions = {it.name: it.version.replace(":", "-") for it in packages}
+    version = next((versions[package] for package in part.packages if package in versions), "")
     if not version:
-        raise NotFetched(f"{part.packages[0]} is installed on this machine")
+        return "", False
     whole = f"{folder}/{name}-{version}"
     is_new = not os.path.isdir(whole)
     if is_new:
         os.makedirs(f"{room}/{name}")
-        os.rename(fetch_anew(part, wanted, apts[key], f"{room}/{name}"), whole)
+        os.rename(fetch_anew(part, packages, apts[key], f"{room}/{name}"), whole)
     before = version_of(name)
     replace_link(folder, name, f"{name}-{version}")
     if before not in ("", version):

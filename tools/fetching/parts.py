@@ -43,9 +43,9 @@ def name_the_daemons_of_slurm(root):
 class Part:
     """Packages that are fetched together, by the name of their folder.
 
-    The version of the first package is that of the part. A part that is laid `over` this machine has the packages that
-    this machine lacks. Another has all that its packages need. If it is only JavaScript, it has those for every
-    processor alone: this machine's node runs them. `suite` is Debian's suite; without one it is this machine's.
+    The version of the first package that is fetched is that of the part. A part that is laid `over` this machine has the
+    packages that this machine lacks. Another has all that its packages need. If it is only JavaScript, it has those for
+    every processor alone: this machine's node runs them. `suite` is Debian's suite; without one it is this machine's.
     """
 
     packages: tuple

@@ -13,15 +13,23 @@ COUNTS = re.compile(r"(?:.* )?(\d+) passed, (\d+) failed")
 
 @dataclass
 class Part:
-    """A command, the programs that it needs, by their crates, and about how many seconds it takes."""
+    """A command, the programs that it needs, by their crates, and about how many seconds it takes.
+
+    `tools` are those that it runs with if tools/fetch has fetched them (tools/with).
+    """
 
     words: list
     needs: list = field(default_factory=list)
     seconds: float = 10
+    tools: tuple = ()
 
     @property
     def name(self):
         return self.words[0]
+
+    @property
+    def command(self):
+        return ["tools/with", *self.tools, "--", *self.words] if self.tools else self.words
 
 
 def part_task(part, tasks, tally):
@@ -35,7 +43,7 @@ def run_part(part, tally):
     begun = time.monotonic()
     with tempfile.TemporaryFile("w+", errors="replace") as out:
         how = {"stdin": subprocess.DEVNULL, "stdout": out, "stderr": subprocess.STDOUT}
-        status = subprocess.run([*rtlib.guarded(), *part.words], **how).returncode
+        status = subprocess.run([*rtlib.guarded(), *part.command], **how).returncode
         out.seek(0)
         said = out.read().rstrip("\n")
     last = said.rpartition("\n")[2]

@@ -94,19 +94,24 @@ const OF_SPIDERMONKEY = {
   },
 };
 
+/** Node 20 has an option that node 24 doesn't have. Without it, the test of this option fails. */
+const TRACE = parallel("trace-atomics-wait");
+const hasTrace = process.allowedNodeEnvironmentFlags.has("--trace-atomics-wait");
+
 /** @type {Family} */
 const OF_NODE = {
   name: "node-tests", sources: [NODEJS], programOf: by("node.mjs"), options: {},
   passing: [
-    "async-hooks-worker-asyncfn-terminate-4", "trace-atomics-wait", "worker-beforeexit-throw-exit", "worker-broadcastchannel",
+    "async-hooks-worker-asyncfn-terminate-4", "worker-beforeexit-throw-exit", "worker-broadcastchannel",
     "worker-http2-generic-streams-terminate",
     "worker-message-channel-sharedarraybuffer", "worker-message-port-multiple-sharedarraybuffers",
     "worker-message-port-wasm-threads",
     "worker-nested-on-process-exit", "worker-sharedarraybuffer-from-worker-thread", "worker-terminate-source-map",
     "worker-unref-from-message-during-exit", "worker-voluntarily-exit-followed-by-addition",
     "worker-voluntarily-exit-followed-by-throw", "worker-workerdata-sharedarraybuffer",
-  ].map(parallel),
+  ].map(parallel).concat(hasTrace ? [TRACE] : []),
   others: {
+    ...(hasTrace ? {} : { [TRACE]: { says: /9 !== 0/, why: "this node has no option --trace-atomics-wait" } }),
     [parallel("inspector-connect-main-thread")]: { says: /inspector\.Session/, why: "the inspector is refused" },
     [parallel("worker-process-cwd")]: {
       says: /process\.chdir/, why: "the directory is the process's, and a thread that stands for main can't change it",

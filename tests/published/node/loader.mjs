@@ -3,14 +3,17 @@
 
 import { nodeOf } from "./threads.mjs";
 
-const { HooksProxy } = nodeOf({
+// Node 20 and node 24 have other names for the same.
+const { HooksProxy, AsyncLoaderHookWorker = HooksProxy } = nodeOf({
   files: ["internal/modules/esm/hooks", "internal/modules/esm/shared_constants"],
   modules: {
     "internal/modules/esm/utils": { loaderWorkerId: "internal/modules/esm/worker" },
+    "internal/modules/esm/initialize_import_meta": {},
+    "internal/modules/esm/load": {},
   },
 }).require("internal/modules/esm/hooks");
 
-const proxy = new HooksProxy();
+const proxy = new AsyncLoaderHookWorker();
 const resolved = (name) => [name, "file:///main.mjs", {}];
 const needsUrl = (name, { url }) => {
   if (url !== `file:///${name}.mjs`) throw new Error(`${name} was resolved to ${url}`);

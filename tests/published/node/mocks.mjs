@@ -1,4 +1,5 @@
-// Node's module mocks: main mocks a module and restores it. A thread of node's loader acknowledges both.
+// Node's module mocks: main mocks a module and restores it. In node 20 a thread of node's loader acknowledges both. Node
+// 24 needs no thread for that.
 
 import { createRequire } from "node:module";
 import * as url from "node:url";
@@ -15,14 +16,21 @@ const loader = {
   resolveSync: () => ({ format: "module", url: "data:text/javascript,export default 1" }),
 };
 
+/** The place from which a module is mocked. */
+const caller = { getFileName: () => import.meta.url };
+
 const { MockTracker } = internals({
-  files: ["internal/test_runner/mock/mock"],
+  files: ["internal/test_runner/mock/mock", "internal/test_runner/mock/loader"],
   modules: {
     "internal/modules/esm/loader": { getOrInitializeCascadedLoader: () => loader },
+    "internal/modules/customization_hooks": { registerHooks: nothing },
     "internal/modules/cjs/loader": { Module: createRequire(import.meta.url)("node:module") },
     "internal/options": { getOptionValue: () => true },
-    "internal/url": { ...url, toPathIfFileURL: (path) => path },
-    "internal/util": { emitExperimentalWarning: nothing, getStructuredStack: () => [], kEmptyObject: {} },
+    "internal/url": { ...url, toPathIfFileURL: (path) => path, URLParse: (text) => new URL(text) },
+    "internal/util": {
+      deprecateProperty: () => nothing, emitExperimentalWarning: nothing, getStructuredStack: () => Array(4).fill(caller),
+      kEmptyObject: {},
+    },
     "internal/validators": {
       validateBoolean: nothing, validateObject: nothing, validateOneOf: nothing, validateString: nothing,
     },

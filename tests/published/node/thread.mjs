@@ -13,24 +13,35 @@ const LOADER = "internal/modules/esm/worker";
 const LOADER_FILES = [LOADER, "internal/modules/esm/hooks", "internal/modules/esm/shared_constants"];
 const nothing = () => {};
 
-/** The hooks of the loader's thread, with one of a user's, which takes a while. */
+/** A user's hook, which takes a while, and its file. */
+const USERS = "file:///hooks.mjs";
+const users = {
+  resolve: async (name) => {
+    await setTimeout(2);
+    return { url: `file:///${name}.mjs`, shortCircuit: true };
+  },
+};
+
+/** The hooks of the loader's thread, as node 20 has them. Node 24 makes them itself, of the files that an option names. */
 async function initializeHooks() {
   const { Hooks } = require("internal/modules/esm/hooks");
   const hooks = new Hooks();
-  hooks.addCustomLoader("file:///hooks.mjs", {
-    resolve: async (name) => {
-      await setTimeout(2);
-      return { url: `file:///${name}.mjs`, shortCircuit: true };
-    },
-  });
+  hooks.addCustomLoader(USERS, users);
   return { hooks, preloadScripts: hooks.initializeGlobalPreload() };
 }
 
 const modules = {
   "internal/process/pre_execution": {
     prepareWorkerThreadExecution: nothing, setupUserModules: nothing, markBootstrapComplete: nothing,
+    initializeModuleLoaders: nothing, loadPreloadModules: nothing, initializeFrozenIntrinsics: nothing,
   },
+  "internal/options": { getOptionValue: (name) => (name === "--experimental-loader" ? [USERS] : undefined) },
+  "internal/buffer": { isMarkedAsUntransferable: () => false },
   "internal/process/execution": { hasUncaughtExceptionCaptureCallback: () => false },
+  "internal/modules/esm/loader": {
+    isCascadedLoaderInitialized: () => false, getOrInitializeCascadedLoader: () => ({ import: () => users }),
+  },
+  "internal/modules/esm/load": {},
   "internal/modules/esm/resolve": { throwIfInvalidParentURL: nothing },
   "internal/validators": { validateString: nothing, validateObject: nothing },
   "internal/modules/esm/utils": { loaderWorkerId: LOADER, initializeHooks, getDefaultConditions: () => [] },

@@ -57,7 +57,10 @@ const MODULES = {
     ReadableWorkerStdio: Stdio, kPort: Symbol("kPort"),
   },
   "internal/error_serdes": { serializeError: same, deserializeError: same },
-  "internal/util": { kEmptyObject: {} },
+  "internal/util": {
+    kEmptyObject: {}, constructSharedArrayBuffer: (bytes) => new SharedArrayBuffer(bytes),
+    getCWDURL: () => new URL("file:///"),
+  },
   "internal/perf/event_loop_utilization": {},
   "internal/options": { getOptionValue() {} },
   "internal/v8/startup_snapshot": { throwIfBuildingSnapshot() {} },
