@@ -10,7 +10,7 @@ import { after, describe, test } from "node:test";
 import { pathToFileURL } from "node:url";
 import { Job } from "../lib/seeds/job.mjs";
 import { Runs, outcomesOf as taken } from "../lib/seeds/runs.mjs";
-import { CHECKER } from "./helpers/needs.mjs";
+import { CHECKER, needing } from "./helpers/needs.mjs";
 import { Opinions } from "./helpers/opinions.mjs";
 import { pathOf } from "./helpers/programs.mjs";
 
@@ -59,8 +59,8 @@ const FAILS = {
   "ring-frees-first": ["failed", "race"],
 };
 
-/** Why an example isn't recorded here, if so: one is of node's own code. */
-const WHY_NOT = { "node-cwd": process.version.startsWith("v20.") ? false : "README says what node 20 does" };
+/** For what README says about node's own code. */
+const onNode20 = needing("node 20", process.version.startsWith("v20."));
 
 /** What README says about an example's runs, by their outcomes. */
 const FOUND = {
@@ -144,7 +144,7 @@ describe("examples", () => {
   });
 
   for (const name of NAMES) {
-    test(`${name} under ${SEEDS} seeds`, { skip: WHY_NOT[name] ?? false }, async () => {
+    test(`${name} under ${SEEDS} seeds`, name === "node-cwd" ? onNode20 : {}, async () => {
       const outcomes = await outcomesOf(join(FOLDER, `${name}.agents.mjs`), SEEDS, 1);
       const failing = outcomes.filter(({ ending }) => ending !== "finished");
       if (FAILS[name] !== undefined) {
@@ -164,7 +164,7 @@ describe("examples", () => {
     });
   }
 
-  test("README counts their scripts, waits and moves", { skip: WHY_NOT["node-cwd"] }, () => {
+  test("README counts their scripts, waits and moves", onNode20, () => {
     const counted = /All ([\d,]+) scripts .* ([\d,]+) waits that joined a line and ([\d,]+) that .* ([\d,]+) moves/s;
     const said = counted.exec(README).slice(1).map((text) => Number(text.replaceAll(",", "")));
     assert.deepEqual(said, [all.scripts, all.waits, all.timeOuts, all.moves]);

@@ -10,7 +10,7 @@ import { setTimeout as sleep } from "node:timers/promises";
 import { Delivery } from "../lib/seeds/delivery.mjs";
 import { Difference, LostJob, NoSabsim, Refused, explore, record } from "../recorder.mjs";
 import { agentsOf, agentsPath, processesWith, temporaryFolder } from "./helpers/common.mjs";
-import { CHECKER, NOWHERE, onLinux } from "./helpers/needs.mjs";
+import { CHECKER, NOWHERE, onLinux, withShell } from "./helpers/needs.mjs";
 
 const LIBRARY = new URL("../recorder.mjs", import.meta.url).href;
 /** Drawn for before each call, so that there are no pilots, which call `init` too. */
@@ -167,7 +167,7 @@ test("a signal ends it with its reason, before it begins and amid the runs", asy
   }
 });
 
-test("a difference ends it, and so does a job's process that ends", async (context) => {
+test("a difference ends it, and so does a job's process that ends", withShell, async (context) => {
   const folder = temporaryFolder(context);
   const lying = join(folder, "lying");
   writeFileSync(lying, "#!/bin/sh\ncat > /dev/null\necho '0 0 0 begin'\n", { mode: 0o755 });

@@ -9,6 +9,7 @@ import { fileURLToPath } from "node:url";
 import { Difference, NoSabsim, record } from "../recorder.mjs";
 import { commandHere } from "./helpers/command-here.mjs";
 import { RECORD, agentsPath, recordCase, temporaryFolder } from "./helpers/common.mjs";
+import { withShell } from "./helpers/needs.mjs";
 import { SIMULATOR_WORDS } from "./helpers/simulate.mjs";
 import { eventsOfTrace, slowJudge } from "./helpers/slow-judge.mjs";
 import { plainText, statusOf } from "./helpers/verdict-texts.mjs";
@@ -49,7 +50,7 @@ function run(...words) {
 
 const addition = ["--agents", "2", "--everywhere", "--buffers", "12", "--seeds", "7", "--", "addition"];
 
-describe("the judge of checked runs", () => {
+describe("the judge of checked runs", withShell, () => {
   it("is given the run's trace, and says what the slow judge finds in it", async (context) => {
     const folder = temporaryFolder(context);
     for (const seed of [1, RACING_SEED]) {

@@ -8,7 +8,7 @@ import { test } from "node:test";
 import { Keeper, NotKept } from "../lib/keeping/keep.mjs";
 import { Refused } from "../lib/options/refused.mjs";
 import { RECORD, agentsPath, temporaryFolder } from "./helpers/common.mjs";
-import { CHECKING } from "./helpers/needs.mjs";
+import { CHECKING, withShell } from "./helpers/needs.mjs";
 
 const run = (seed, parts) => ({ seed, script: `script ${seed}`, report: `report ${seed}`, ...parts });
 const filesOf = (seed) => [`seed-${seed}.json`, `seed-${seed}.report`];
@@ -156,7 +156,7 @@ for (const signal of ["SIGINT", "SIGTERM"]) {
   });
 }
 
-test("a file that can't be written ends the command with status 3", (context) => {
+test("a file that can't be written ends the command with status 3", withShell, (context) => {
   const out = temporaryFolder(context);
   // No file may have more than 1,024 bytes: the script of this run has more.
   const words = [RECORD, agentsPath("naive-mutex"), "--check", "0", "--seeds", "1..400", "--out", out];

@@ -7,7 +7,7 @@ import { test } from "node:test";
 import { pathToFileURL } from "node:url";
 import { Difference, NoSabsim, Refused, explore, record } from "../recorder.mjs";
 import { agentsOf, agentsPath, recordCase, temporaryFolder } from "./helpers/common.mjs";
-import { CHECKER, NOWHERE, hasSabsim } from "./helpers/needs.mjs";
+import { CHECKER, NOWHERE, hasSabsim, withShell } from "./helpers/needs.mjs";
 import { simulated } from "./helpers/simulate.mjs";
 
 const module = agentsPath("cases");
@@ -114,7 +114,7 @@ test("the outcome's report is what sabsim replays of its script", async () => {
   assert.equal(simulated(["replay"], script).output, report);
 });
 
-test("sabsim is asked unless `sabsim` is false", async (context) => {
+test("sabsim is asked unless `sabsim` is false", withShell, async (context) => {
   await assert.rejects(recordCase("addition", { sabsim: NOWHERE }), NoSabsim);
   await assert.rejects(recordCase("addition", { check: () => {}, sabsim: NOWHERE }), NoSabsim);
   assert.equal((await recordCase("addition", { sabsim: false })).ending, "finished");

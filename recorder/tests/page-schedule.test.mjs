@@ -84,7 +84,7 @@ async function savedBy(page) {
 }
 
 for (const [name, { isThere, begin }] of Object.entries(BROWSERS)) {
-  const needs = [["sabsim", hasSabsim], ["the simulator's module", SIMULATOR !== undefined], [name, isThere]];
+  const needs = [["sabsim", hasSabsim], ["module of the simulator", SIMULATOR !== undefined], [name, isThere]];
   const [missing] = needs.find(([, is]) => !is) ?? [];
   const withBrowser = needing(`${missing}`, missing === undefined);
 

@@ -13,6 +13,7 @@ import { TIMES_TRIED } from "../lib/run/words.mjs";
 import { rowStrayedText } from "../lib/shorter/differing.mjs";
 import { CLOSED, LISTENS, ONE_THREAD, RACE } from "./helpers/real-programs.mjs";
 import { temporaryFolder } from "./helpers/common.mjs";
+import { withShell } from "./helpers/needs.mjs";
 import { programOf } from "./helpers/whole-programs.mjs";
 
 /** @type {Promise<ProgramGroup> | undefined} */
@@ -93,14 +94,14 @@ describe("a run with real answers is the same by its row", () => {
     await repeated(context, { "main.mjs": LISTENS }, 2);
   });
 
-  it("in which a process ends while the thread's module is evaluated: that is a move", async (context) => {
+  it("in which a process ends while the thread's module is evaluated: that is a move", withShell, async (context) => {
     const rows = await repeated(context, ENDS, 12);
     for (const row of rows) assert.ok(row.includes(LOOK + 1), `${row}`);
   });
 });
 
 describe("an answer that comes too soon", () => {
-  it("is held back until the row has it", async (context) => {
+  it("is held back until the row has it", withShell, async (context) => {
     const slow = join(temporaryFolder(context), "slow");
     const made = await runsBy(context, {
       "main.mjs": `import { Worker } from "node:worker_threads"; import { execSync } from "node:child_process";

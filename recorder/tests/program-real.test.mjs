@@ -8,6 +8,7 @@ import { pathToFileURL } from "node:url";
 import { defaultsOf } from "../lib/options/table.mjs";
 import { Job } from "../lib/seeds/job.mjs";
 import { commandThere, temporaryFolder } from "./helpers/common.mjs";
+import { withShell } from "./helpers/needs.mjs";
 import { CLOSED, LISTENS, ONE_THREAD, RACE, TWO_THREADS } from "./helpers/real-programs.mjs";
 import { seedsTo } from "./helpers/recorded.mjs";
 import { programOf, runsOf } from "./helpers/whole-programs.mjs";
@@ -50,7 +51,7 @@ assert.deepEqual(await once(sleeper, "exit"), [null, "SIGTERM"]);`;
 const FORKED = `process.on("message", (text) => process.send(text + ", and back"));`;
 
 describe("child processes", () => {
-  it("have their input and output, by each function that begins one", async (context) => {
+  it("have their input and output, by each function that begins one", withShell, async (context) => {
     const [outcome] = await runsOf(context, { "main.mjs": PROCESSES, "child.cjs": FORKED });
     assert.deepEqual([outcome.ending, outcome.detail], ["finished", ""]);
     assert.deepEqual(outcome.real, [

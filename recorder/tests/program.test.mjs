@@ -10,7 +10,7 @@ import { optionsOf, USAGE } from "../lib/command/options.mjs";
 import { Refused } from "../lib/options/refused.mjs";
 import { commandHere } from "./helpers/command-here.mjs";
 import { RECORD, WITHOUT_SABSIM, agentsOf, agentsPath, processesWith, temporaryFolder } from "./helpers/common.mjs";
-import { CHECKING, NOWHERE, hasSabsim, onLinux } from "./helpers/needs.mjs";
+import { CHECKING, NOWHERE, hasSabsim, onLinux, withShell } from "./helpers/needs.mjs";
 import { simulated } from "./helpers/simulate.mjs";
 
 /** Which simulator checks the runs of these tests. */
@@ -295,7 +295,7 @@ test("with nothing built every run is checked, and explanation, picture and page
   assert.ok(stdout.split("\n").includes(checked), stdout);
 });
 
-test("a picture that sabsim doesn't make is reported", async (context) => {
+test("a picture that sabsim doesn't make is reported", withShell, async (context) => {
   const folder = temporaryFolder(context);
   const half = join(folder, "half");
   // It says the same of the run, whatever it was, and makes no picture.
@@ -313,7 +313,7 @@ test("a picture that sabsim doesn't make is reported", async (context) => {
   assert.ok(stdout.endsWith(left), stdout);
 });
 
-test("a difference stops everything with status 3, and is kept", (context) => {
+test("a difference stops everything with status 3, and is kept", withShell, (context) => {
   const folder = temporaryFolder(context);
   const lying = join(folder, "lying");
   writeFileSync(lying, "#!/bin/sh\ncat > /dev/null\necho '0 0 0 begin'\n", { mode: 0o755 });

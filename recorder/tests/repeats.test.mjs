@@ -13,6 +13,7 @@ import { checkedOptions } from "../lib/library/library-options.mjs";
 import { Job } from "../lib/seeds/job.mjs";
 import { ModuleSimulator } from "../lib/simulator/module.mjs";
 import { temporaryFolder } from "./helpers/common.mjs";
+import { withShell } from "./helpers/needs.mjs";
 import { SIMULATOR_WORDS } from "./helpers/simulate.mjs";
 
 const RACE_STATUS = 5;
@@ -130,7 +131,7 @@ describe("runs that repeat", () => {
     assert.equal(simulator.asked, 4);
   });
 
-  it("a job asks the module once about runs that repeat, and the native program about each run", async (test) => {
+  it("a job asks the module once about runs that repeat, the native program about each", withShell, async (test) => {
     const folder = temporaryFolder(test);
     const module = join(folder, "agents.mjs");
     writeFileSync(module, `

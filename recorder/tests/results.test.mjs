@@ -2,11 +2,11 @@
 
 import assert from "node:assert/strict";
 import { spawnSync } from "node:child_process";
-import { writeFileSync } from "node:fs";
+import { readFileSync, readdirSync, writeFileSync } from "node:fs";
 import { join } from "node:path";
 import { test } from "node:test";
 import { temporaryFolder } from "./helpers/common.mjs";
-import { readReport, skippedLine, sumOf } from "./helpers/results.mjs";
+import { closingLines, readReport, wholeOf } from "./helpers/results.mjs";
 
 /** What comes of a file of tests. @param {import("node:test").TestContext} context @param {string} code */
 function resultOf(context, code) {
@@ -19,18 +19,19 @@ function resultOf(context, code) {
   return { ...counts, problems };
 }
 
-test("tests that pass, fail and are skipped are counted one by one, in suites too", (context) => {
+test("tests that pass, fail and are left out are counted one by one, in suites too", (context) => {
   const { problems, ...counts } = resultOf(context, `
     test("one", () => {});
-    test("two", { skip: "needs sabsim" }, () => {});
+    test("two", { skip: "no sabsim" }, () => {});
     describe("suite", () => {
       it("three", () => {});
       it("four", () => { throw new Error("four is wrong"); });
-      it("five", { skip: "needs a browser" }, () => {});
-      it("six", (the) => the.skip("needs sabsim"));
+      it("five", { skip: "no browser" }, () => {});
+      it("six", (the) => the.skip("no sabsim"));
     });
   `);
-  assert.deepEqual(counts, { passed: 2, failed: 1, skipped: ["needs sabsim", "needs a browser", "needs sabsim"] });
+  const leftOut = ["no sabsim", "no browser", "no sabsim"];
+  assert.deepEqual(counts, { passed: 2, failed: 1, leftOut, failing: ["four"] });
   assert.match(problems, /^ *not ok 2 - four\n[^]*four is wrong/);
   assert.ok(!problems.includes("suite"));
 });
@@ -43,22 +44,42 @@ test("a file without a test, or that ends early, has failed", (context) => {
     assert.ok(failed > 0 && problems.length > 0, code);
   }
   const problems = "the report has no counts: the process has ended before\n";
-  assert.deepEqual(readReport("", true), { passed: 0, failed: 1, skipped: [], problems });
+  assert.deepEqual(readReport("", true), { passed: 0, failed: 1, leftOut: [], failing: [], problems });
   assert.equal(readReport("# pass 5\n", false).failed, 1);
   assert.equal(readReport("# pass 5\n# fail 1\n", true).failed, 2);
 });
 
-test("reasons are counted in words", () => {
-  assert.equal(skippedLine(["needs sabsim", "needs rt", "needs sabsim"]), "skipped: 2 need sabsim, 1 needs rt");
-  assert.equal(skippedLine([]), "skipped: none");
+/** What comes of a file. @param {Partial<import("./helpers/results.mjs").Result>} result */
+const fileWith = (result) => ({ passed: 0, failed: 0, leftOut: [], failing: [], problems: "", ...result });
+
+const SEVEN = [fileWith({ passed: 5, leftOut: ["no sabsim", "no browser", "no sabsim"] }), fileWith({ passed: 2 })];
+const LEFT_OUT = "left out: 2 tests (no sabsim), 1 test (no browser)";
+const SECOND = [{ name: "jobs.test.mjs", failing: ["one is killed", "all, at last"] }, { name: "a.test.mjs", failing: [] }];
+const SECOND_LINE =
+  "passed only the second time: jobs.test.mjs (one is killed), jobs.test.mjs (all, at last), a.test.mjs";
+
+test("before the counts are at most two lines: what was left out, and what passed only the second time", () => {
+  assert.deepEqual(closingLines(wholeOf([fileWith({ passed: 3 })])), ["3 passed, 0 failed"]);
+  assert.deepEqual(closingLines(wholeOf(SEVEN)), [LEFT_OUT, "7 passed, 0 failed"]);
+  assert.deepEqual(closingLines(wholeOf(SEVEN, SECOND)), [LEFT_OUT, SECOND_LINE, "7 passed, 0 failed"]);
 });
 
-test("a test that is skipped for lack of sabsim is a failure if sabsim is given", () => {
-  const results = [
-    { passed: 5, failed: 0, skipped: ["needs sabsim", "needs a browser"], problems: "" },
-    { passed: 2, failed: 1, skipped: [], problems: "" },
-  ];
-  const { passed, failed, unwanted } = sumOf(results, true);
-  assert.deepEqual([passed, failed, unwanted], [7, 2, 1]);
-  assert.equal(sumOf(results, false).failed, 1);
+test("if all is required, each test that was left out or passed only the second time has failed", () => {
+  const lines = closingLines(wholeOf(SEVEN, SECOND, { requireAll: true }));
+  assert.deepEqual(lines, [LEFT_OUT, SECOND_LINE, "4 passed, 6 failed"]);
+  assert.deepEqual(closingLines(wholeOf([fileWith({ passed: 3 })], [], { requireAll: true })), ["3 passed, 0 failed"]);
+});
+
+test("a test that is left out for lack of sabsim has failed if sabsim is given", () => {
+  const { passed, failed, lines } = wholeOf([...SEVEN, fileWith({ failed: 1 })], [], { hasSabsim: true });
+  assert.deepEqual([passed, failed, lines], [7, 3, [LEFT_OUT]]);
+});
+
+test("a test says what it needs by the one helper: no file has another way to leave a test out", () => {
+  const folder = new URL("./", import.meta.url);
+  const OTHER_WAY = /\bskip: |\.skip\(|\btodo: |\.todo\(/;
+  const files = readdirSync(folder, { recursive: true }).map(String)
+    .filter((name) => name.endsWith("mjs") && !["results.test.mjs", join("helpers", "needs.mjs")].includes(name));
+  assert.ok(files.length > 150);
+  assert.deepEqual(files.filter((name) => OTHER_WAY.test(readFileSync(new URL(name, folder), "utf8"))), []);
 });

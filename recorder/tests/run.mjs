@@ -1,33 +1,26 @@
-// Runs the tests of the recorder, as many files at a time as there are processors, and prints at the end how many were
-// skipped and why.
+// Runs the tests of the recorder, as many files at a time as there are processors. `npm test` calls it.
 //
-// usage: node recorder/tests/run.mjs [SABSIM]
+// usage: node recorder/tests/run.mjs [NAME ..] [--unit] [--require-all]
 //
-// SABSIM is the built program. Without it the recorder is tested alone, with node and nothing else: tests that need
-// the program, rt or a browser are skipped, and the simulator's module checks the runs of the others. Some tests watch
-// threads by the clock. So if tests fail, their files run once more, one at a time, and that second run counts. The
-// last line is `N passed, M failed`, and the status is 0 only if no test failed.
+// With words only the files whose names contain one of them are run. `--unit` runs only files that start no thread and
+// no process. If SABSIM in the environment names the built program, it checks the runs, except with `--unit`. Without it
+// the recorder is tested alone, with node and nothing else: the simulator's module checks the runs.
+//
+// The last line is `N passed, M failed`, and the status is 0 only if no test failed. The line before says which tests
+// were left out, since this machine lacks something. Some tests watch threads by the clock. So if tests fail, their
+// files run once more, one at a time, and that second run counts. A line names the tests that passed only then. With
+// `--require-all` each test of these two lines counts as failed.
 
 import { execFile } from "node:child_process";
-import { existsSync, readdirSync } from "node:fs";
+import { existsSync, statSync } from "node:fs";
 import { availableParallelism } from "node:os";
 import { join, resolve } from "node:path";
 import { fileURLToPath } from "node:url";
-import { readReport, skippedLine, sumOf } from "./helpers/results.mjs";
+import { closingLines, readReport, wholeOf } from "./helpers/results.mjs";
+import { Mistaken, REFUSAL, UNIT, WITHOUT_OTHERS, askedBy } from "./helpers/test-files.mjs";
 
 const FOLDER = fileURLToPath(new URL("./", import.meta.url));
 const BUILT = fileURLToPath(new URL("../../crates/sabsim/out/sabsim", import.meta.url));
-
-// The files that take the most processor time begin first, so that none of them is left alone at the end.
-const SLOWEST = [
-  "programs-known", "known", "page-schedule", "program", "realm", "jobs", "explore", "seeds", "race-programs",
-  "programs-in-node", "timed", "program-real", "pilots", "examples", "program-threads", "program-web", "shards",
-  "wrong", "runs", "program-replay", "program-same", "rows", "checks", "first-again", "program-beyond", "judge",
-  "bench", "program-windows", "catches-all", "shorter", "library", "program-library", "program-exact",
-  "program-helpers", "judged", "program-pilots", "written", "testing", "program-again", "program-wasm",
-  "referee-thread", "unseen", "conversions", "engine", "spins", "unrecorded", "program-output", "replay",
-  "program-strategy",
-].map((name) => `${name}.test.mjs`);
 
 /**
  * The variable that names further certificates. Each node process that finds it set reads them when it starts, and
@@ -38,13 +31,17 @@ const CERTIFICATES = "NODE_EXTRA_CA_CERTS";
 /** A file that takes longer is ended, and has failed. */
 const MOST_MILLISECONDS = 40 * 60_000;
 
+/** The status of a command line that asks for something that there isn't. */
+const MISTAKEN = 2;
+
 /** @typedef {import("./helpers/results.mjs").Result & { name: string, seconds: number }} FileResult */
 
-/** The names of the files, in the order in which they begin. */
-function namesOfFiles() {
-  const names = readdirSync(FOLDER).filter((name) => name.endsWith(".test.mjs")).sort();
-  return [...SLOWEST, ...names.filter((name) => !SLOWEST.includes(name))];
-}
+/**
+ * Whether a file may start no thread and no process.
+ * @param {string} name
+ * @param {Record<string, string | undefined>} env
+ */
+const startsNothing = (name, env) => UNIT.has(name) && env.SABSIM === undefined;
 
 /**
  * Runs a file of tests.
@@ -55,7 +52,7 @@ function namesOfFiles() {
 function resultOf(name, env) {
   const begun = performance.now();
   // Without --test the file's own process writes the report, and no further process starts it.
-  const words = ["--test-reporter=tap", join(FOLDER, name)];
+  const words = [...(startsNothing(name, env) ? WITHOUT_OTHERS : []), "--test-reporter=tap", join(FOLDER, name)];
   return new Promise((done) => {
     const limits = /** @type {const} */ ({ maxBuffer: 2 ** 30, timeout: MOST_MILLISECONDS, killSignal: "SIGKILL" });
     execFile(process.execPath, words, { env, ...limits }, (error, stdout, stderr) => {
@@ -66,12 +63,16 @@ function resultOf(name, env) {
 }
 
 /** @param {FileResult} result */
-function printResult({ name, passed, failed, skipped, problems, seconds }) {
+function printResult({ name, passed, failed, leftOut, problems, seconds }) {
   const counts = [`${passed} passed`];
   if (failed > 0) counts.push(`${failed} failed`);
-  if (skipped.length > 0) counts.push(`${skipped.length} skipped`);
+  if (leftOut.length > 0) counts.push(`${leftOut.length} left out`);
   console.log(`${name}: ${counts.join(", ")}, ${seconds.toFixed(1)} s`);
-  if (failed > 0) console.log(problems);
+  if (failed === 0) return;
+  console.log(problems);
+  if (UNIT.has(name) && problems.includes(REFUSAL)) {
+    console.log(`${name} is in the list UNIT of helpers/test-files.mjs, and starts a thread or a process`);
+  }
 }
 
 /**
@@ -94,36 +95,56 @@ async function resultsOf(names, atOnce, env) {
   return results;
 }
 
-/** Runs all files, and those in which tests failed once more. @param {Record<string, string | undefined>} env */
-async function finalResults(env) {
-  const results = await resultsOf(namesOfFiles(), availableParallelism(), env);
-  const failing = results.filter(({ failed }) => failed > 0).map(({ name }) => name);
-  if (failing.length === 0) return results;
+/**
+ * Runs files, and those in which tests failed once more.
+ * @param {string[]} names
+ * @param {Record<string, string | undefined>} env
+ */
+async function finalResults(names, env) {
+  const results = await resultsOf(names, availableParallelism(), env);
+  const failing = results.filter(({ failed }) => failed > 0);
+  if (failing.length === 0) return { results, second: [] };
   console.log("Tests failed. Their files run once more, one at a time:");
-  return [...results.filter(({ failed }) => failed === 0), ...await resultsOf(failing, 1, env)];
+  const again = await resultsOf(failing.map(({ name }) => name), 1, env);
+  const isWell = ({ name }) => again.some((result) => result.name === name && result.failed === 0);
+  return { results: [...results.filter(({ failed }) => failed === 0), ...again], second: failing.filter(isWell) };
+}
+
+/** The built program that the environment names, by its whole path. */
+function sabsimHere() {
+  const { SABSIM: named = "" } = process.env;
+  if (named === "") return undefined;
+  if (statSync(named, { throwIfNoEntry: false })?.isFile()) return resolve(named);
+  throw new Mistaken(`SABSIM is ${named}, which is no file: ./build makes crates/sabsim/out/sabsim`);
 }
 
 /** Prints what tests of the recorder alone leave out, and how to run all. */
 function printLeftOut() {
-  const how = existsSync(BUILT) ? "It is built, but `npm test` doesn't use it." : "`./build` builds it.";
+  const how = existsSync(BUILT) ? "It is built, but SABSIM doesn't name it." : "`./build` builds it.";
   console.log(`The recorder was tested alone, with the simulator's module and not with the program. ${how}`);
-  console.log("To test both together: tests/recorder crates/sabsim/out/sabsim");
+  console.log("To test both together: SABSIM=crates/sabsim/out/sabsim npm test");
 }
 
-/** @param {string | undefined} sabsim */
-async function main(sabsim) {
-  const isGiven = sabsim !== undefined;
-  const results = await finalResults({
+/** @param {string[]} words */
+async function main(words) {
+  const { names, isUnit, requireAll } = askedBy(words);
+  const sabsim = isUnit ? undefined : sabsimHere();
+  const { results, second } = await finalResults(names, {
     ...process.env,
     [CERTIFICATES]: undefined,
-    SABSIM: isGiven ? resolve(sabsim) : undefined,
+    SABSIM: sabsim,
   });
-  const { passed, failed, reasons, unwanted } = sumOf(results, isGiven);
-  if (!isGiven) printLeftOut();
-  if (unwanted > 0) console.log(`${unwanted} failed since they were skipped for lack of sabsim, though it is given`);
-  console.log(skippedLine(reasons));
-  console.log(`${passed} passed, ${failed} failed`);
-  process.exitCode = failed === 0 ? 0 : 1;
+  const hasSabsim = sabsim !== undefined;
+  if (!hasSabsim && !isUnit) printLeftOut();
+  const whole = wholeOf(results, second, { hasSabsim, requireAll });
+  for (const line of closingLines(whole)) console.log(line);
+  process.exitCode = whole.failed === 0 ? 0 : 1;
 }
 
-await main(process.argv[2]);
+try {
+  await main(process.argv.slice(2));
+} catch (error) {
+  if (!(error instanceof Mistaken)) throw error;
+  console.error(`tests: ${error.message}`);
+  process.exitCode = MISTAKEN;
+}

@@ -8,7 +8,7 @@ import { Difference, NoSabsim, Refused, record } from "../recorder.mjs";
 import { NAMES } from "./agents/refused.mjs";
 import { Cases } from "./helpers/cases.mjs";
 import { agentsOf, agentsPath, recordCase, temporaryFolder } from "./helpers/common.mjs";
-import { CHECKER } from "./helpers/needs.mjs";
+import { CHECKER, withShell } from "./helpers/needs.mjs";
 import { placesOf, recorded } from "./helpers/recorded.mjs";
 
 /** Records a module of the tests. Sabsim checks the run where it is given. */
@@ -285,7 +285,7 @@ test("a missing sabsim is reported before anything runs", async () => {
   });
 });
 
-test("a difference shows both sides", async (context) => {
+test("a difference shows both sides", withShell, async (context) => {
   const folder = temporaryFolder(context);
   const lying = `${folder}/lying`;
   writeFileSync(lying, "#!/bin/sh\ncat > /dev/null\nprintf '0 0 0 begin\\n1 0 0 act 5\\n'\n", { mode: 0o755 });

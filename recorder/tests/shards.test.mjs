@@ -15,6 +15,7 @@ import { shardOf, united, without } from "../lib/seeds/ranges.mjs";
 import { commandHere } from "./helpers/command-here.mjs";
 import { RECORD, agentsOf, agentsPath, temporaryFolder } from "./helpers/common.mjs";
 import { CHECKING, needing } from "./helpers/needs.mjs";
+import { pathOf } from "./helpers/programs.mjs";
 
 const MERGE = fileURLToPath(new URL("../merge.mjs", import.meta.url));
 const known = (name) => fileURLToPath(new URL(`./known/${name}.mjs`, import.meta.url));
@@ -280,7 +281,7 @@ test("GNU parallel runs the shards, as docs/RECORDER.md shows it", withParallel,
   const env = { ...process.env, PARALLEL_HOME: folder };
   const { status, stdout, stderr } = spawnSync("sh", ["-c", command], { cwd, env, encoding: "utf8" });
   assert.equal(status, 1, stderr);
-  const words = [RECORD, agentsPath("naive-mutex"), "--seeds", "1..200"];
+  const words = [RECORD, pathOf("recorder/examples/mutex-naive.agents.mjs"), "--seeds", "1..200"];
   assert.equal(stdout, spawnSync(process.execPath, words, { encoding: "utf8" }).stdout);
 });
 

@@ -16,7 +16,7 @@ import { labelOf, writtenText, writtenView } from "../script/written.mjs";
 import { assertAgents } from "../testing.mjs";
 import { commandHere } from "./helpers/command-here.mjs";
 import { RECORD, agentsPath, temporaryFolder } from "./helpers/common.mjs";
-import { CHECKING } from "./helpers/needs.mjs";
+import { CHECKING, withShell } from "./helpers/needs.mjs";
 import { recorded } from "./helpers/recorded.mjs";
 import { simulated } from "./helpers/simulate.mjs";
 
@@ -292,7 +292,7 @@ test("a Float16Array is watched, and the script has the bits", { skip: NO_FLOAT1
 const dataOf = (path) =>
   JSON.parse(/<script type="application\/json" id="run">([^]*?)<\/script>/.exec(readFileSync(path, "utf8"))[1]);
 
-test("a kept page says its module, options and versions, and its command makes the run again", (context) => {
+test("a kept page says its module, options and versions, and its command makes the run again", withShell, (context) => {
   const folder = temporaryFolder(context);
   mkdirSync(join(folder, "src"));
   writeFileSync(join(folder, "src", "ring.mjs"), readFileSync(RING, "utf8"));

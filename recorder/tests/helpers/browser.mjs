@@ -5,7 +5,7 @@ import { mkdtempSync, rmSync } from "node:fs";
 import { tmpdir } from "node:os";
 import { join } from "node:path";
 import { setTimeout as sleep } from "node:timers/promises";
-import { hasSabsim, needing } from "./needs.mjs";
+import { hasSabsim, needing, withSabsim } from "./needs.mjs";
 
 const NAMES = ["chromium", "chromium-browser", "google-chrome", "google-chrome-stable"];
 const MOST_MILLISECONDS = 30_000;
@@ -14,7 +14,7 @@ const MOST_MILLISECONDS = 30_000;
 export const BROWSER = NAMES.find((name) => spawnSync(name, ["--version"]).status === 0);
 
 /** For tests that need a browser, which tests of the recorder alone never start. */
-export const withBrowser = needing("a browser", hasSabsim && BROWSER !== undefined);
+export const withBrowser = hasSabsim ? needing("browser", BROWSER !== undefined) : withSabsim;
 
 const WORDS = [
   "--headless", "--no-sandbox", "--disable-gpu", "--disable-dev-shm-usage", "--force-device-scale-factor=1",

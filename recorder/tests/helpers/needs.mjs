@@ -1,5 +1,5 @@
-// What some tests need besides node. This module alone decides which tests are skipped, and each skipped test gives its
-// reason as `needs ..`.
+// What some tests need besides node. Each test that needs something says so by `needing`. Where it is missing the test is
+// left out, and counted so, with its reason as `no ..`.
 
 import { existsSync } from "node:fs";
 import { resolve } from "node:path";
@@ -29,10 +29,13 @@ export const CHECKING = hasSabsim ? ["--sabsim", SABSIM] : [];
  * @param {string} what
  * @param {boolean} isThere
  */
-export const needing = (what, isThere) => ({ skip: isThere ? false : `needs ${what}` });
+export const needing = (what, isThere) => ({ skip: isThere ? false : `no ${what}` });
 
 /** For tests that need the program itself. */
 export const withSabsim = needing("sabsim", hasSabsim);
 
 /** For tests that look for processes. */
 export const onLinux = needing("/proc", existsSync("/proc/self/environ"));
+
+/** For tests that start a shell, or a script for one. */
+export const withShell = needing("POSIX shell", existsSync("/bin/sh"));

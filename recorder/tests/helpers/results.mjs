@@ -1,12 +1,22 @@
-// What comes of files of tests, by node's reports in TAP: counts, why tests were skipped, and what failed.
+// What comes of files of tests, by node's reports in TAP: counts, what tests needed that isn't here, and what failed.
 
 /**
  * @typedef {object} Result what came of a file of tests
  * @property {number} passed
  * @property {number} failed
- * @property {string[]} skipped for each skipped test, why
+ * @property {string[]} leftOut for each test that was left out, why, as `no browser`
+ * @property {string[]} failing the names of the tests that failed
  * @property {string} problems what the report says about the tests that failed; the whole report if it names none
  */
+
+/**
+ * @typedef {object} Whole what came of all files
+ * @property {number} passed
+ * @property {number} failed
+ * @property {string[]} lines what stands before the counts: what was left out, and what passed only the second time
+ */
+
+/** @typedef {{ name: string, failing: string[] }} Second a file whose tests failed first, and passed the second time */
 
 /**
  * A report that names no test that failed. If it has no counts, it says so.
@@ -24,33 +34,63 @@ const withoutCounts = (report) =>
 export function readReport(report, isWell) {
   const count = (name) => Number(new RegExp(`^# ${name} (\\d+)$`, "m").exec(report)?.[1] ?? 0);
   const [passed, failed] = [count("pass"), count("fail") + count("cancelled")];
-  const skipped = [...report.matchAll(/^ *ok \d+ - .* # SKIP (.*)$/gm)].map(([, why]) => why);
+  const leftOut = [...report.matchAll(/^ *ok \d+ - .* # SKIP (.*)$/gm)].map(([, why]) => why);
   const blocks = [...report.matchAll(/^( *)not ok [^]*?^\1 {2}\.\.\.$/gm)].map(([block]) => block);
   const failures = blocks.filter((block) => !block.includes("failureType: 'subtestsFailed'"));
-  const isSound = isWell ? failed === 0 && passed + skipped.length > 0 : failed > 0;
+  const failing = failures.map((block) => /^ *not ok \d+ - (.*)$/m.exec(block)?.[1] ?? "");
+  const isSound = isWell ? failed === 0 && passed + leftOut.length > 0 : failed > 0;
   const problems = failures.length > 0 ? failures.join("\n") : withoutCounts(report);
-  return { passed, failed: isSound ? failed : failed + 1, skipped, problems };
+  return { passed, failed: isSound ? failed : failed + 1, leftOut, failing, problems };
 }
 
+/** How many of something, in words. @param {number} count */
+const tests = (count) => `${count} ${count === 1 ? "test" : "tests"}`;
+
 /**
- * How many tests were skipped for each reason, as `skipped: 37 need sabsim, 1 needs rt`.
- * @param {string[]} reasons
+ * What was left out, by the reasons, as `left out: 34 tests (no browser), 1 test (no rt)`. Nothing: no line.
+ * @param {string[]} reasons one for each test
+ * @returns {string[]}
  */
-export function skippedLine(reasons) {
+function leftOutLines(reasons) {
   const counts = new Map();
   for (const reason of reasons) counts.set(reason, (counts.get(reason) ?? 0) + 1);
-  const inWords = ([reason, count]) => `${count} ${count === 1 ? reason : reason.replace(/^needs /, "need ")}`;
-  return `skipped: ${reasons.length > 0 ? [...counts].map(inWords).join(", ") : "none"}`;
+  const entries = [...counts].map(([reason, count]) => `${tests(count)} (${reason})`);
+  return entries.length === 0 ? [] : [`left out: ${entries.join(", ")}`];
 }
 
 /**
- * The sums of some results. With sabsim, each test that was skipped for lack of it counts as failed.
- * @param {Result[]} results
- * @param {boolean} isGiven whether there is sabsim
+ * What passed only the second time, as `passed only the second time: jobs.test.mjs (a job is killed)`.
+ * @param {Second[]} second
+ * @returns {string[]}
  */
-export function sumOf(results, isGiven) {
-  const reasons = results.flatMap(({ skipped }) => skipped);
-  const unwanted = isGiven ? reasons.filter((reason) => reason === "needs sabsim").length : 0;
-  const count = (part) => results.reduce((before, { [part]: own }) => before + own, 0);
-  return { passed: count("passed"), failed: count("failed") + unwanted, reasons, unwanted };
+function secondLines(second) {
+  const entries = second.flatMap(({ name, failing }) =>
+    (failing.length === 0 ? [name] : failing.map((test) => `${name} (${test})`)));
+  return entries.length === 0 ? [] : [`passed only the second time: ${entries.join(", ")}`];
 }
+
+/**
+ * What comes of all files. With sabsim, each test that was left out for lack of it counts as failed.
+ * @param {Result[]} results
+ * @param {Second[]} second the files that passed only the second time
+ * @param {{ hasSabsim?: boolean, requireAll?: boolean }} [how] whether there is sabsim, and whether each test that was
+ * left out, or passed only the second time, counts as failed
+ * @returns {Whole}
+ */
+export function wholeOf(results, second = [], { hasSabsim = false, requireAll = false } = {}) {
+  const leftOut = results.flatMap((result) => result.leftOut);
+  const unwanted = leftOut.filter((reason) => requireAll || (hasSabsim && reason === "no sabsim"));
+  const seconds = second.map(({ failing }) => Math.max(failing.length, 1)).reduce((sum, count) => sum + count, 0);
+  const count = (part) => results.reduce((before, { [part]: own }) => before + own, 0);
+  return {
+    passed: count("passed") - (requireAll ? seconds : 0),
+    failed: count("failed") + unwanted.length + (requireAll ? seconds : 0),
+    lines: [...leftOutLines(leftOut), ...secondLines(second)],
+  };
+}
+
+/**
+ * The last lines of a run of tests: what was left out, what passed only the second time, and the counts.
+ * @param {Whole} whole
+ */
+export const closingLines = ({ passed, failed, lines }) => [...lines, `${passed} passed, ${failed} failed`];
