@@ -4,21 +4,15 @@
 import assert from "node:assert/strict";
 import { spawn, spawnSync } from "node:child_process";
 import { createHash } from "node:crypto";
-import {
-  chmodSync, copyFileSync, existsSync, mkdirSync, mkdtempSync, readFileSync, readdirSync, rmSync, writeFileSync,
-} from "node:fs";
+import { chmodSync, copyFileSync, existsSync, mkdirSync, readFileSync, readdirSync, writeFileSync } from "node:fs";
 import { once } from "node:events";
-import { tmpdir } from "node:os";
 import { join } from "node:path";
-import { after, test } from "node:test";
-import { fileURLToPath } from "node:url";
+import { test } from "node:test";
+import { NODES, PROJECT, TOP, environment, filesOf, packed, pathOf, projectWith, room, run, succeeds, version }
+  from "./installed.mjs";
 
-const pathOf = (place) => fileURLToPath(new URL(place, import.meta.url));
-const TOP = pathOf("../../");
-const PROJECT = pathOf("project/");
 const ENGINE = pathOf("../../recorder/tests/engine/main.mjs");
 const FILES = readFileSync(pathOf("files.txt"), "utf8").trimEnd().split("\n");
-const { version } = JSON.parse(readFileSync(join(TOP, "package.json"), "utf8"));
 const MACHINE = `${process.platform}-${process.arch}`;
 const PROGRAM_FILES = [`program/${MACHINE}/sabsim`, `program/${MACHINE}/sabsim.txt`];
 
@@ -30,59 +24,6 @@ const withCompiler = { skip: hasCompiler ? false : "there is no tsc on this mach
 /** What a summary says about runs that the module has checked. */
 const CHECKED =
   /^every run was replayed and judged by the simulator \(WebAssembly module\), except exact repeats: it agrees with the recorder$/m;
-
-const room = mkdtempSync(join(tmpdir(), "sabsim-package-"));
-after(() => rmSync(room, { recursive: true, force: true }));
-
-/** What a user's shell has: nothing of this test's own run, and npm without a network. */
-const environment = Object.fromEntries(
-  Object.entries(process.env).filter(([name]) => !/^(NODE_|npm_|SABSIM)/i.test(name)),
-);
-Object.assign(environment, {
-  npm_config_cache: join(room, "npm"), npm_config_offline: "true", npm_config_update_notifier: "false",
-});
-
-/** Runs a command until it ends. */
-function run(folder, command, words, input = "") {
-  const options = { cwd: folder, input, encoding: "utf8", env: environment, maxBuffer: 2 ** 26, timeout: 120_000 };
-  const { status, signal, stdout, stderr, error } = spawnSync(command, words, options);
-  assert.equal(error, undefined);
-  return { status, signal, output: stdout, errors: stderr };
-}
-
-/** What a command that succeeds writes. */
-function succeeds(folder, command, words, input) {
-  const { status, output, errors } = run(folder, command, words, input);
-  assert.equal(status, 0, `${command} ${words.join(" ")}\n${output}\n${errors}`);
-  return output;
-}
-
-/** Makes the package; returns its path. */
-function packed(name, words) {
-  const folder = join(room, name);
-  mkdirSync(folder);
-  const path = succeeds(TOP, join(TOP, "tools/package"), [folder, ...words]).trimEnd();
-  assert.equal(path, join(folder, `sabsim-${version}.tgz`));
-  return path;
-}
-
-/** The files in a package, in the order of their names. */
-function filesOf(path) {
-  const names = succeeds(room, "tar", ["-tzf", path]).trimEnd().split("\n");
-  return names.map((name) => name.replace(/^package\//, "")).sort();
-}
-
-/** A project of a user's own with some files and the package installed; returns its folder. */
-function projectWith(name, path, files = readdirSync(PROJECT)) {
-  const folder = join(room, name);
-  mkdirSync(folder);
-  for (const file of files) copyFileSync(join(PROJECT, file), join(folder, file));
-  writeFileSync(join(folder, "package.json"), '{ "name": "own", "version": "1.0.0", "private": true }\n');
-  copyFileSync(path, join(folder, `sabsim-${version}.tgz`));
-  const words = ["install", "--offline", "--no-audit", "--no-fund", `./sabsim-${version}.tgz`];
-  succeeds(folder, "npm", words);
-  return folder;
-}
 
 const npx = (folder, words, input) => run(folder, "npx", ["--no-install", ...words], input);
 
@@ -146,6 +87,21 @@ test("a project's own tests import it", () => {
   assert.match(output, /^# 10 runs passed, 10 checked by the simulator$/m);
   assert.match(output, /^# fail 0$/m);
 });
+
+for (const { name, command: [node, ...before], skip } of NODES) {
+  test(`by \`require\` ${name} gets all that \`import\` gets`, { skip }, () => {
+    const output = succeeds(project, node, [...before, "--test", "--test-reporter=tap", "required.cjs"]);
+    assert.match(output, /^# pass 5$/m);
+    assert.match(output, /^# 10 runs passed, 10 checked by the simulator$/m);
+  });
+
+  test(`${name} that can't require ES modules gets a form that runs the recorder in a process`, { skip }, () => {
+    const words = ["--no-experimental-require-module", "--test", "--test-reporter=tap", "apart.cjs"];
+    const output = succeeds(project, node, [...before, ...words]);
+    assert.match(output, /^# pass 6$/m);
+    assert.match(output, /^# 10 runs passed, 10 checked by the simulator$/m);
+  });
+}
 
 test("the test that the README shows finds the lost wake-up", () => {
   const readme = readFileSync(join(TOP, "README.md"), "utf8").split("\n");

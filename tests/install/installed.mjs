@@ -1,0 +1,81 @@
+// The package as tests use it: made, and installed in a project of a user's own, in a folder that ends with the tests.
+
+import assert from "node:assert/strict";
+import { spawnSync } from "node:child_process";
+import { copyFileSync, existsSync, mkdirSync, mkdtempSync, readFileSync, readdirSync, rmSync, writeFileSync } from "node:fs";
+import { homedir, tmpdir } from "node:os";
+import { join } from "node:path";
+import { after } from "node:test";
+import { fileURLToPath } from "node:url";
+
+export const pathOf = (place) => fileURLToPath(new URL(place, import.meta.url));
+export const TOP = pathOf("../../");
+export const PROJECT = pathOf("project/");
+/** Where tools/fetch puts what it fetches. */
+const { SABSIM_TOOLS, XDG_CACHE_HOME = join(homedir(), ".cache") } = process.env;
+export const TOOLS = SABSIM_TOOLS ?? join(XDG_CACHE_HOME, "sabsim-tools");
+export const { version } = JSON.parse(readFileSync(join(TOP, "package.json"), "utf8"));
+
+export const room = mkdtempSync(join(tmpdir(), "sabsim-package-"));
+after(() => rmSync(room, { recursive: true, force: true }));
+
+/** What a user's shell has: nothing of this test's own run, and npm without a network. */
+export const environment = Object.fromEntries(
+  Object.entries(process.env).filter(([name]) => !/^(NODE_|npm_|SABSIM$)/i.test(name)),
+);
+Object.assign(environment, {
+  npm_config_cache: join(room, "npm"), npm_config_offline: "true", npm_config_update_notifier: "false",
+});
+
+/** Runs a command in a folder until it ends. */
+export function run(folder, command, words, input = "") {
+  const options = { cwd: folder, input, encoding: "utf8", env: environment, maxBuffer: 2 ** 26, timeout: 120_000 };
+  const { status, signal, stdout, stderr, error } = spawnSync(command, words, options);
+  assert.equal(error, undefined);
+  return { status, signal, output: stdout, errors: stderr };
+}
+
+/** What a command that succeeds writes. */
+export function succeeds(folder, command, words, input) {
+  const { status, output, errors } = run(folder, command, words, input);
+  assert.equal(status, 0, `${command} ${words.join(" ")}\n${output}\n${errors}`);
+  return output;
+}
+
+/** Makes the package; returns its path. */
+export function packed(name, words) {
+  const folder = join(room, name);
+  mkdirSync(folder);
+  const path = succeeds(TOP, join(TOP, "tools/package"), [folder, ...words]).trimEnd();
+  assert.equal(path, join(folder, `sabsim-${version}.tgz`));
+  return path;
+}
+
+/** The files in a package, in the order of their names. */
+export function filesOf(path) {
+  const names = succeeds(room, "tar", ["-tzf", path]).trimEnd().split("\n");
+  return names.map((name) => name.replace(/^package\//, "")).sort();
+}
+
+/** Makes a project of a user's own with some files and the package installed; returns its folder. */
+export function projectWith(name, path, files = readdirSync(PROJECT)) {
+  const folder = join(room, name);
+  mkdirSync(folder);
+  for (const file of files) copyFileSync(join(PROJECT, file), join(folder, file));
+  writeFileSync(join(folder, "package.json"), '{ "name": "own", "version": "1.0.0", "private": true }\n');
+  copyFileSync(path, join(folder, `sabsim-${version}.tgz`));
+  const words = ["install", "--offline", "--no-audit", "--no-fund", `./sabsim-${version}.tgz`];
+  succeeds(folder, "npm", words);
+  return folder;
+}
+
+/** The node that `tools/fetch node` has fetched, if it is there, can be used here, and isn't this one. */
+function otherNode() {
+  const command = [join(TOP, "tools/with"), "node", "--", "/usr/bin/node"];
+  const { status, stdout } = spawnSync(command[0], [...command.slice(1), "--version"], { encoding: "utf8" });
+  const isThere = existsSync(join(TOOLS, "node")) && status === 0 && stdout.trimEnd() !== process.version;
+  return { name: isThere ? `node ${stdout.trimEnd()}` : "another node", command, skip: isThere ? false : "there is none" };
+}
+
+/** The nodes with which the package is used: this one and another. `skip` says why it can't be. */
+export const NODES = [{ name: `node ${process.version}`, command: [process.execPath], skip: false }, otherNode()];
