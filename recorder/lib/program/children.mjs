@@ -54,11 +54,10 @@ export class Children {
     const all = [...this.#begun];
     this.#begun.clear();
     for (const child of all) silence(child);
-    let left = MOST_MILLISECONDS;
+    const last = performance.now() + MOST_MILLISECONDS;
     const look = () => {
       if (all.every(({ _handle: handle }) => handle === null)) return then(true);
-      left -= 1;
-      if (left === 0) return then(false);
+      if (performance.now() > last) return then(false);
       wake(look, 1);
     };
     look();

@@ -1,0 +1,50 @@
+// What differs between operating systems, as a value that a function is given; the running system's is the default.
+// macOS does all of this as Linux does. This is a CommonJS module, since such a one is loaded sooner.
+"use strict";
+
+const path = require("node:path");
+const process = require("node:process");
+
+/**
+ * @typedef {object} Platform
+ * @property {boolean} isWindows as node's functions on URLs and paths take it
+ * @property {import("node:path").PlatformPath} path the module for its paths
+ * @property {string} programEnding of the name of a program's file
+ * @property {boolean} hasSignals whether a signal can end a process, so that others see by which it has ended
+ * @property {boolean} hasGroups whether a process can lead a group of processes that a signal ends
+ * @property {boolean} ignoresCase whether the names of environment variables ignore case
+ * @property {number} heldMilliseconds how long another program may hold a file that was just written; 0: it can't
+ * @property {(word: string) => string} quoted a word as its usual shell takes it
+ */
+
+/** What a shell takes as it is, on each system. */
+const PLAIN = /^[\w@%+=:,./-]+$/;
+
+/** @type {Readonly<Platform>} Linux, macOS and their kin */
+const POSIX = Object.freeze({
+  isWindows: false,
+  path: path.posix,
+  programEnding: "",
+  hasSignals: true,
+  hasGroups: true,
+  ignoresCase: false,
+  heldMilliseconds: 0,
+  quoted: (word) => (PLAIN.test(word) ? word : `'${word.replaceAll("'", "'\\''")}'`),
+});
+
+/** @type {Readonly<Platform>} */
+const WINDOWS = Object.freeze({
+  isWindows: true,
+  path: path.win32,
+  programEnding: ".exe",
+  hasSignals: false,
+  hasGroups: false,
+  ignoresCase: true,
+  heldMilliseconds: 1_000,
+  // cmd.exe and PowerShell take words in these signs, and not in the others.
+  quoted: (word) => (PLAIN.test(word) ? word : `"${word.replaceAll('"', '\\"')}"`),
+});
+
+const HERE = process.platform === "win32" ? WINDOWS : POSIX;
+
+module.exports = { HERE, POSIX, WINDOWS };
