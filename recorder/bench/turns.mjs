@@ -66,7 +66,8 @@ export const ratioOf = ({ before, now }) => median(now) / median(before);
 
 /** @param {Taken[]} list @returns {Taken} all of them together, turn by turn */
 export function sumOf(list) {
-  const add = (/** @type {number[][]} */ rows) => rows[0].map((_, turn) => rows.reduce((sum, row) => sum + row[turn], 0));
+  const add = (/** @type {number[][]} */ rows) =>
+    rows[0].map((_, turn) => rows.reduce((sum, row) => sum + row[turn], 0));
   return { before: add(list.map(({ before }) => before)), now: add(list.map(({ now }) => now)) };
 }
 

@@ -68,7 +68,7 @@ test("the ratio of two commits is that of their medians, and the turns give its 
 });
 
 const TURNS = fileURLToPath(new URL("../bench/turns.mjs", import.meta.url));
-const inClone = needing("a clone of the repository", existsSync(new URL("../../.git", import.meta.url)));
+const inClone = needing("clone of the repository", existsSync(new URL("../../.git", import.meta.url)));
 
 /** What `turns.mjs` prints. @param {string[]} words */
 const turns = (...words) => spawnSync(process.execPath, [TURNS, ...words], { encoding: "utf8" });
