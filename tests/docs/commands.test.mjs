@@ -58,6 +58,7 @@ const COMMANDS = [
   ["tests/cases crates/sabsim/out/sabsim", { notRun: "./check runs it" }],
   ["rt doc", { status: 0, ...withKit }],
   ["rt version", { status: 0, ...withKit }],
+  ["node recorder/bench/turns.mjs HEAD~1", { by: "recorder/tests/bench.test.mjs", words: 'turns("HEAD", "mutex-naive", ' }],
   ["./build", { by: "tests/build", words: "building\n" }],
   ["./build --package", { by: "tests/build", words: "building --package --jobs 1\n" }],
   ["./check", RUNS_THIS],
