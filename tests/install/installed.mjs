@@ -79,5 +79,5 @@ function otherNode() {
   return { name: isThere ? `node ${stdout.trimEnd()}` : "another node", command, needs };
 }
 
-/** The nodes with which the package is used: this one and another. `skip` says why it can't be. */
+/** The nodes with which the package is used: this one and another. `needs` leaves tests out if it is missing. */
 export const NODES = [{ name: `node ${process.version}`, command: [process.execPath], needs: {} }, otherNode()];
