@@ -7,6 +7,7 @@ import { homedir, tmpdir } from "node:os";
 import { join } from "node:path";
 import { after } from "node:test";
 import { fileURLToPath } from "node:url";
+import { needing } from "../../recorder/tests/helpers/needs.mjs";
 
 export const pathOf = (place) => fileURLToPath(new URL(place, import.meta.url));
 export const TOP = pathOf("../../");
@@ -74,8 +75,9 @@ function otherNode() {
   const command = [join(TOP, "tools/with"), "node", "--", "/usr/bin/node"];
   const { status, stdout } = spawnSync(command[0], [...command.slice(1), "--version"], { encoding: "utf8" });
   const isThere = existsSync(join(TOOLS, "node")) && status === 0 && stdout.trimEnd() !== process.version;
-  return { name: isThere ? `node ${stdout.trimEnd()}` : "another node", command, skip: isThere ? false : "there is none" };
+  const needs = needing("node by tools/fetch", isThere);
+  return { name: isThere ? `node ${stdout.trimEnd()}` : "another node", command, needs };
 }
 
-/** The nodes with which the package is used: this one and another. `skip` says why it can't be. */
-export const NODES = [{ name: `node ${process.version}`, command: [process.execPath], skip: false }, otherNode()];
+/** The nodes with which the package is used: this one and another. `needs` leaves tests out if it is missing. */
+export const NODES = [{ name: `node ${process.version}`, command: [process.execPath], needs: {} }, otherNode()];
