@@ -1,7 +1,8 @@
 // The package as tests use it: made, and installed in a project of a user's own, in a folder that ends with the tests.
 
 import assert from "node:assert/strict";
-import { spawnSync } from "node:child_process";
+import { spawn, spawnSync } from "node:child_process";
+import { once } from "node:events";
 import { copyFileSync, existsSync, mkdirSync, mkdtempSync, readFileSync, readdirSync, rmSync, writeFileSync } from "node:fs";
 import { homedir, tmpdir } from "node:os";
 import { join } from "node:path";
@@ -34,6 +35,15 @@ export function run(folder, command, words, input = "") {
   const { status, signal, stdout, stderr, error } = spawnSync(command, words, options);
   assert.equal(error, undefined);
   return { status, signal, output: stdout, errors: stderr };
+}
+
+/** Runs a command in a folder until it ends, beside others, with more in its environment. */
+export async function runOf(folder, command, words, more) {
+  const env = { ...environment, ...more };
+  const child = spawn(command, words, { cwd: folder, env, stdio: ["ignore", "pipe", "pipe"] });
+  const [output, errors] = [child.stdout, child.stderr].map((stream) => stream.setEncoding("utf8").toArray());
+  const [status] = await once(child, "close");
+  return { status, output: (await output).join(""), errors: (await errors).join("") };
 }
 
 /** What a command that succeeds writes. */
