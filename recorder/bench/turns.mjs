@@ -66,7 +66,8 @@ export const ratioOf = ({ before, now }) => median(now) / median(before);
 
 /** @param {Taken[]} list @returns {Taken} all of them together, turn by turn */
 export function sumOf(list) {
-  const add = (/** @type {number[][]} */ rows) => rows[0].map((_, turn) => rows.reduce((sum, row) => sum + row[turn], 0));
+  const add = (/** @type {number[][]} */ rows) =>
+    rows[0].map((_, turn) => rows.reduce((sum, row) => sum + row[turn], 0));
   return { before: add(list.map(({ before }) => before)), now: add(list.map(({ now }) => now)) };
 }
 
@@ -85,8 +86,8 @@ export function rowOf(name, { before, now }) {
  */
 function unpack(commit, folder) {
   mkdirSync(folder);
-  const limits = { cwd: ROOT, maxBuffer: 2 ** 30 };
-  const archive = execFileSync("git", ["archive", commit, "package.json", "recorder"], limits);
+  const how = /** @type {const} */ ({ cwd: ROOT, maxBuffer: 2 ** 30, stdio: ["ignore", "pipe", "pipe"] });
+  const archive = execFileSync("git", ["archive", commit, "package.json", "recorder"], how);
   execFileSync("tar", ["-x", "-C", folder], { input: archive });
 }
 
@@ -142,8 +143,8 @@ function asked() {
   });
   const all = Object.keys(COURSES);
   const unknown = names.find((name) => !all.includes(name));
-  if (commit === undefined) throw new Error("turns: name a commit, such as HEAD");
-  if (unknown !== undefined) throw new Error(`turns: there is no program ${unknown}: it is one of ${all.join(", ")}`);
+  if (commit === undefined) throw new Error("name a commit, such as HEAD");
+  if (unknown !== undefined) throw new Error(`there is no program ${unknown}: it is one of ${all.join(", ")}`);
   return { commit, names: names.length > 0 ? names : all, values };
 }
 
@@ -166,4 +167,11 @@ function main() {
   }
 }
 
-if (process.argv[1] === fileURLToPath(import.meta.url)) main();
+if (process.argv[1] === fileURLToPath(import.meta.url)) {
+  try {
+    main();
+  } catch (error) {
+    process.stderr.write(`turns: ${error.message}\n`);
+    process.exitCode = 2;
+  }
+}

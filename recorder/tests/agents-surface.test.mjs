@@ -8,6 +8,7 @@ import threads, { Worker } from "node:worker_threads";
 import { SURFACE, namesHere } from "../lib/agent/surface-table.mjs";
 import { temporaryFolder } from "./helpers/common.mjs";
 import { recorded } from "./helpers/recorded.mjs";
+import { whereNodeHasIt } from "./helpers/where-node-has-it.mjs";
 
 /** Reports, from a worker as agents have it, the names that each owner has. */
 const LOOKING = `
@@ -51,9 +52,9 @@ function moduleOf(context, line) {
   return module;
 }
 
-const NO_LOCKS = threads.locks === undefined && "this node has no navigator.locks";
+const withLocks = whereNodeHasIt(threads.locks !== undefined);
 
-test("navigator.locks, also of worker_threads, is refused by name and line", { skip: NO_LOCKS }, async (context) => {
+withLocks("navigator.locks, also of worker_threads, is refused by name and line", async (context) => {
   for (const [code, name] of [
     ["navigator.locks.request('a', () => {});", "request"],
     ["threads.locks.request('a', { ifAvailable: true }, () => 5);", "request"],
@@ -70,9 +71,9 @@ test("navigator.locks, also of worker_threads, is refused by name and line", { s
   }
 });
 
-const NO_PAUSE = Atomics.pause === undefined && "this engine has no Atomics.pause";
+const withPause = whereNodeHasIt(Atomics.pause !== undefined);
 
-test("Atomics.pause is no move, and checks what it is given as the engine", { skip: NO_PAUSE }, async (context) => {
+withPause("Atomics.pause is no move, and checks what it is given as the engine", async (context) => {
   const refused = "try { Atomics.pause('5'); throw 5; } catch (error) { if (!(error instanceof TypeError)) throw 6; }";
   const module = moduleOf(context, `if (Atomics.pause(3) !== undefined) throw 7; ${refused}`);
   const [{ ending, detail, script }] = await recorded({ module, agents: 1, buffers: [8] });

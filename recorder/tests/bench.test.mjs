@@ -1,11 +1,14 @@
-// The benchmarks of strategies and of checks: they run, and the programs of the first are wrong.
+// The benchmarks of strategies, of checks and of speed by turns: they run, and the programs of the first are wrong.
 
 import assert from "node:assert/strict";
-import { readFileSync } from "node:fs";
+import { spawnSync } from "node:child_process";
+import { existsSync, readFileSync } from "node:fs";
 import { test } from "node:test";
 import { fileURLToPath } from "node:url";
 import { printTable } from "../bench/checks.mjs";
 import { COLUMNS, PROGRAMS, measured, tables } from "../bench/strategies.mjs";
+import { median, ratioOf, rowOf, sumOf } from "../bench/turns.mjs";
+import { needing } from "./helpers/needs.mjs";
 
 const README = readFileSync(new URL("../bench/README.md", import.meta.url), "utf8");
 
@@ -53,4 +56,32 @@ test("the cost of the checks has a row for each program and number of jobs", asy
     const row = new RegExp(String.raw`^\| \`examples/ring\.agents\.mjs\` \| ${jobs} \| [\d,]+ \| [\d,]+ \| \d+\.\d\d \|$`);
     assert.match(lines[jobs + 1], row);
   }
+});
+
+test("the ratio of two commits is that of their medians, and the turns give its spread", () => {
+  const pool = { before: [4, 2, 9], now: [5, 3, 6] };
+  assert.equal(median([9, 2, 4]), 4);
+  assert.equal(median([1, 2, 4, 9]), 3);
+  assert.equal(ratioOf(pool), 1.25);
+  assert.equal(rowOf("pool", pool), "| pool | 4.00 | 5.00 | 1.250 | 0.67 to 1.50 |");
+  assert.deepEqual(sumOf([pool, { before: [1, 2, 3], now: [3, 2, 1] }]), { before: [5, 4, 12], now: [8, 5, 7] });
+});
+
+const TURNS = fileURLToPath(new URL("../bench/turns.mjs", import.meta.url));
+const inClone = needing("clone of the repository", existsSync(new URL("../../.git", import.meta.url)));
+
+/** What `turns.mjs` prints. @param {string[]} words */
+const turns = (...words) => spawnSync(process.execPath, [TURNS, ...words], { encoding: "utf8" });
+
+test("both recorders make the runs of a module and of a program, by turns", inClone, () => {
+  const { status, stdout, stderr } = turns("HEAD", "mutex-naive", "pool", "--turns", "1", "--seeds", "2");
+  assert.equal(status, 0, stderr);
+  const rows = stdout.split("\n").slice(2, -1);
+  assert.deepEqual(rows.map((row) => row.split(" ")[1]), ["mutex-naive", "pool", "all"]);
+  for (const row of rows) assert.match(row, /^\| [a-z-]+ \| \d+\.\d\d \| \d+\.\d\d \| \d+\.\d{3} \| \d+\.\d\d to \d+\.\d\d \|$/);
+});
+
+test("a program that isn't there, and a commit that isn't named, are errors", () => {
+  assert.match(turns("HEAD", "pol").stderr, /there is no program pol: it is one of mutex-naive, bounded-queue, /);
+  assert.match(turns().stderr, /name a commit, such as HEAD/);
 });

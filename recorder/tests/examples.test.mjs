@@ -10,9 +10,10 @@ import { after, describe, test } from "node:test";
 import { pathToFileURL } from "node:url";
 import { Job } from "../lib/seeds/job.mjs";
 import { Runs, outcomesOf as taken } from "../lib/seeds/runs.mjs";
-import { CHECKER, needing } from "./helpers/needs.mjs";
+import { CHECKER } from "./helpers/needs.mjs";
 import { Opinions } from "./helpers/opinions.mjs";
 import { pathOf } from "./helpers/programs.mjs";
+import { whereNodeHasIt } from "./helpers/where-node-has-it.mjs";
 
 const FOLDER = pathOf("recorder/examples");
 const SEEDS = 200;
@@ -59,8 +60,8 @@ const FAILS = {
   "ring-frees-first": ["failed", "race"],
 };
 
-/** For what README says about node's own code. */
-const onNode20 = needing("node 20", process.version.startsWith("v20."));
+/** Makes a test of what README says about the own code of node 20. */
+const withNode20 = whereNodeHasIt(process.version.startsWith("v20."));
 
 /** What README says about an example's runs, by their outcomes. */
 const FOUND = {
@@ -144,7 +145,7 @@ describe("examples", () => {
   });
 
   for (const name of NAMES) {
-    test(`${name} under ${SEEDS} seeds`, name === "node-cwd" ? onNode20 : {}, async () => {
+    (name === "node-cwd" ? withNode20 : test)(`${name} under ${SEEDS} seeds`, async () => {
       const outcomes = await outcomesOf(join(FOLDER, `${name}.agents.mjs`), SEEDS, 1);
       const failing = outcomes.filter(({ ending }) => ending !== "finished");
       if (FAILS[name] !== undefined) {
@@ -164,7 +165,7 @@ describe("examples", () => {
     });
   }
 
-  test("README counts their scripts, waits and moves", onNode20, () => {
+  withNode20("README counts their scripts, waits and moves", () => {
     const counted = /All ([\d,]+) scripts .* ([\d,]+) waits that joined a line and ([\d,]+) that .* ([\d,]+) moves/s;
     const said = counted.exec(README).slice(1).map((text) => Number(text.replaceAll(",", "")));
     assert.deepEqual(said, [all.scripts, all.waits, all.timeOuts, all.moves]);

@@ -48,6 +48,23 @@ for (const root of ROOTS) {
   });
 }
 
+/** The names in such a list as `a, b: c`, where `c` is what `b` is called. */
+const namesOf = (list) => list.split(",").map((each) => each.split(":")[0].trim()).filter((each) => each !== "");
+
+test("each name that a module imports from another one is exported there", () => {
+  for (const path of ["agent/worker.mjs", "run/referee.mjs", "program/worker.mjs"]) {
+    const own = ownModules(new URL(`../lib/${path}`, import.meta.url));
+    const exported = new Map(own.map(({ url, code }) => [url, namesOf(/return \{ (.*) \};$/.exec(code)[1])]));
+    for (const { url, code } of own) {
+      for (const [, names, from] of code.matchAll(/^(?:"use strict"; )?const \{([^}]*)\} = modules\["([^"]*)"\];$/gm)) {
+        for (const name of namesOf(names)) {
+          assert.ok(exported.get(from).includes(name), `${url} imports ${name}, which ${from} doesn't export`);
+        }
+      }
+    }
+  }
+});
+
 test("a module is evaluated once, behind those that it imports, in strict mode, and knows its URL", (context) => {
   const folder = temporaryFolder(context);
   const files = {

@@ -186,7 +186,8 @@ if (Math.random() < 0.5) {
   it("are a spin if the same is read again and again", async (context) => {
     const files = sharing("", `for (;;) if (large[${LARGE} - 1] === 9) break;`);
     files["main.mjs"] = files["main.mjs"].replace(/^const woken.*$/m, "");
-    const [{ ending, detail }] = await runsOf(context, files);
+    // The spin is found by the number of reads, so the limit of time has to be out of the way.
+    const [{ ending, detail }] = await runsOf(context, files, { options: { seconds: 3_600 } });
     assert.equal(ending, "bound");
     assert.match(detail, /spins at main\.mjs:7:19: it reads the same bytes again and again/);
   });

@@ -70,9 +70,11 @@ describe("threads that are kept", () => {
   });
 
   it("are started anew after many runs", async (context) => {
+    // The first run in a thread has most moves.
     const main = programOf(context, {
       "main.mjs": `globalThis.runs = (globalThis.runs ?? 0) + 1;
-        for (let left = globalThis.runs % 7; left > 0; left -= 1) await new Promise((done) => setImmediate(done));`,
+        const rounds = globalThis.runs === 1 ? 9 : globalThis.runs % 7;
+        for (let left = rounds; left > 0; left -= 1) await new Promise((done) => setImmediate(done));`,
     });
     const module = pathToFileURL(main).href;
     // Pilots would be runs of these threads, too.
@@ -82,11 +84,10 @@ describe("threads that are kept", () => {
     const moves = [];
     const seeds = Array.from({ length: MOST_RUNS + 1 }, (_, at) => ({ seed: at + 1, whole: false, isSilent: true }));
     await group.run(seeds, (outcome) => void moves.push(outcome.moves));
-    // The runs of a thread go on alike after each seven. The one with that number is the first in fresh threads.
     assert.equal(moves.length, MOST_RUNS + 1);
-    assert.deepEqual(new Set(moves.slice(0, 7)).size, 7);
-    const before = Array.from({ length: MOST_RUNS - 1 }, (_, at) => moves[at % 7]);
-    assert.deepEqual(moves, [...before, moves[0], moves[1]]);
-    assert.notEqual(moves[MOST_RUNS - 1], moves[(MOST_RUNS - 1) % 7]);
+    assert.equal(new Set(moves).size, 8);
+    // A thread that isn't back soon after its run is replaced, as on a busy machine. So a few more may be first runs.
+    const first = moves.flatMap((count, at) => (count === Math.max(...moves) ? [at] : []));
+    assert.ok(first.includes(0) && first.includes(MOST_RUNS - 1) && first.length < MOST_RUNS / 10, `${first}`);
   });
 });

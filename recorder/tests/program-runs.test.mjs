@@ -10,6 +10,16 @@ const WORKER = 'import { parentPort, workerData } from "node:worker_threads";\n'
 const MAIN = 'import { MessageChannel, Worker, receiveMessageOnPort } from "node:worker_threads";\n' +
   'const started = (data, more = {}) => new Worker(new URL("./worker.mjs", import.meta.url), { workerData: data, ...more });\n';
 
+describe("what a program throws", () => {
+  it("is shown with the frames of its own code, and none of node's", async (context) => {
+    const outcomes = await runsOf(context, {
+      "main.mjs": 'import { readFileSync } from "node:fs";\nsetTimeout(() => {\n  readFileSync("/none");\n}, 1);',
+    });
+    assert.deepEqual(endingsOf(outcomes), ["failed: agent 0 threw Error: ENOENT: no such file or directory, open '/none'\n"
+      + "    at Timeout._onTimeout (main.mjs:3:3)"]);
+  });
+});
+
 describe("memory and messages", () => {
   it("a message orders what was done before it, so a program that hands over has no unordered accesses", async (context) => {
     const outcomes = await runsOf(context, {

@@ -8,6 +8,7 @@ import { fileURLToPath } from "node:url";
 import { LATER, isSince } from "../lib/program/node-versions.mjs";
 import { GLOBALS, METHODS, MODULES, SCHEME_MODULES } from "../lib/program/surface-table.mjs";
 import { kindOf, kindOfGlobal, refuseRest, unknownNames } from "../lib/program/surface.mjs";
+import { whereNodeHasIt } from "./helpers/where-node-has-it.mjs";
 
 const require = createRequire(import.meta.url);
 const KINDS = ["simulated", "harmless", "real", "refused"];
@@ -38,7 +39,7 @@ for (const version of LATER) {
   });
 }
 
-test("locks of other threads are refused by their names, and never node's own", { skip: !isSince(24) }, () => {
+whereNodeHasIt(isSince(24))("locks of other threads are refused by their names, and never node's own", () => {
   const found = inProcess(`
     const { locks } = require("worker_threads");
     console.log(JSON.stringify([locks === navigator.locks, by(() => locks.request("name", () => {})),

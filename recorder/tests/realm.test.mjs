@@ -646,11 +646,11 @@ describe("random numbers", () => {
         crypto.getRandomValues(new Uint32Array(1))[0], webcrypto.getRandomValues(new Uint32Array(2))[1],
         parseInt(randomUUID(), 16), parseInt(globalThis.crypto.randomUUID(), 16), randomBytes(4).readUInt32LE(0),
         crypto.randomBytes(8).readUInt32LE(4), randomInt(2 ** 32), randomInt(5, 2 ** 32),
-        randomFillSync(new Uint32Array(1))[0],
+        randomFillSync(new Uint32Array(1))[0], parseInt((crypto.randomUUIDv7 ?? randomUUID)().slice(-8), 16),
       ];
       drawn.forEach((number, at) => Atomics.store(words, agent * 16 + at, Math.floor(number) | 0));
     }`;
-  const WAYS = 11;
+  const WAYS = 12;
 
   /** What each agent drew, of each way, in the run of each seed. @returns {Promise<number[][][]>} */
   async function drawn(context, seeds) {
@@ -677,9 +677,14 @@ describe("random numbers", () => {
   test("are as they must be", async (context) => {
     const { ending, detail } = await recordText(context, `
       import assert from "node:assert";
-      import { randomBytes, randomInt, randomUUID } from "node:crypto";
+      import nodeCrypto, { randomBytes, randomInt, randomUUID } from "node:crypto";
       export default function agent({ buffers }) {
         Atomics.add(new Int32Array(buffers[0]), 0, 1);
+        if (nodeCrypto.randomUUIDv7) {
+          const timed = nodeCrypto.randomUUIDv7();
+          assert.match(timed, /^[0-9a-f]{8}-[0-9a-f]{4}-7[0-9a-f]{3}-[89ab][0-9a-f]{3}-[0-9a-f]{12}$/);
+          assert.ok(Math.abs(parseInt(timed.slice(0, 8) + timed.slice(9, 13), 16) - Date.now()) < 10_000);
+        }
         assert.match(randomUUID(), /^[0-9a-f]{8}-[0-9a-f]{4}-4[0-9a-f]{3}-[89ab][0-9a-f]{3}-[0-9a-f]{12}$/);
         assert.equal(randomBytes(7).length, 7);
         const seen = new Set();

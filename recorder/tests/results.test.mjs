@@ -6,6 +6,7 @@ import { readFileSync, readdirSync, writeFileSync } from "node:fs";
 import { join } from "node:path";
 import { test } from "node:test";
 import { temporaryFolder } from "./helpers/common.mjs";
+import { pathOf } from "./helpers/programs.mjs";
 import { closingLines, readReport, wholeOf } from "./helpers/results.mjs";
 
 /** What comes of a file of tests. @param {import("node:test").TestContext} context @param {string} code */
@@ -76,10 +77,10 @@ test("a test that is left out for lack of sabsim has failed if sabsim is given",
 });
 
 test("a test says what it needs by the one helper: no file has another way to leave a test out", () => {
-  const folder = new URL("./", import.meta.url);
-  const OTHER_WAY = /\bskip: |\.skip\(|\btodo: |\.todo\(/;
-  const files = readdirSync(folder, { recursive: true }).map(String)
-    .filter((name) => name.endsWith("mjs") && !["results.test.mjs", join("helpers", "needs.mjs")].includes(name));
-  assert.ok(files.length > 150);
-  assert.deepEqual(files.filter((name) => OTHER_WAY.test(readFileSync(new URL(name, folder), "utf8"))), []);
+  const OTHER_WAY = /\b(?:skip|todo)(?:: | \})|\.(?:skip|todo)\(/;
+  const files = ["recorder/tests", "tests/docs", "tests/install"].flatMap((folder) =>
+    readdirSync(pathOf(folder), { recursive: true }).map((name) => `${folder}/${name}`));
+  const others = files.filter((name) => name.endsWith("mjs") && !/\/(?:needs|results\.test)\.mjs$/.test(name));
+  assert.ok(others.length > 150);
+  assert.deepEqual(others.filter((name) => OTHER_WAY.test(readFileSync(pathOf(name), "utf8"))), []);
 });

@@ -215,6 +215,17 @@ test("what is kept of a run doesn't grow with its bytes and its texts", () => {
   assert.equal(summary.failing.seed, 7);
 });
 
+test("versions of node that weren't tried are joined; an earlier summary names none", () => {
+  const options = { ordinary: "watch", races: "fail" };
+  const [one, other, both] = [new Summary(options), new Summary(options), new Summary(options)];
+  one.untriedNodes.add("26.1.0");
+  other.untriedNodes.add("22.9.0");
+  const { untriedNodes, ...earlier } = other.data();
+  assert.deepEqual(untriedNodes, ["22.9.0"]);
+  for (const data of [one.data(), earlier, other.data(), one.data()]) both.join(data);
+  assert.deepEqual(both.data().untriedNodes, ["22.9.0", "26.1.0"]);
+});
+
 test("the object of a summary has all that its text has, and what the text leaves out", () => {
   const summary = new Summary(SEEN);
   const races = [race("ring.mjs:12:7", "ring.mjs:20:11")];
@@ -268,6 +279,7 @@ test("the object of a summary has all that its text has, and what the text leave
     calls: 17,
     accesses: 21,
     unseen: [],
+    untriedNodes: [],
     kept,
     notKept: ["not kept: this"],
     problems: ["a job ended"],

@@ -10,6 +10,7 @@ import { test } from "node:test";
 import { pathToFileURL } from "node:url";
 import { RECORD, temporaryFolder } from "./helpers/common.mjs";
 import { CHECKING } from "./helpers/needs.mjs";
+import { whereNodeHasIt } from "./helpers/where-node-has-it.mjs";
 
 const LOCK = `type Words = Int32Array;
 export class Lock {
@@ -62,9 +63,9 @@ function hookIn(folder) {
 }
 
 const isLoaded = Boolean(process.features.typescript);
-const skip = !isLoaded && nodeModule.registerHooks === undefined && "this node loads no TypeScript, and has no hook";
+const withTypeScript = whereNodeHasIt(isLoaded || nodeModule.registerHooks !== undefined);
 
-test("an agents' module in TypeScript has its own lines, and the page its text", { skip }, (context) => {
+withTypeScript("an agents' module in TypeScript has its own lines, and the page its text", (context) => {
   const folder = temporaryFolder(context);
   mkdirSync(join(folder, "found"));
   writeFileSync(join(folder, "lock.ts"), LOCK);

@@ -19,12 +19,13 @@ import { RECORD, agentsPath, temporaryFolder } from "./helpers/common.mjs";
 import { CHECKING, withShell } from "./helpers/needs.mjs";
 import { recorded } from "./helpers/recorded.mjs";
 import { simulated } from "./helpers/simulate.mjs";
+import { whereNodeHasIt } from "./helpers/where-node-has-it.mjs";
 
 const RING = agentsPath("sample-ring");
 const BITS = 4598175219545276416n;
 
-/** Why tests of Float16Array are skipped, if they are. */
-const NO_FLOAT16 = typeof Float16Array === "undefined" && "this engine has no Float16Array";
+/** Makes a test of Float16Array. */
+const withFloat16 = whereNodeHasIt(typeof Float16Array !== "undefined");
 
 /** The ring's two agents without pilots, so that no worker begins that isn't needed. */
 const SMALL = { agents: 2, everywhere: true };
@@ -54,7 +55,7 @@ test("the value of a Float16 is read from its bits, also if the engine has none"
   for (const [bits, text] of cases) assert.equal(elementText("Float16", storedBytes("Uint16", bits)), text);
 });
 
-test("the value of each Float16 is that of the engine's array", { skip: NO_FLOAT16 }, () => {
+withFloat16("the value of each Float16 is that of the engine's array", () => {
   for (let bits = 0; bits < 2 ** 16; bits += 1) {
     const [value] = new Float16Array(Uint16Array.of(bits).buffer);
     assert.equal(elementText("Float16", storedBytes("Uint16", bits)), Object.is(value, -0) ? "-0" : `${value}`);
@@ -241,7 +242,7 @@ test("an element of each kind, a DataView's too, has the code's kind", async (co
   ]);
 });
 
-test("a Float16Array is watched, and the script has the bits", { skip: NO_FLOAT16 }, async (context) => {
+withFloat16("a Float16Array is watched, and the script has the bits", async (context) => {
   const module = join(temporaryFolder(context), "halves.mjs");
   writeFileSync(module, `
     export const setup = { agents: 1, buffers: [16], names: { ratios: { kind: "Uint16", buffer: 0, offset: 8 } } };

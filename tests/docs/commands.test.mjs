@@ -1,5 +1,5 @@
 // The commands of README.md, CONTRIBUTING.md, recorder/README.md and docs/RECORDER.md. Each is run in a copy of the
-// repository, and prints what the document shows below it. If one isn't run, the reason or another test is named here.
+// repository, and prints what the document shows below it. If one is never run, the reason or another test is named here.
 
 import assert from "node:assert/strict";
 import { spawnSync } from "node:child_process";
@@ -9,13 +9,13 @@ import {
 import { tmpdir } from "node:os";
 import { basename, join } from "node:path";
 import { after, test } from "node:test";
+import { SABSIM, needing, withSabsim } from "../../recorder/tests/helpers/needs.mjs";
 import { LEFT_OUT, TOP, spansOf, textOf } from "./documents.mjs";
 
-const { SABSIM } = process.env;
-const built = { isBuilt: true, when: { skip: SABSIM === undefined ? "the program wasn't given" : false } };
+const built = { isBuilt: true, when: withSabsim };
 
 const hasKit = spawnSync("rt", ["version"]).status === 0;
-const withKit = { when: { skip: hasKit ? false : "there is no rt on this machine", timeout: 600_000 } };
+const withKit = { when: { ...needing("rt", hasKit), timeout: 600_000 } };
 
 const PROVES = { notRun: "a proof takes minutes, and ./check proves each crate" };
 const RUNS_THIS = { notRun: "it runs this test" };
@@ -28,7 +28,7 @@ const INSTALLS = "tests/install/install.test.mjs";
  * @property {object} [when] what it needs
  * @property {string} [by] another test that runs it
  * @property {string} [words] what that test has
- * @property {string} [notRun] why it isn't run
+ * @property {string} [notRun] why it is never run here
  */
 
 /**
@@ -42,9 +42,12 @@ const COMMANDS = [
   ["node recorder/sabsim.mjs replay --format explained --acts script.json", { status: 0 }],
   ["node recorder/record.mjs counter.agents.mjs --replay script.json --out found", { status: 1 }],
   ["npm pack", { by: INSTALLS, words: '"npm", ["pack",' }],
-  ["npm install ./sabsim-0.1.0.tgz", { by: INSTALLS, words: '"--no-fund", `./sabsim-${version}.tgz`' }],
+  ["npm install ./sabsim-0.1.0.tgz", { by: "tests/install/installed.mjs", words: '"--no-fund", `./sabsim-${version}.tgz`' }],
   ["node --test", { by: INSTALLS, words: '"node", ["--test", "--test-reporter=tap", "readme.mjs"]' }],
   ["npm test", { notRun: "tests/recorder runs the same tests" }],
+  ["npm test -- nearest strategy", { status: 0 }],
+  ["npm test -- --unit", { notRun: "npm test runs these tests, and refuses them threads and processes" }],
+  ["SABSIM=crates/sabsim/out/sabsim npm test", { notRun: "tests/recorder does the same" }],
   ["npm run published", { notRun: "most of the programs have to be fetched first" }],
   ["node recorder/record.mjs recorder/examples/mutex-naive.agents.mjs --seeds 1..200", { status: 1 }],
   ["node recorder/record.mjs recorder/examples/ring-frees-first.agents.mjs --seeds 1..200", { status: 1 }],
@@ -58,6 +61,7 @@ const COMMANDS = [
   ["tests/cases crates/sabsim/out/sabsim", { notRun: "./check runs it" }],
   ["rt doc", { status: 0, ...withKit }],
   ["rt version", { status: 0, ...withKit }],
+  ["node recorder/bench/turns.mjs HEAD~1", { by: "recorder/tests/bench.test.mjs", words: 'turns("HEAD", "mutex-naive", ' }],
   ["./build", { by: "tests/build", words: "building\n" }],
   ["./build --package", { by: "tests/build", words: "building --package --jobs 1\n" }],
   ["./check", RUNS_THIS],
@@ -135,11 +139,12 @@ test("the commands of the documents are those of the list", () => {
 });
 
 for (const [command, { status, isBuilt = false, when = {}, by, words, notRun }] of COMMANDS) {
+  if (notRun !== undefined) continue;
   if (by !== undefined) {
     test(`${command} is run by ${by}`, () => assert.ok(textOf(by).includes(words)));
     continue;
   }
-  test(command, notRun === undefined ? when : { skip: notRun }, () => {
+  test(command, when, () => {
     const ran = run(command, isBuilt);
     assert.equal(ran.status, status, ran.stderr);
     for (const { shown } of inBlocks.filter((it) => it.command === command && it.shown.length > 0)) {

@@ -3,11 +3,14 @@
 
 import assert from "node:assert/strict";
 import { spawnSync } from "node:child_process";
-import { chmodSync, existsSync, mkdirSync, mkdtempSync, readFileSync, readdirSync, rmSync, writeFileSync } from "node:fs";
+import {
+  chmodSync, existsSync, mkdirSync, mkdtempSync, readFileSync, readdirSync, rmSync, writeFileSync,
+} from "node:fs";
 import { tmpdir } from "node:os";
 import { delimiter, join } from "node:path";
 import { test } from "node:test";
 import { fileURLToPath } from "node:url";
+import { needing } from "../../recorder/tests/helpers/needs.mjs";
 
 const pathOf = (name) => fileURLToPath(new URL(`../../tools/${name}`, import.meta.url));
 const PYTHON = spawnSync("python3", ["-c", "import sys; print(sys.executable)"], { encoding: "utf8" }).stdout.trim();
@@ -42,8 +45,8 @@ function machineOf(context, { aptGet = APT_GET, dpkgDeb = DPKG_DEB } = {}) {
   write("dpkg-deb", dpkgDeb);
   writeFileSync(calls, "");
   const fetch = (words, env = {}) => {
-    const own = { SABSIM_TOOLS: tools, CALLS: calls, VERSION: "1.0-1", PATH: `${folder}${delimiter}${process.env.PATH}` };
-    const all = { ...process.env, ...own, ...env };
+    const PATH = `${folder}${delimiter}${process.env.PATH}`;
+    const all = { ...process.env, SABSIM_TOOLS: tools, CALLS: calls, VERSION: "1.0-1", PATH, ...env };
     return spawnSync(PYTHON, [pathOf("fetch"), ...words], { encoding: "utf8", env: all });
   };
   const there = () => readdirSync(tools).filter((name) => name !== ".lock").sort();
@@ -74,7 +77,8 @@ test("--newest fetches a newer version, which replaces the older one", (context)
 });
 
 test("only Debian's sources are asked, and what is this machine's isn't changed", (context) => {
-  const aptGet = APT_GET.replace("case", 'cat "$(dirname "$0")"/tools/.new-*/apt-0/sources.list >> "$CALLS" 2> /dev/null\ncase');
+  const show = 'cat "$(dirname "$0")"/tools/.new-*/apt-0/sources.list >> "$CALLS" 2> /dev/null';
+  const aptGet = APT_GET.replace("case", `${show}\ncase`);
   const { fetch, calls } = machineOf(context, { aptGet });
   fetch(["types"]);
   assert.match(calls(), /^deb .*http:\/\/mirror\/debian\/ bookworm main$/m);
@@ -112,8 +116,9 @@ test("a fetch that was killed leaves no part, and the next one removes its rest"
 });
 
 test("without a network it prints what apt-get says", (context) => {
-  const aptGet = APT_GET.replace("*--print-uris*)", '*update*) echo "W: Could not resolve mirror" >&2 ;;\n*--print-uris*)')
-    .replace("*--print-uris*)", '*--print-uris*) echo "E: Unable to locate package node-typescript" >&2; exit 100; ');
+  const says = `*update*) echo "W: Could not resolve mirror" >&2 ;;
+*--print-uris*) echo "E: Unable to locate package node-typescript" >&2; exit 100; `;
+  const aptGet = APT_GET.replace("*--print-uris*)", says);
   const { fetch, there } = machineOf(context, { aptGet });
   const { status, stderr } = fetch(["types"]);
   assert.equal(status, 1);
@@ -126,7 +131,8 @@ test("without apt-get it says that the tools come from Debian; an unknown part i
   const { fetch } = machineOf(context);
   const { status, stderr } = fetch(["types"], { PATH: "/nowhere" });
   assert.equal(status, 1);
-  assert.equal(stderr, "not fetched: types (tsc): there is no apt-get on this machine, and the tools come from Debian\n");
+  const why = "there is no apt-get on this machine, and the tools come from Debian";
+  assert.equal(stderr, `not fetched: types (tsc): ${why}\n`);
   const unknown = fetch(["type"]);
   assert.equal(unknown.status, 2);
   assert.match(unknown.stderr, /there is no part type: it is one of types, runners, pictures, browsers, slurm, node/);
@@ -151,9 +157,9 @@ const withTools = (words, { tools, ...how }) =>
   spawnSync(pathOf("with"), words, { encoding: "utf8", env: { ...process.env, SABSIM_TOOLS: tools }, ...how });
 
 const OVER = ["--mount", "sh", "-c", 'mount -t overlay none -o "lowerdir=$0:/usr" /usr', tmpdir()];
-const isRoot = spawnSync("unshare", OVER).status === 0;
+const withOverlays = needing("root or no overlays", spawnSync("unshare", OVER).status === 0);
 
-test("a part lies over /usr for the command alone", { skip: isRoot ? false : "needs root and overlays" }, (context) => {
+test("a part lies over /usr for the command alone", withOverlays, (context) => {
   const tools = toolsOf(context);
   const { status, stdout, stderr } = withTools(["slurm", "node", "--", "sabsim-only-here"], { tools });
   assert.deepEqual([status, stdout, stderr], [0, "here\n", ""]);
@@ -161,7 +167,7 @@ test("a part lies over /usr for the command alone", { skip: isRoot ? false : "ne
   assert.doesNotMatch(readFileSync("/proc/self/mounts", "utf8"), /sabsim-tools/);
 });
 
-test("who isn't root gets the command without the part, and a line that says so", { skip: isRoot ? false : "needs root and overlays" }, (context) => {
+test("who isn't root gets the command without the part, and a line that says so", withOverlays, (context) => {
   const tools = toolsOf(context);
   const { status, stdout, stderr } = withTools(["slurm", "--", "echo", "run"], { tools, uid: 65_534, gid: 65_534 });
   assert.deepEqual([status, stdout], [0, "run\n"]);

@@ -8,6 +8,7 @@ import { chmodSync, copyFileSync, existsSync, mkdirSync, readFileSync, readdirSy
 import { once } from "node:events";
 import { join } from "node:path";
 import { test } from "node:test";
+import { SABSIM, needing, withSabsim } from "../../recorder/tests/helpers/needs.mjs";
 import { NODES, PROJECT, TOP, environment, filesOf, packed, pathOf, projectWith, room, run, succeeds, version }
   from "./installed.mjs";
 
@@ -16,10 +17,7 @@ const FILES = readFileSync(pathOf("files.txt"), "utf8").trimEnd().split("\n");
 const MACHINE = `${process.platform}-${process.arch}`;
 const PROGRAM_FILES = [`program/${MACHINE}/sabsim`, `program/${MACHINE}/sabsim.txt`];
 
-const { SABSIM } = process.env;
-const withProgram = { skip: SABSIM === undefined ? "the program wasn't given" : false };
-const hasCompiler = spawnSync("tsc", ["--version"]).status === 0;
-const withCompiler = { skip: hasCompiler ? false : "there is no tsc on this machine" };
+const withCompiler = needing("tsc", spawnSync("tsc", ["--version"]).status === 0);
 
 /** What a summary says about runs that the module has checked. */
 const CHECKED =
@@ -88,14 +86,14 @@ test("a project's own tests import it", () => {
   assert.match(output, /^# fail 0$/m);
 });
 
-for (const { name, command: [node, ...before], skip } of NODES) {
-  test(`by \`require\` ${name} gets all that \`import\` gets`, { skip }, () => {
+for (const { name, command: [node, ...before], needs } of NODES) {
+  test(`by \`require\` ${name} gets all that \`import\` gets`, needs, () => {
     const output = succeeds(project, node, [...before, "--test", "--test-reporter=tap", "required.cjs"]);
     assert.match(output, /^# pass 5$/m);
     assert.match(output, /^# 10 runs passed, 10 checked by the simulator$/m);
   });
 
-  test(`${name} that can't require ES modules gets a form that runs the recorder in a process`, { skip }, () => {
+  test(`${name} that can't require ES modules gets a form that runs the recorder in a process`, needs, () => {
     const words = ["--no-experimental-require-module", "--test", "--test-reporter=tap", "apart.cjs"];
     const output = succeeds(project, node, [...before, ...words]);
     assert.match(output, /^# pass 6$/m);
@@ -281,7 +279,7 @@ test("a program that can't be run is reported", () => {
   assert.match(errors, /^sabsim: .* can't be run: /);
 });
 
-test("with a program it replays what was recorded, and checks", withProgram, async (the) => {
+test("with a program it replays what was recorded, and checks", withSabsim, async (the) => {
   const path = packed("whole", [SABSIM]);
   const folder = projectWith("own", path);
   const place = join(folder, "node_modules/sabsim/program", MACHINE);

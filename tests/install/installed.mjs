@@ -1,12 +1,14 @@
 // The package as tests use it: made, and installed in a project of a user's own, in a folder that ends with the tests.
 
 import assert from "node:assert/strict";
-import { spawnSync } from "node:child_process";
+import { spawn, spawnSync } from "node:child_process";
+import { once } from "node:events";
 import { copyFileSync, existsSync, mkdirSync, mkdtempSync, readFileSync, readdirSync, rmSync, writeFileSync } from "node:fs";
 import { homedir, tmpdir } from "node:os";
 import { join } from "node:path";
 import { after } from "node:test";
 import { fileURLToPath } from "node:url";
+import { needing } from "../../recorder/tests/helpers/needs.mjs";
 
 export const pathOf = (place) => fileURLToPath(new URL(place, import.meta.url));
 export const TOP = pathOf("../../");
@@ -33,6 +35,15 @@ export function run(folder, command, words, input = "") {
   const { status, signal, stdout, stderr, error } = spawnSync(command, words, options);
   assert.equal(error, undefined);
   return { status, signal, output: stdout, errors: stderr };
+}
+
+/** Runs a command in a folder until it ends, beside others, with more in its environment. */
+export async function runOf(folder, command, words, more) {
+  const env = { ...environment, ...more };
+  const child = spawn(command, words, { cwd: folder, env, stdio: ["ignore", "pipe", "pipe"] });
+  const [output, errors] = [child.stdout, child.stderr].map((stream) => stream.setEncoding("utf8").toArray());
+  const [status] = await once(child, "close");
+  return { status, output: (await output).join(""), errors: (await errors).join("") };
 }
 
 /** What a command that succeeds writes. */
@@ -74,8 +85,9 @@ function otherNode() {
   const command = [join(TOP, "tools/with"), "node", "--", "/usr/bin/node"];
   const { status, stdout } = spawnSync(command[0], [...command.slice(1), "--version"], { encoding: "utf8" });
   const isThere = existsSync(join(TOOLS, "node")) && status === 0 && stdout.trimEnd() !== process.version;
-  return { name: isThere ? `node ${stdout.trimEnd()}` : "another node", command, skip: isThere ? false : "there is none" };
+  const needs = needing("node by tools/fetch", isThere);
+  return { name: isThere ? `node ${stdout.trimEnd()}` : "another node", command, needs };
 }
 
-/** The nodes with which the package is used: this one and another. `skip` says why it can't be. */
-export const NODES = [{ name: `node ${process.version}`, command: [process.execPath], skip: false }, otherNode()];
+/** The nodes with which the package is used: this one and another. `needs` leaves tests out if it is missing. */
+export const NODES = [{ name: `node ${process.version}`, command: [process.execPath], needs: {} }, otherNode()];

@@ -1,4 +1,4 @@
-"""Debian's packages, by apt-get with lists and archives in a folder of their own: nothing of this machine is changed, and
+"""Debian's packages, by apt-get with lists and archives in a folder of their own. Nothing of this machine is changed, and
 nobody has to be root."""
 import os
 import re
@@ -39,7 +39,8 @@ def run(words, **how):
 
 def debian_sources():
     """Returns this machine's own sources that are Debian's, as (address, suite, component)."""
-    said, _ = run(["apt-get", "indextargets", "--format", "$(REPO_URI) $(RELEASE) $(COMPONENT)", "Created-By: Packages"])
+    form = "$(REPO_URI) $(RELEASE) $(COMPONENT)"
+    said, _ = run(["apt-get", "indextargets", "--format", form, "Created-By: Packages"])
     found = [tuple(line.split()) for line in said.splitlines()]
     sources = [source for source in found if re.search(r"/debian(-security)?/?$", source[0])]
     if not sources:

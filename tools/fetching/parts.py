@@ -43,9 +43,9 @@ def name_the_daemons_of_slurm(root):
 class Part:
     """Packages that are fetched together, by the name of their folder.
 
-    The version of the first package that is fetched is that of the part. A part that is laid `over` this machine has the
-    packages that this machine lacks. Another has all that its packages need. If it is only JavaScript, it has those for
-    every processor alone: this machine's node runs them. `suite` is Debian's suite; without one it is this machine's.
+    The version of the first package that is fetched is that of the part. A part that is laid `over` this machine has
+    the packages that this machine lacks. Another has all that its packages need. If it is only JavaScript, it has those
+    for every processor alone: this machine's node runs them. `suite` is Debian's; without one it is this machine's.
     """
 
     packages: tuple
@@ -63,7 +63,8 @@ PARTS = {
     ),
     "pictures": Part(("librsvg2-bin", "fonts-dejavu-core"), "rsvg-convert", over=True),
     "browsers": Part(
-        ("chromium", "firefox-esr", "fonts-dejavu-core"), "Chromium and Firefox", over=True, finish=start_chromium_itself
+        ("chromium", "firefox-esr", "fonts-dejavu-core"), "Chromium and Firefox", over=True,
+        finish=start_chromium_itself,
     ),
     "slurm": Part(("slurm-wlm", "munge"), "Slurm", over=True, finish=name_the_daemons_of_slurm),
     "node": Part(("nodejs",), "the newest node that Debian has", suite="sid"),

@@ -9,6 +9,7 @@ import traceback
 from .crates import Proving, why_refused
 from .kit import rt, rtlib
 from .lanes import Task
+from .parts import LeftOut
 from .static_library import StaticProving, StaticTrial
 from .store import Sums, sum_of, sum_of_scripts
 from .trial import BAD, REFUSED, Result, Trial
@@ -28,6 +29,7 @@ class Tally:
     def __init__(self):
         self.passed, self.failed, self.lock = 0, [], threading.Lock()
         self.proofs = self.known_proofs = self.edits = self.known_edits = 0
+        self.left_out = LeftOut()
 
     def say(self, text):
         with self.lock:
@@ -37,6 +39,18 @@ class Tally:
         with self.lock:
             self.passed += passed
             self.failed += failed
+
+    def add_left_out(self, entries, second):
+        """Adds what a part left out, and what passed there only the second time."""
+        with self.lock:
+            self.left_out.add(entries, second)
+
+    def closing_lines(self, requires_all):
+        """Returns the last lines. If all is required, what was left out or passed only the second time has failed."""
+        left_out, second = self.left_out.entries(), self.left_out.second
+        failed = self.failed + ([*left_out, *second] if requires_all else [])
+        lines = ["check: FAILED: " + "; ".join(failed)] if failed else []
+        return [*lines, *self.left_out.lines(), f"{self.passed} passed, {len(failed)} failed"], len(failed)
 
     def add_proof(self, line, is_known):
         """Counts a proof, and prints a line with its number."""

@@ -53,6 +53,9 @@ const UNSEEN_BEFORE =
 const BOTH = ["failing", "passing"];
 
 export class Summary {
+  /** @type {Set<string>} versions of node that ran programs, and that weren't tried */
+  untriedNodes = new Set();
+
   /** @param {SummaryOptions} options */
   constructor({ ordinary, races, unrecorded = "fail", checkedBy, preloads = false, coverage }) {
     this.ordinary = ordinary;
@@ -86,8 +89,6 @@ export class Summary {
     this.scriptless = new Tally();
     /** What agents used that isn't recorded, and what programs used that the machine answers. */
     this.uses = { unrecorded: new Uses(), real: new Uses() };
-    /** @type {Set<string>} versions of node that ran programs, and that weren't tried */
-    this.untriedNodes = new Set();
     /** @type {import("../seeds/first-again.mjs").Remembering | undefined} */
     this.remembers = undefined;
     /** @type {Failing | undefined} the first failing run */

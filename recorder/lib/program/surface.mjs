@@ -211,9 +211,9 @@ export function refuseRest(given) {
     }
   };
   const engineLoad = Modules._load;
-  Modules._load = function (/** @type {any} */ request, /** @type {any} */ parent, /** @type {any} */ isMain) {
+  Modules._load = function (/** @type {any} */ request, /** @type {any[]} */ ...more) {
     if (isBuiltin(request)) refuseOf(request);
-    return apply(engineLoad, this, [request, parent, isMain]);
+    return apply(engineLoad, this, [request, ...more]);
   };
   const { getBuiltinModule } = /** @type {any} */ (process);
   /** @type {any} */ (process).getBuiltinModule &&= function (/** @type {any} */ id) {

@@ -4,12 +4,13 @@
 
 import process from "node:process";
 import timers from "node:timers";
-import { apply, defineProperty, likeEngine } from "../primordials.mjs";
+import { apply, defineProperty, likeEngine, mapDelete, mapGet, mapSet, weakGet, weakSet } from "../primordials.mjs";
 import { Immediate as EngineImmediate, Timeout as EngineTimeout, timersOver } from "./internals.mjs";
 
 /** @typedef {any} Item a Timeout or an Immediate */
 /** @typedef {{ kind: "timer" | "immediate", milliseconds: number, repeats: boolean, where: any }} Described */
 /** @typedef {Record<string, Function>} Functions */
+/** @typedef {{ number: number, where: any }} Made which one it is in the run, and where it was made */
 
 const engine = { ...timers };
 const { timeout: engineSignal } = /** @type {any} */ (AbortSignal);
@@ -31,9 +32,11 @@ export class Timers {
   #node;
   /** Node's functions that run callbacks; one callback each time. */
   #process;
-  /** @type {Map<number, { number: number, where: any }>} by numbers of async_hooks: what is known of timers */
+  /** @type {Map<number, Made>} by numbers of async_hooks: timers and immediates that haven't ended */
   #made = new Map();
-  /** @type {Map<string, Item>} timers that were asked for their number */
+  /** @type {WeakMap<Item, { id: number, number: number }>} what `Number(timer)` returned, while it has this number there */
+  #numbered = new WeakMap();
+  /** @type {Map<string, Item>} timers that haven't ended, by what `Number(timer)` returned */
   #known = new Map();
   /** @type {Item[]} immediates of the round that has begun, and those of the next one */
   #round = [];
@@ -51,7 +54,7 @@ export class Timers {
    */
   constructor({ now, here = () => undefined }) {
     this.#now = () => Math.floor(now());
-    this.#node = timersOver({ now: this.#now, begins: (id) => void this.#made.set(id, this.#newMade(here())) });
+    this.#node = timersOver({ now: this.#now, begins: (id) => mapSet(this.#made, id, this.#newMade(here())) });
     const { inside, promises } = this.#node;
     this.#process = inside.getTimerCallbacks(stop);
     this.#count();
@@ -121,8 +124,13 @@ export class Timers {
    * @returns {boolean} whether there was one
    */
   runTimer() {
-    if (this.#due() === undefined) return false;
-    this.#turn();
+    const timer = this.#due();
+    if (timer === undefined) return false;
+    try {
+      this.#turn();
+    } finally {
+      this.#ended(timer);
+    }
     return true;
   }
 
@@ -141,7 +149,11 @@ export class Timers {
     if (immediate === undefined) return false;
     this.#round.shift();
     this.#node.inside.immediateQueue.append(immediate);
-    apply(this.#process.processImmediate, process, []);
+    try {
+      apply(this.#process.processImmediate, process, []);
+    } finally {
+      this.#ended(immediate);
+    }
     return true;
   }
 
@@ -204,32 +216,45 @@ export class Timers {
     return Object.values(this.#node.inside.timerListMap);
   }
 
-  /** @param {any} where */
+  /** @param {any} where @returns {Made} */
   #newMade(where) {
     this.#numbers += 1;
     return { number: this.#numbers, where };
   }
 
-  /** @param {Item} item */
-  #madeOf(item) {
-    return this.#made.get(item[this.#node.inside.async_id_symbol]);
+  /** @param {Item} item @returns {number} its number of async_hooks; it gets another one when it begins once more */
+  #idOf(item) {
+    return item[this.#node.inside.async_id_symbol];
+  }
+
+  /** @param {Item} item @returns {any} where it was made */
+  #whereOf(item) {
+    return mapGet(this.#made, this.#idOf(item))?.where;
+  }
+
+  /** @param {Item} item that has run, or was cleared */
+  #ended(item) {
+    if (!item._destroyed) return;
+    mapDelete(this.#made, this.#idOf(item));
+    const known = weakGet(this.#numbered, item);
+    if (known !== undefined) mapDelete(this.#known, String(known.number));
   }
 
   /** @param {Item} timer @returns {Described} */
   #timer(timer) {
     const { _idleTimeout: milliseconds, _repeat } = timer;
-    return { kind: "timer", milliseconds, repeats: _repeat !== null, where: this.#madeOf(timer)?.where };
+    return { kind: "timer", milliseconds, repeats: _repeat !== null, where: this.#whereOf(timer) };
   }
 
   /** @param {Item} immediate @returns {Described} */
   #immediate(immediate) {
-    return { kind: "immediate", milliseconds: 0, repeats: false, where: this.#madeOf(immediate)?.where };
+    return { kind: "immediate", milliseconds: 0, repeats: false, where: this.#whereOf(immediate) };
   }
 
   /** `Number(timer)` is counted for each run, so that it is the same in each: node's numbers also count other things. */
   #count() {
     const { Timeout } = this.#node.inside;
-    const numberOf = (/** @type {Item} */ timer) => this.#know(timer);
+    const numberOf = (/** @type {Item} */ timer) => this.#numberOf(timer);
     const name = Symbol.toPrimitive;
     const own = likeEngine(/** @this {Item} */ function () {
       return numberOf(this);
@@ -237,19 +262,22 @@ export class Timers {
     defineProperty(Timeout.prototype, name, { value: own, writable: true, enumerable: true, configurable: true });
   }
 
-  /** @param {Item} timer that is asked for its number @returns {number | undefined} */
-  #know(timer) {
-    const number = this.#madeOf(timer)?.number;
-    this.#known.set(String(number), timer);
+  /** @param {Item} timer that is asked for its number @returns {number} */
+  #numberOf(timer) {
+    const id = this.#idOf(timer);
+    const known = weakGet(this.#numbered, timer);
+    if (known?.id === id) return known.number;
+    const { number } = mapGet(this.#made, id) ?? this.#newMade(undefined);
+    weakSet(this.#numbered, timer, { id, number });
     timer[this.#node.inside.kHasPrimitive] = true;
+    if (!timer._destroyed) mapSet(this.#known, String(number), timer);
     return number;
   }
 
-  /** @param {unknown} number @returns {Item | undefined} the timer that has this number, and hasn't ended */
-  #numbered(number) {
-    const timer = this.#known.get(String(number));
-    return timer === undefined || timer._destroyed || String(this.#madeOf(timer)?.number) !== String(number)
-      ? undefined : timer;
+  /** @param {unknown} number @returns {Item | undefined} the timer that has this number, and hasn't ended since */
+  #withNumber(number) {
+    const timer = mapGet(this.#known, String(number));
+    return timer !== undefined && weakGet(this.#numbered, timer)?.id === this.#idOf(timer) ? timer : undefined;
   }
 
   /** @returns {Functions} */
@@ -259,7 +287,10 @@ export class Timers {
     const clearing = (/** @type {Function} */ own) => likeEngine((/** @type {any} */ timer) => {
       if (timer instanceof EngineTimeout) return engine.clearTimeout(timer);
       const isNumber = typeof timer === "number" || typeof timer === "string";
-      return own(isNumber ? this.#numbered(timer) : timer);
+      const item = isNumber ? this.#withNumber(timer) : timer;
+      own(item);
+      if (item instanceof inside.Timeout) this.#ended(item);
+      return undefined;
     }, own);
     return {
       setTimeout,

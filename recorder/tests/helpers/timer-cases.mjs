@@ -460,6 +460,10 @@ cases["numbers of timers are counted anew in each run"] = () => {
   const first = [+own.functions.setTimeout(() => {}, 1), +own.functions.setInterval(() => {}, 1)];
   own.clear();
   assert.deepEqual([+own.functions.setTimeout(() => {}, 1), +own.functions.setInterval(() => {}, 1)], first);
+  const timer = own.functions.setTimeout(() => {}, 1);
+  own.functions.clearTimeout(timer);
+  assert.equal(typeof +timer, "number", "one that has ended has a number, too");
+  assert.equal(+timer, +timer);
 };
 
 cases["timers that node itself made before are cleared by the run's functions"] = async () => {

@@ -1,9 +1,9 @@
 // Timers that are due while main blocks run in the order of their times, before an immediate that one of them sets.
 const words = new Int32Array(new SharedArrayBuffer(4));
-setTimeout(() => console.log("15"), 15);
+setTimeout(() => console.log("150"), 150);
 setTimeout(() => {
-  console.log("5");
+  console.log("50");
   setImmediate(() => console.log("immediate"));
-}, 5);
-setTimeout(() => console.log("10"), 10);
-console.log(Atomics.wait(words, 0, 0, 60));
+}, 50);
+setTimeout(() => console.log("100"), 100);
+console.log(Atomics.wait(words, 0, 0, 600));
