@@ -68,5 +68,7 @@ PARTS = {
         finish=start_chromium_itself,
     ),
     "slurm": Part(("slurm-wlm", "munge"), "Slurm", over=True, finish=name_the_daemons_of_slurm),
+    "parallel": Part(("parallel",), "GNU parallel", over=True),
+    "binaryen": Part(("binaryen",), "wasm-opt", over=True),
     "node": Part(("nodejs",), "the newest node that Debian has", suite="sid"),
 }
