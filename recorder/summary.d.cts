@@ -176,6 +176,8 @@ export interface Summary {
   accesses: number | null;
   /** What was not seen, a sentence each. */
   unseen: string[];
+  /** Versions of node that ran programs, and that weren't tried. Earlier summaries of this form have none. */
+  untriedNodes?: string[];
   /** Where files are: the folder as it was given, its path, the files' names, and what their readers must know. */
   kept: { folder: string; path: string; files: string[]; notes?: string[] } | null;
   /** What is not kept, and why, a sentence each. */

@@ -3,7 +3,7 @@
 
 import assert from "node:assert/strict";
 import { spawnSync } from "node:child_process";
-import { existsSync, writeFileSync } from "node:fs";
+import { existsSync, readFileSync, writeFileSync } from "node:fs";
 import { join } from "node:path";
 import { test } from "node:test";
 import { fileURLToPath } from "node:url";
@@ -33,6 +33,30 @@ test("--unit asks for the files that start nothing, and a word for some of them"
   const { names, isUnit } = askedBy(["options", "--unit"]);
   assert.deepEqual([names, isUnit], [["options.test.mjs"], true]);
   for (const name of UNIT) assert.ok(existsSync(new URL(name, import.meta.url)), name);
+});
+
+/** What a file imports, and what that imports, and so on: the URLs of files, and the names of node's modules. */
+function importedBy(file, found = new Set()) {
+  const text = readFileSync(file, "utf8");
+  for (const [, name] of text.matchAll(/(?:\bfrom |\bimport\(?|\brequire\()\s*"([^"]+)"/g)) {
+    const each = name.startsWith(".") ? new URL(name, file).href : name.replace(/^node:/, "");
+    if (found.has(each)) continue;
+    found.add(each);
+    if (name.startsWith(".") && /\.[cm]?js$/.test(name) && existsSync(new URL(each))) importedBy(new URL(each), found);
+  }
+  return found;
+}
+
+/** It tries file handles, of which node refuses some functions together with threads and processes. */
+const TRIES_HANDLES = "program-twins.test.mjs";
+
+test("each file that imports nothing to start a thread or a process with is one of the unit tests", () => {
+  const startsNothing = namesOfAll().filter((name) => {
+    const imported = importedBy(new URL(name, import.meta.url));
+    return !["worker_threads", "child_process", "cluster"].some((each) => imported.has(each));
+  });
+  assert.ok(startsNothing.length > 5, startsNothing.join());
+  assert.deepEqual(startsNothing.filter((name) => !UNIT.has(name)), [TRIES_HANDLES]);
 });
 
 test("a word that no name contains, and an option that there isn't, are named", () => {

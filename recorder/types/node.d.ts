@@ -43,6 +43,7 @@ declare namespace NodeJS {
 
   interface Process extends Listened {
     readonly arch: string;
+    readonly features: Record<string, unknown>;
     readonly platform: string;
     readonly argv: string[];
     readonly execArgv: string[];

@@ -135,7 +135,7 @@ test("without apt-get it says that the tools come from Debian; an unknown part i
   assert.equal(stderr, `not fetched: types (tsc): ${why}\n`);
   const unknown = fetch(["type"]);
   assert.equal(unknown.status, 2);
-  assert.match(unknown.stderr, /there is no part type: it is one of types, runners, pictures, browsers, slurm, node/);
+  assert.match(unknown.stderr, /there is no part type: it is one of types, runners, pictures, browsers, slurm, parallel, binaryen, node/);
 });
 
 /** A folder of tools with a part of one program. @param {import("node:test").TestContext} context */

@@ -9,8 +9,9 @@ ASKING = ("jest-config/build/Defaults.js", "jest-resolve/build/resolver.js", "je
 VARIABLES = {"node_relative_path": "'share/nodejs'", "node_prefix": "require('path').join(__dirname, '../../../..')"}
 
 
-def lead_jest_to_its_folder(root):
-    """Changes Debian's jest so that it finds its modules beside itself, with each node."""
+def lead_runners_to_their_folder(root):
+    """Changes Debian's jest so that it finds its modules beside itself, with each node. ava gets them by a link."""
+    os.symlink("nodejs", f"{root}/usr/share/node_modules")
     for name in ASKING:
         path = f"{root}/usr/share/nodejs/{name}"
         with open(path, encoding="utf8") as file:
@@ -59,7 +60,7 @@ class Part:
 PARTS = {
     "types": Part(("node-typescript",), "tsc", only_javascript=True),
     "runners": Part(
-        ("mocha", "jest", "ava"), "mocha, jest and ava", only_javascript=True, finish=lead_jest_to_its_folder
+        ("mocha", "jest", "ava"), "mocha, jest and ava", only_javascript=True, finish=lead_runners_to_their_folder
     ),
     "pictures": Part(("librsvg2-bin", "fonts-dejavu-core"), "rsvg-convert", over=True),
     "browsers": Part(
@@ -67,5 +68,7 @@ PARTS = {
         finish=start_chromium_itself,
     ),
     "slurm": Part(("slurm-wlm", "munge"), "Slurm", over=True, finish=name_the_daemons_of_slurm),
+    "parallel": Part(("parallel",), "GNU parallel", over=True),
+    "binaryen": Part(("binaryen",), "wasm-opt", over=True),
     "node": Part(("nodejs",), "the newest node that Debian has", suite="sid"),
 }

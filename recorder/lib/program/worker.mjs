@@ -361,7 +361,7 @@ function serve(parts, graph) {
 export async function main() {
   const numbered = nextMessage();
   const graph = new surroundings.Graph({
-    refuse: (/** @type {string} */ what, /** @type {string} */ place) =>
+    refuse: (/** @type {string} */ what, /** @type {string | undefined} */ place) =>
       refuse(`used ${what}, which isn't simulated`, place),
   });
   port.postMessage({ begun: true });

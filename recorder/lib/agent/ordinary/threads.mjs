@@ -138,10 +138,13 @@ function started(made, given) {
   }
 }
 
-/** Node's locks are those of all its threads, and nobody orders who gets them. @param {{ locks?: object }} threads */
+/**
+ * Node's locks are those of all its threads, and nobody orders who gets them.
+ * @param {{ locks?: object }} threads
+ */
 function refuseLocks({ locks }) {
   if (locks === undefined) return;
-  replaceEach(getPrototypeOf(locks), ["request", "query"], (_engine, name) => methodOf(() => watching.refuse(
+  replaceEach(/** @type {object} */ (getPrototypeOf(locks)), ["request", "query"], (_engine, name) => methodOf(() => watching.refuse(
     `navigator.locks.${name} was called, and its locks aren't simulated: use a lock in \`buffers\``)));
 }
 
