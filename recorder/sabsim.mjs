@@ -7,7 +7,7 @@ import { spawn } from "node:child_process";
 import { closeSync, existsSync, openSync, readFileSync } from "node:fs";
 import { constants } from "node:os";
 import { fileURLToPath } from "node:url";
-import { HERE } from "./lib/processes/platform.cjs";
+import { HERE, MACHINE } from "./lib/processes/platform.cjs";
 import { readAll } from "./lib/processes/read-all.mjs";
 import { SCRIPT_LIMITS } from "./script/limits.mjs";
 import { Simulator } from "./wasm/simulator.mjs";
@@ -21,9 +21,7 @@ const MODULE = new URL("./wasm/sabsim.wasm", import.meta.url);
 const MOST_OF_SCRIPT = SCRIPT_LIMITS.text + 1;
 
 /** Where the program is: in the package, or where the repository builds it. */
-const PROGRAMS = [
-  `../program/${process.platform}-${process.arch}/sabsim${HERE.programEnding}`, "../crates/sabsim/out/sabsim",
-];
+const PROGRAMS = [`../program/${MACHINE}/sabsim${HERE.programEnding}`, "../crates/sabsim/out/sabsim"];
 
 /** What the module adds to its version: what the proof doesn't cover. */
 const VERSION = /^(-V|--version)$/;

@@ -59,7 +59,7 @@ export function optionsText(options) {
   });
   const { args = [] } = /** @type {{ args?: string[] }} */ (given);
   const words = names.flatMap(([name, { word = name }]) => wordsOf(word, given[name]));
-  return [...words, ...(args.length === 0 ? [] : ["--", ...args.map(quoted)])].join(" ");
+  return [...words, ...(args.length === 0 ? [] : ["--", ...args].map(quoted))].join(" ");
 }
 
 /**

@@ -76,7 +76,7 @@ function textOf({ seed, row, script, windows }, options, folder) {
  * @param {import("../processes/platform.cjs").Platform} [platform]
  * @returns {string}
  */
-export const pathFrom = (folder, file, { path: { relative, sep } } = HERE) => relative(folder, file).replaceAll(sep, "/");
+export const pathFrom = (folder, file, { path } = HERE) => path.relative(folder, file).replaceAll(path.sep, "/");
 
 /** @param {Outcome["windows"]} windows @returns {{ windows?: number[][] }} */
 const memoryOf = (windows) => (windows === undefined ? {} : {

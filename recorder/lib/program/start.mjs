@@ -1,13 +1,10 @@
 // What a program's thread begins with: the program's main module, or what a Worker was given.
 
-import fs from "node:fs";
 import Module from "node:module";
 import process from "node:process";
 import { fileURLToPath, pathToFileURL } from "node:url";
-import { realUrl } from "../processes/real-url.mjs";
 import { nodeError } from "./node-error.mjs";
 
-const { statSync: statOf } = /** @type {any} */ (fs);
 /** @type {(path: string, folders: null, isMain: boolean) => string | false} */
 const findPath = /** @type {any} */ (Module)._findPath;
 
@@ -22,10 +19,10 @@ const EVALUATED = "[worker eval]";
 function entryOf(url) {
   if (!url.startsWith("file:")) return url;
   const path = fileURLToPath(url);
-  if (statOf(path, { throwIfNoEntry: false })?.isFile()) return realUrl(url);
   const found = findPath(path, null, true);
   if (found === false) throw nodeError("MODULE_NOT_FOUND", `Cannot find module '${path}'`, { requireStack: [] });
-  return realUrl(pathToFileURL(found).href);
+  const [rest = ""] = /[?#].*$/.exec(url) ?? [];
+  return `${pathToFileURL(found).href}${rest}`;
 }
 
 /**

@@ -16,8 +16,8 @@ const enginePromises = { ...files.promises };
 
 const PLAIN = Object.freeze([
   "access", "appendFile", "chmod", "chown", "copyFile", "fchmod", "fchown", "fdatasync", "fstat", "fsync",
-  "ftruncate", "futimes", "lchmod", "lchown", "link", "lutimes", "mkdir", "mkdtemp", "open", "readFile", "readdir", "readlink",
-  "realpath", "rename", "rm", "rmdir", "statfs", "symlink", "truncate", "unlink", "utimes", "writeFile",
+  "ftruncate", "futimes", "lchmod", "lchown", "link", "lutimes", "mkdir", "mkdtemp", "open", "readFile", "readdir",
+  "readlink", "realpath", "rename", "rm", "rmdir", "statfs", "symlink", "truncate", "unlink", "utimes", "writeFile",
 ]);
 const STATS = Object.freeze(["stat", "lstat"]);
 

@@ -11,9 +11,6 @@ import { SourceMaps } from "./source-maps.mjs";
 // A longer file isn't handed on: nobody reads it beside a run.
 const MOST_TEXT = 2 ** 20;
 
-// A place in a text: a file's URL or path, which may begin with a drive, then line and column.
-const PLACE = /(?<![\w.])(?:file:\/\/\/(?:[A-Za-z]:\/)?|\/|[A-Za-z]:[\\/])[^\s:]+:\d+:\d+/g;
-
 export class SourceNames {
   /**
    * @param {string} module the URL of the agents' module
@@ -47,7 +44,7 @@ export class SourceNames {
 
   /** @param {string} text @returns {string} a text in which places of the code are named so */
   withNames(text) {
-    return text.replace(PLACE, (source) => this.nameOf(source));
+    return text.replace(this.platform.place, (source) => this.nameOf(source));
   }
 
   /**
@@ -80,7 +77,7 @@ export class SourceNames {
     return name;
   }
 
-  /** @param {string} url of a file @returns {string} its path from the module's folder; its own path on another drive */
+  /** @param {string} url of a file @returns {string} its path from the module's folder; on another drive the whole path */
   #nearName(url) {
     const { path, isWindows } = this.platform;
     const [from, to] = [this.module, url].map((each) => fileURLToPath(each, { windows: isWindows }));
