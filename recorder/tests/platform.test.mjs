@@ -227,15 +227,16 @@ test("places behind a link are named as without it", withLinks, (context) => {
   writeFileSync(join(folder, "real/agents.mjs"), `import { wait } from "./wait.mjs";
 export default ({ buffers: [buffer] }) => wait(new Int32Array(buffer));
 `);
-  const textOf = (name) => {
+  const textOf = (name, flags = []) => {
     const options = ["--agents", "1", "--buffers", "4", "--seeds", "1..1", "--check", "0"];
-    const words = [join(RECORDER, "record.mjs"), join(folder, name, "agents.mjs"), ...options];
+    const words = [...flags, join(RECORDER, "record.mjs"), join(folder, name, "agents.mjs"), ...options];
     const { stdout } = spawnSync(process.execPath, words, { encoding: "utf8" });
     return stdout.replaceAll(join(folder, name), "");
   };
   const direct = textOf("real");
   assert.match(direct, /\bat wait\.mjs:1:39\b/);
   assert.equal(textOf("link"), direct);
+  assert.equal(textOf("link", ["--preserve-symlinks"]), direct);
 });
 
 test("without signals the status is the one that shells report", () => {
@@ -352,12 +353,11 @@ test("a standard input that doesn't block is read to its end", withPipe, async (
   assert.deepEqual([await ended, texts.stdout, texts.stderr], [0, report.toString(), ""]);
 });
 
-const inClone = needing("clone of the repository", existsSync(new URL("../../.git", import.meta.url)));
+const ofGit = spawnSync("git", ["ls-files", "--eol", "-z"], { cwd: join(RECORDER, ".."), encoding: "utf8" });
+const inClone = needing("clone of the repository", ofGit.status === 0);
 
 test("a checkout has the same line ends on each system", inClone, () => {
-  const cwd = fileURLToPath(new URL("../../", import.meta.url));
-  const { status, stdout, stderr } = spawnSync("git", ["ls-files", "--eol", "-z"], { cwd, encoding: "utf8" });
-  assert.equal(status, 0, stderr);
+  const { stdout } = ofGit;
   const lines = stdout.split("\0").filter((line) => line !== "");
   const files = lines.map((line) => /^i\/(\S*) +w\/\S* +attr\/(.*?) *\t/.exec(line));
   assert.ok(files.length > 1_000);
