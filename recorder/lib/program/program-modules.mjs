@@ -95,12 +95,14 @@ class Places {
  */
 function requireBuiltins() {
   const translated = translators.get("builtin");
-  translators.set("builtin", function translate(/** @type {any[]} */ ...given) {
+  /** @this {any} @param {any[]} given */
+  const translate = function translate(...given) {
     const [url] = given;
     required(url);
     loadBuiltinModule(url.slice("node:".length), url).syncExports();
     return apply(translated, this, given);
-  });
+  };
+  translators.set("builtin", translate);
 }
 
 export class ProgramModules {
