@@ -8,7 +8,7 @@ import { fileURLToPath } from "node:url";
 import { types } from "node:util";
 import { apply } from "../primordials.mjs";
 import { REFUSED } from "../options/refused.mjs";
-import { TRIED } from "./node-versions.mjs";
+import { TRIED } from "../processes/node-versions.mjs";
 
 const required = createRequire(import.meta.url);
 const { readFileSync, statSync } = /** @type {any} */ (fs);
