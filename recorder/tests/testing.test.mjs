@@ -11,6 +11,7 @@ import { fileURLToPath } from "node:url";
 import { keptFolder } from "../lib/suite/kept-folder.mjs";
 import { assertAgents } from "../testing.mjs";
 import { WITHOUT_SABSIM, agentsPath, temporaryFolder } from "./helpers/common.mjs";
+import { onLinux, withLinks } from "./helpers/needs.mjs";
 
 const HELPER = new URL("../testing.mjs", import.meta.url).href;
 
@@ -186,7 +187,7 @@ test("the failing test of a race marks its two accesses among the last acts, wit
   assert.ok(lines.some((line) => load.test(line)), output);
 });
 
-test("a test's failing run is kept in the same folder each time, which no link leads out of", (the) => {
+test("a test's failing run is kept in the same folder each time, which no link leads out of", withLinks, (the) => {
   const { TMPDIR } = process.env;
   process.env.TMPDIR = temporaryFolder(the);
   the.after(() => {
@@ -208,7 +209,7 @@ test("a test's failing run is kept in the same folder each time, which no link l
   assert.throws(() => keptFolder(module, "one"), /isn't a folder of this user: `out` can name another one$/);
 });
 
-test("assertAgents fails with RunFailed, in any test", async (the) => {
+test("assertAgents fails with RunFailed, in any test", onLinux, async (the) => {
   const out = join(temporaryFolder(the), "out");
   const options = { module: "./agents/cases.mjs", agents: 2, buffers: [12], everywhere: true, sabsim: false, out };
   await assertAgents({ ...options, args: ["addition"], seeds: 5 });

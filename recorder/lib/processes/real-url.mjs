@@ -1,0 +1,18 @@
+// The URL by which node's loader knows a file: that of the file itself, if a link leads to it.
+
+import { realpathSync } from "node:fs";
+import { fileURLToPath, pathToFileURL } from "node:url";
+
+/**
+ * @param {string} url
+ * @returns {string} with the same search and fragment; the URL itself if it is of no file that is there
+ */
+export function realUrl(url) {
+  if (!url.startsWith("file:")) return url;
+  try {
+    const [, rest = ""] = /^[^?#]*(.*)$/.exec(url) ?? [];
+    return `${pathToFileURL(realpathSync(fileURLToPath(url))).href}${rest}`;
+  } catch {
+    return url;
+  }
+}
