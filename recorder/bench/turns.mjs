@@ -96,7 +96,8 @@ function unpack(commit, folder) {
  * @param {Record<string, string | undefined>} env which names the folder
  */
 function fetchNode(env) {
-  const code = 'const { fetchSource } = await import("./fetching.mjs"); const { productsOf } = await import("./table.mjs");'
+  const [fetching, table] = ["fetching.mjs", "table.mjs"].map((name) => JSON.stringify(join(PUBLISHED, name)));
+  const code = `const { fetchSource } = await import(${fetching}); const { productsOf } = await import(${table});`
     + 'for (const { sources } of productsOf(["node-cwd"])) sources.forEach(fetchSource);';
   const words = ["--no-deprecation", "--input-type=module", "--eval", code];
   execFileSync(process.execPath, words, { cwd: PUBLISHED, env });

@@ -12,7 +12,7 @@ import { setTimeout as sleep } from "node:timers/promises";
 import { pathToFileURL } from "node:url";
 import { Delivery } from "../lib/seeds/delivery.mjs";
 import { Runs, outcomesOf } from "../lib/seeds/runs.mjs";
-import { isWorthIt } from "../lib/seeds/more-jobs.mjs";
+import { isWorthIt, moreJobs } from "../lib/seeds/more-jobs.mjs";
 import { jobWords } from "../lib/seeds/start-job.cjs";
 import { commandHere } from "./helpers/command-here.mjs";
 import { RECORD, agentsOf, agentsPath, processesWith, temporaryFolder } from "./helpers/common.mjs";
@@ -138,6 +138,25 @@ test("further jobs are taken while processors are idle, and the outcomes are tho
   assert.ok(jobs > 1 && jobs <= 3, `${jobs} jobs`);
   assert.deepEqual(outcomes.map(({ seed }) => seed), outcomes.map((_, at) => at + 1));
   assert.deepEqual(outcomes.slice(0, 100), one.outcomes);
+});
+
+test("a first job that takes long to open brings no warning, and further ones are looked for at once", async () => {
+  /** @type {string[]} */
+  const warnings = [];
+  const note = (/** @type {Error} */ { message }) => warnings.push(message);
+  process.on("warning", note);
+  // The pauses alone keep no process alive.
+  const awake = setInterval(() => {}, 1_000);
+  let asked = 0;
+  const progress = () => ({ jobs: 1, made: (asked += 1), left: asked < 3 ? 1_000_000 : 0 });
+  const opened = new Promise((done) => {
+    setTimeout(done, 1_050);
+  });
+  for await (const _ of moreJobs(opened, progress, new AbortController().signal)) assert.ok(true);
+  clearInterval(awake);
+  process.off("warning", note);
+  assert.ok(asked >= 3);
+  assert.deepEqual(warnings, []);
 });
 
 test("a further job is worth it if a processor is idle, and the runs would go on for longer than it takes", () => {

@@ -4,8 +4,8 @@ import assert from "node:assert/strict";
 import { spawn, spawnSync } from "node:child_process";
 import { createHash } from "node:crypto";
 import {
-  appendFileSync, closeSync, constants, cpSync, existsSync, mkdirSync, openSync, readFileSync, readdirSync, symlinkSync,
-  writeFileSync,
+  appendFileSync, closeSync, constants, cpSync, existsSync, mkdirSync, openSync, readFileSync, readdirSync, realpathSync,
+  symlinkSync, writeFileSync,
 } from "node:fs";
 import { syncBuiltinESMExports } from "node:module";
 import os from "node:os";
@@ -180,7 +180,7 @@ test("the environment of Windows finds a name in any case, and keeps it as it wa
 });
 
 test("a file behind a link has the URL by which node's loader knows it", withLinks, (context) => {
-  const folder = temporaryFolder(context);
+  const folder = realpathSync(temporaryFolder(context));
   mkdirSync(join(folder, "real"));
   writeFileSync(join(folder, "real", "a #1.mjs"), "");
   symlinkSync(join(folder, "real"), join(folder, "link"));

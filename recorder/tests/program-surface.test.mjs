@@ -5,7 +5,7 @@ import { spawnSync } from "node:child_process";
 import Module, { createRequire } from "node:module";
 import { test } from "node:test";
 import { fileURLToPath } from "node:url";
-import { LATER, isSince } from "../lib/program/node-versions.mjs";
+import { LATER, isSince } from "../lib/processes/node-versions.mjs";
 import { GLOBALS, METHODS, MODULES, SCHEME_MODULES } from "../lib/program/surface-table.mjs";
 import { kindOf, kindOfGlobal, refuseRest, unknownNames } from "../lib/program/surface.mjs";
 import { withShell } from "./helpers/needs.mjs";

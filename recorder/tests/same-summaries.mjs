@@ -1,11 +1,11 @@
 // Compares two versions of node: the summaries of modules of agents and of whole programs, under the same seeds, must
 // be the same byte for byte, with the same status. A summary has no version of node.
 //
-// usage: node recorder/tests/same-summaries.mjs "NODE" "OTHER NODE" [--seeds A..B] [--beside N] [--programs] [WORD..]
+// usage: node recorder/tests/same-summaries.mjs "NODE" "OTHER NODE" [--seeds A..B] [--beside N] [WORD..]
 //
-// Each NODE is a command with its words, as "unshare .. node". With --programs whole programs are compared, and without
-// modules of agents. With WORDs only those are whose names have one of them. The last line is `N the same, M differ`,
-// and the status is 0 only if none differs.
+// Each NODE is a command with its words, as "unshare .. node". With WORDs only those modules and programs are compared
+// whose names have one of them. N pairs of summaries are made at a time, by default 2. The last line is
+// `N passed, M failed`, and the status is 0 only if none failed.
 
 import { execFile } from "node:child_process";
 import { readFileSync, readdirSync } from "node:fs";
@@ -106,13 +106,12 @@ async function isSame({ name, words }, nodes, seeds) {
 const { values, positionals } = parseArgs({
   allowPositionals: true,
   options: {
-    seeds: { type: "string", default: "1..100" }, beside: { type: "string", default: "2" }, programs: { type: "boolean" },
+    seeds: { type: "string", default: "1..100" }, beside: { type: "string", default: "2" },
   },
 });
 const [one, other, ...wanted] = positionals;
 if (other === undefined) throw new Error("name two commands of node: see the usage in this file");
-const all = values.programs ? programs() : modules();
-const waiting = all.filter(({ name }) => wanted.length === 0 || wanted.some((word) => name.includes(word)));
+const waiting = [...modules(), ...programs()].filter(({ name }) => wanted.length === 0 || wanted.some((word) => name.includes(word)));
 /** @type {boolean[]} */
 const same = [];
 await Promise.all(Array.from({ length: Number(values.beside) }, async () => {
@@ -121,5 +120,5 @@ await Promise.all(Array.from({ length: Number(values.beside) }, async () => {
   }
 }));
 const count = same.filter(Boolean).length;
-console.log(`${count} the same, ${same.length - count} differ`);
+console.log(`${count} passed, ${same.length - count} failed`);
 process.exitCode = count === same.length && count > 0 ? 0 : 1;

@@ -4,7 +4,7 @@
 import fs from "node:fs";
 import util from "node:util";
 import { BUFFER_SIZE, FileHandle, engine, isInPieces, takeWatching } from "./file-handle.mjs";
-import { doesOtherwise } from "./node-versions.mjs";
+import { doesOtherwise } from "../processes/node-versions.mjs";
 import { callLater, isThrown, outcomeOf, promiseLater, putTwin, replaceCall } from "./twin-calls.mjs";
 import { apply, defineProperty, getOwnPropertyDescriptor } from "../primordials.mjs";
 

@@ -139,12 +139,14 @@ function started(made, given) {
 }
 
 /**
- * Node's locks are those of all its threads, and nobody orders who gets them.
+ * Refuses node's locks, if it has some: they are those of all its threads, and nobody orders who gets them.
  * @param {{ locks?: object }} threads
  */
 function refuseLocks({ locks }) {
   if (locks === undefined) return;
-  replaceEach(/** @type {object} */ (getPrototypeOf(locks)), ["request", "query"], (_engine, name) => methodOf(() => watching.refuse(
+  /** @type {any} */
+  const prototype = getPrototypeOf(locks);
+  replaceEach(prototype, ["request", "query"], (_engine, name) => methodOf(() => watching.refuse(
     `navigator.locks.${name} was called, and its locks aren't simulated: use a lock in \`buffers\``)));
 }
 
@@ -161,6 +163,6 @@ export function watchThreads(threads) {
   }
   replaceNeeded(threads, "setEnvironmentData", handing("setEnvironmentData"));
   replace(threads, "postMessageToThread", handing("postMessageToThread"));
-  refuseLocks(threads);
+  refuseLocks(/** @type {{ locks?: object }} */ (/** @type {object} */ (threads)));
   if (typeof process.send === "function") replace(process, "send", handing("process.send"));
 }

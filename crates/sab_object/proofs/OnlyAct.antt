@@ -1,0 +1,163 @@
+-- From one state an act has one outcome.
+use Rattle.std.proofs.Common.{◌≡◌, inl, inr, ℕ, Bool, false, List, length, slice_get, slice_set, Option, Some, None, refl, ap, sym, ◌∙◌, subst}
+use Rattle.std.proofs.lemmas.Bool.{cases_eq, true≢false}
+use Rattle.sab_block.specs.declared.operand.Operand.{Operand}
+use Rattle.sab_block.specs.declared.view.View.{View}
+use Rattle.sab_block.specs.declared.access.Access.{Access}
+use Rattle.sab_block.specs.declared.access.Access.TheVariants as X
+use Rattle.sab_block.specs.Operand.{raw, whole_of}
+use Rattle.sab_block.specs.View.{kind_of, place}
+use Rattle.sab_block.specs.Access.{ActsAt, element, index_of}
+use Rattle.sab_plan.specs.declared.place.Place.{Place}
+use Rattle.sab_plan.specs.declared.plan_view.PlanView.{PlanView}
+use Rattle.sab_plan.specs.declared.call.Call.{Call}
+use Rattle.sab_plan.specs.declared.call.Call.TheVariants as C
+use Rattle.sab_plan.specs.declared.answer.Answer.{Answer}
+use Rattle.sab_plan.specs.declared.answer.Answer.TheVariants as A
+use Rattle.sab_plan.specs.declared.entry.What.{What}
+use Rattle.sab_plan.specs.declared.entry.What.TheVariants.{Began, Acted, Enlisted, Left, Returned, Stuck}
+use Rattle.sab_plan.specs.Call.{view_of}
+use Rattle.sab_plan.specs.Entry.{is_act}
+use Rattle.sab_plan.specs.Script.{ScriptParts}
+use Rattle.sab_plan.specs.Place.{place_of}
+use Rattle.sab_plan.specs.Plan.{PlanParts}
+use Rattle.sab_plan.specs.Check.{verdict}
+use Rattle.sab_object.specs.Object.{State, bytes_of, element_at, waiters, woken_count, woken, joined, taken_off, DoesCall, Does}
+use Rattle.sab_object.specs.Kept.{IsOutcome}
+
+-- an option has one value
+pub one_value : {X : Type 0} (o : Option X) (x y : X) → o ≡ Some x → o ≡ Some y → x ≡ y
+one_value o x y e f = cc
+
+-- an option isn't both
+not_both : {X : Type 0} (o : Option X) (x : X) → o ≡ Some x → o ≡ None → ⊥
+not_both o x e f = cc
+
+-- an access acts in one way
+ActsAt-one : (v : View) (access : Access) (p : ℕ) (mem : List ℕ) (x y : Operand) (new new' : List ℕ)
+    → ActsAt v access p mem x new → ActsAt v access p mem y new' → (x ≡ y) × (new ≡ new')
+ActsAt-one v (X.Load index) p mem x y new new' a b = (a.0 ∙ sym b.0, a.1 ∙ sym b.1)
+ActsAt-one v (X.Store index z) p mem x y new new' a b = (a.0 ∙ sym b.0, a.1 ∙ sym b.1)
+ActsAt-one v (X.Rmw op index z) p mem x y new new' a b = (a.0 ∙ sym b.0, a.1 ∙ sym b.1)
+ActsAt-one v (X.CompareExchange index z r) p mem x y new new' a b = (
+  a.0 ∙ sym b.0,
+  elim (cases_eq (element v mem p) (raw (kind_of v) (whole_of z))) [
+    | inl e ↦ a.1 e ∙ sym (b.1 e)
+    | inr n ↦ a.2 n ∙ sym (b.2 n)
+  ],
+)
+
+-- a call that has begun has one outcome
+pub DoesCall-one : (cb : Bool) (a : ℕ) (v : PlanView) (call : Call) (S : State) (w : What) (T : State) (w' : What)
+    (T' : State)
+    → IsOutcome w → IsOutcome w' → DoesCall cb a v call S w T → DoesCall cb a v call S w' T' → (w ≡ w') × (T ≡ T')
+DoesCall-one cb a v (C.Access n access) S (Acted (A.Threw e)) T (Acted (A.Threw f)) T' o o' d d' =
+    (ap (λ t. Acted (A.Threw t)) (one_value (verdict cb v.view (C.Access n access)) e f d.0 d'.0), d.1 ∙ sym d'.1)
+DoesCall-one cb a v (C.Access n access) S (Acted (A.Threw e)) T (Acted (A.Value y)) T' o o' d d' =
+    absurd (not_both (verdict cb v.view (C.Access n access)) e d.0 d'.0)
+DoesCall-one cb a v (C.Access n access) S (Acted (A.Value x)) T (Acted (A.Threw f)) T' o o' d d' =
+    absurd (not_both (verdict cb v.view (C.Access n access)) f d'.0 d.0)
+DoesCall-one cb a v (C.Access n access) S (Acted (A.Value x)) T (Acted (A.Value y)) T' o o' d d' =
+    let acts = d.1.1 in
+    let acts' = d'.1.1 in
+    let places = one_value (place v.view (index_of access)) acts.0 acts'.0 acts.1 acts'.1 in
+    let here = subst (λ (p : ℕ). ActsAt v.view access p (bytes_of S.mem v.block) x d.1.0) places acts.2 in
+    let one = ActsAt-one v.view access acts'.0 (bytes_of S.mem v.block) x y d.1.0 d'.1.0 here acts'.2 in (
+      ap (λ z. Acted (A.Value z)) one.0,
+      d.1.2
+          ∙ (ap (λ (bytes : List ℕ). record S { mem = slice_set S.mem v.block bytes }) one.1 ∙ sym d'.1.2),
+    )
+DoesCall-one cb a v (C.Notify n index k) S (Acted (A.Threw e)) T (Acted (A.Threw f)) T' o o' d d' =
+    (ap (λ t. Acted (A.Threw t)) (one_value (verdict cb v.view (C.Notify n index k)) e f d.0 d'.0), d.1 ∙ sym d'.1)
+DoesCall-one cb a v (C.Notify n index k) S (Acted (A.Threw e)) T (Acted (A.Count y)) T' o o' d d' =
+    absurd (not_both (verdict cb v.view (C.Notify n index k)) e d.0 d'.0)
+DoesCall-one cb a v (C.Notify n index k) S (Acted (A.Count x)) T (Acted (A.Threw f)) T' o o' d d' =
+    absurd (not_both (verdict cb v.view (C.Notify n index k)) f d'.0 d.0)
+DoesCall-one cb a v (C.Notify n index k) S (Acted (A.Count x)) T (Acted (A.Count y)) T' o o' d d' =
+    let places = one_value (place_of v index) d.1.0 d'.1.0 d.1.1 d'.1.1 in
+    let counts : x ≡ y = d.1.2 ∙ (ap (λ (p : Place). woken_count k (length (waiters p S.line))) places ∙ sym d'.1.2) in (
+      ap (λ z. Acted (A.Count z)) counts,
+      d.1.3
+          ∙ (ap (λ (p : Place). woken x p S) places ∙ (ap (λ (z : ℕ). woken z d'.1.0 S) counts ∙ sym d'.1.3)),
+    )
+DoesCall-one cb a v (C.Wait n index x t) S (Acted (A.Threw e)) T (Acted (A.Threw f)) T' o o' d d' =
+    (ap (λ t. Acted (A.Threw t)) (one_value (verdict cb v.view (C.Wait n index x t)) e f d.0 d'.0), d.1 ∙ sym d'.1)
+DoesCall-one cb a v (C.Wait n index x t) S (Acted (A.Threw e)) T (Acted A.NotEqual) T' o o' d d' =
+    absurd (not_both (verdict cb v.view (C.Wait n index x t)) e d.0 d'.0)
+DoesCall-one cb a v (C.Wait n index x t) S (Acted (A.Threw e)) T Enlisted T' o o' d d' =
+    absurd (not_both (verdict cb v.view (C.Wait n index x t)) e d.0 d'.0)
+DoesCall-one cb a v (C.Wait n index x t) S (Acted A.NotEqual) T (Acted (A.Threw f)) T' o o' d d' =
+    absurd (not_both (verdict cb v.view (C.Wait n index x t)) f d'.0 d.0)
+DoesCall-one cb a v (C.Wait n index x t) S Enlisted T (Acted (A.Threw f)) T' o o' d d' =
+    absurd (not_both (verdict cb v.view (C.Wait n index x t)) f d'.0 d.0)
+DoesCall-one cb a v (C.Wait n index x t) S (Acted A.NotEqual) T (Acted A.NotEqual) T' o o' d d' =
+    (refl, d.1.3 ∙ sym d'.1.3)
+DoesCall-one cb a v (C.Wait n index x t) S (Acted A.NotEqual) T Enlisted T' o o' d d' =
+    let places = one_value (place_of v index) d'.1.0 d.1.0 d'.1.1 d.1.1 in
+    absurd (d.1.2 (subst (λ (p : Place). raw (kind_of v.view) (whole_of x) ≡ element_at v S.mem p) places d'.1.2))
+DoesCall-one cb a v (C.Wait n index x t) S Enlisted T (Acted A.NotEqual) T' o o' d d' =
+    let places = one_value (place_of v index) d.1.0 d'.1.0 d.1.1 d'.1.1 in
+    absurd (d'.1.2 (subst (λ (p : Place). raw (kind_of v.view) (whole_of x) ≡ element_at v S.mem p) places d.1.2))
+DoesCall-one cb a v (C.Wait n index x t) S Enlisted T Enlisted T' o o' d d' =
+    let places = one_value (place_of v index) d.1.0 d'.1.0 d.1.1 d'.1.1 in
+    (refl, d.1.3 ∙ (ap (λ (p : Place). joined p a S) places ∙ sym d'.1.3))
+DoesCall-one cb a v call S w T w' T' o o' d d' = absurd (first_of (assumption, cc))
+
+-- a wait that has begun leaves in one way
+pub DoesCall-left : (cb : Bool) (a : ℕ) (v : PlanView) (call : Call) (S : State) (x : Answer) (T T' : State)
+    → DoesCall cb a v call S (Left x) T → DoesCall cb a v call S (Left x) T' → T ≡ T'
+DoesCall-left cb a v (C.Wait n index y t) S A.Woken T T' d d' = d.1 ∙ sym d'.1
+DoesCall-left cb a v (C.Wait n index y (Some t)) S A.TimedOut T T' d d' =
+    let places = one_value (place_of v index) d.0 d'.0 d.1 d'.1 in
+    d.3 ∙ (ap (λ (p : Place). taken_off p a S) places ∙ sym d'.3)
+DoesCall-left cb a v call S x T T' d d' = absurd (first_of (assumption, cc))
+
+-- two acts of one entry's call are on one view
+on_one_view : (plan : PlanParts) (a n : ℕ) (S T T' : State) (w w' : What)
+    (d : Does plan S (record { agent = a; call = n; what = w }) T)
+    (d' : Does plan S (record { agent = a; call = n; what = w' }) T')
+    → DoesCall d'.script.can_block a d'.view d'.call S w T
+on_one_view plan a n S T T' w w' d d' =
+    let scripts : d.script ≡ d'.script =
+    one_value (slice_get plan.scripts a) d.script d'.script d.script_is d'.script_is in
+    let here : slice_get d'.script.calls n ≡ Some d.call =
+    subst (λ (s : ScriptParts). slice_get s.calls n ≡ Some d.call) scripts d.call_is in
+    let calls : d.call ≡ d'.call = one_value (slice_get d'.script.calls n) d.call d'.call here d'.call_is in
+    let there : slice_get plan.views (view_of d'.call) ≡ Some d.view =
+    subst (λ (c : Call). slice_get plan.views (view_of c) ≡ Some d.view) calls d.view_is in
+    let views : d.view ≡ d'.view = one_value (slice_get plan.views (view_of d'.call)) d.view d'.view there d'.view_is in
+    let one = subst (λ (s : ScriptParts). DoesCall s.can_block a d.view d.call S w T) scripts d.does in
+    let two = subst (λ (c : Call). DoesCall d'.script.can_block a d.view c S w T) calls one in
+    subst (λ (v : PlanView). DoesCall d'.script.can_block a v d'.call S w T) views two
+
+-- two acts of one agent from one state, as its call begins, are one
+pub Does-one_outcome : (plan : PlanParts) (a n : ℕ) (S T T' : State) (w w' : What) → IsOutcome w → IsOutcome w'
+    → Does plan S (record { agent = a; call = n; what = w }) T
+    → Does plan S (record { agent = a; call = n; what = w' }) T' → (w ≡ w') × (T ≡ T')
+Does-one_outcome plan a n S T T' w w' o o' d d' =
+    DoesCall-one d'.script.can_block a d'.view d'.call S w T w' T' o o' (on_one_view plan a n S T T' w w' d d') d'.does
+
+-- what isn't an act does nothing
+pub DoesCall-no_act : (cb : Bool) (a : ℕ) (v : PlanView) (call : Call) (S : State) (w : What) (T : State) → is_act w ≡ false
+    → DoesCall cb a v call S w T → ⊥
+DoesCall-no_act cb a v call S (Acted x) T e d = absurd (true≢false e)
+DoesCall-no_act cb a v call S Enlisted T e d = absurd (true≢false e)
+DoesCall-no_act cb a v call S (Left x) T e d = absurd (true≢false e)
+DoesCall-no_act cb a v (C.Wait n index y t) S w T e d = d
+DoesCall-no_act cb a v (C.Access n access) S w T e d = d
+DoesCall-no_act cb a v (C.Notify n index k) S w T e d = d
+
+-- an entry leads to one state
+pub Does-one : (plan : PlanParts) (a n : ℕ) (w : What) (S T T' : State)
+    → Does plan S (record { agent = a; call = n; what = w }) T
+    → Does plan S (record { agent = a; call = n; what = w }) T' → T ≡ T'
+Does-one plan a n (Acted x) S T T' d d' = (Does-one_outcome plan a n S T T' (Acted x) (Acted x) tt tt d d').1
+Does-one plan a n Enlisted S T T' d d' = (Does-one_outcome plan a n S T T' Enlisted Enlisted tt tt d d').1
+Does-one plan a n (Left x) S T T' d d' =
+    DoesCall-left d'.script.can_block a d'.view d'.call S x T T' (on_one_view plan a n S T T' (Left x) (Left x) d d')
+    d'.does
+Does-one plan a n Began S T T' d d' = absurd (DoesCall-no_act d.script.can_block a d.view d.call S Began T refl d.does)
+Does-one plan a n (Returned x) S T T' d d' =
+    absurd (DoesCall-no_act d.script.can_block a d.view d.call S (Returned x) T refl d.does)
+Does-one plan a n (Stuck why) S T T' d d' =
+    absurd (DoesCall-no_act d.script.can_block a d.view d.call S (Stuck why) T refl d.does)
