@@ -15,7 +15,7 @@ import { setTimeout as wait } from "node:timers/promises";
 import { fileURLToPath, pathToFileURL } from "node:url";
 import { shortPath } from "../lib/keeping/about.mjs";
 import { makeFolder } from "../lib/keeping/keep.mjs";
-import { pathFrom } from "../lib/keeping/kept-program.mjs";
+import { besides, pathFrom } from "../lib/keeping/kept-program.mjs";
 import { onceFree } from "../lib/keeping/once-free.mjs";
 import { endRest } from "../lib/processes/group-end.mjs";
 import { POSIX, WINDOWS } from "../lib/processes/platform.cjs";
@@ -132,6 +132,11 @@ test("texts with places of Windows have their names", () => {
 test("paths in what is kept have slashes on each system", () => {
   assert.equal(pathFrom("C:\\p\\found", "C:\\p\\src\\m.mjs", WINDOWS), "../src/m.mjs");
   assert.equal(pathFrom("/p/found", "/p/src/m.mjs", POSIX), "../src/m.mjs");
+  // What one system has kept is found by the other.
+  const onWindows = pathFrom("C:\\p\\found", "C:\\p\\src\\m.mjs", WINDOWS);
+  const here = pathFrom("/p/found", "/p/src/m.mjs", POSIX);
+  assert.equal(besides("/p/found/seed-1.program.json", onWindows, POSIX), "/p/src/m.mjs");
+  assert.equal(besides("C:\\p\\found\\seed-1.program.json", here, WINDOWS), "C:\\p\\src\\m.mjs");
   // A sign that parts nothing here stays.
   assert.equal(pathFrom("/p/found", "/p/src/a\\b.mjs", POSIX), "../src/a\\b.mjs");
   assert.equal(shortPath("C:\\p\\src\\m.mjs", "C:\\p", WINDOWS), "src/m.mjs");

@@ -2,7 +2,7 @@
 // seed, and says which thread moved with each draw. A script doesn't have the turns of event loops.
 
 import { createHash } from "node:crypto";
-import { isAbsolute, resolve } from "node:path";
+import { resolve } from "node:path";
 import { fileURLToPath, pathToFileURL } from "node:url";
 import { SCRIPT_LIMITS } from "../../script/limits.mjs";
 import { MOST_DRAWS, moverOf } from "../board/row.mjs";
@@ -179,8 +179,14 @@ export function keptProgram(text, file) {
   };
 }
 
-/** @param {string} file @param {string} path from that file's folder @returns {string} */
-const besides = (file, path) => (isAbsolute(path) ? path : resolve(file, "..", path));
+/**
+ * @param {string} file
+ * @param {string} path from that file's folder
+ * @param {import("../processes/platform.cjs").Platform} platform
+ * @returns {string}
+ */
+export const besides = (file, path, { path: system } = HERE) =>
+  (system.isAbsolute(path) ? path : system.resolve(file, "..", path));
 
 /** @param {string} path @returns {string} */
 export const urlOf = (path) => pathToFileURL(path).href;
