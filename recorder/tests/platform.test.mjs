@@ -4,8 +4,8 @@ import assert from "node:assert/strict";
 import { spawn, spawnSync } from "node:child_process";
 import { createHash } from "node:crypto";
 import {
-  appendFileSync, closeSync, constants, cpSync, existsSync, mkdirSync, openSync, readFileSync, readdirSync, symlinkSync,
-  writeFileSync,
+  appendFileSync, closeSync, constants, cpSync, existsSync, mkdirSync, openSync, readFileSync, readdirSync,
+  realpathSync, symlinkSync, writeFileSync,
 } from "node:fs";
 import { syncBuiltinESMExports } from "node:module";
 import os from "node:os";
@@ -26,8 +26,10 @@ import { ignoringCase } from "../lib/program/process-env.mjs";
 import { SourceNames } from "../lib/run/source-names.mjs";
 import { startJob } from "../lib/seeds/start-job.cjs";
 import { keptFolder } from "../lib/suite/kept-folder.mjs";
+import { Browser, withBrowser } from "./helpers/browser.mjs";
 import { temporaryFolder } from "./helpers/common.mjs";
 import { needing, withLinks, withPosixPaths, withSignals } from "./helpers/needs.mjs";
+import { FACTS, FILE, OUTCOME, lines as linesOf } from "./helpers/page-run.mjs";
 
 const RECORDER = fileURLToPath(new URL("../", import.meta.url));
 
@@ -66,15 +68,24 @@ const filesBelow = (folder) => readdirSync(folder, { withFileTypes: true }).flat
   return entry.isDirectory() ? filesBelow(path) : [path];
 });
 
-test("a page made of files with carriage returns has the digests that a browser makes of it", async (context) => {
+/**
+ * Copies what makes pages into a folder, with the line ends of Windows.
+ * @param {import("node:test").TestContext} context
+ * @returns {(path: string) => Promise<any>} imports a module of the copy
+ */
+function withCarriageReturns(context) {
   const folder = temporaryFolder(context);
   for (const part of ["lib", "page", "script", "schedule", "wasm"]) {
     cpSync(join(RECORDER, part), join(folder, part), { recursive: true });
   }
   for (const path of filesBelow(folder).filter((each) => /\.(c|m)js$|\.css$|\.html$/.test(each))) {
-    writeFileSync(path, readFileSync(path, "utf8").replaceAll("\n", "\r\n"));
+    writeFileSync(path, readFileSync(path, "utf8").replaceAll(/\r?\n/g, "\r\n"));
   }
-  const { builtSimulator, documentOf } = await import(pathToFileURL(join(folder, "lib/keeping/document.mjs")).href);
+  return (path) => import(pathToFileURL(join(folder, path)).href);
+}
+
+test("a page made of files with carriage returns has the digests that a browser makes of it", async (context) => {
+  const { builtSimulator, documentOf } = await withCarriageReturns(context)("lib/keeping/document.mjs");
   const page = documentOf("try", "a title", {}, builtSimulator());
   // A parser of HTML makes one line feed of each pair before a browser makes its digests.
   const seen = page.replaceAll("\r\n", "\n");
@@ -83,6 +94,19 @@ test("a page made of files with carriage returns has the digests that a browser 
   assert.ok(style.length > 1_000 && code.length > 10_000);
   assert.ok(page.includes(digestOf(style)), "style");
   assert.ok(page.includes(digestOf(code)), "code");
+});
+
+const inBrowser = { ...withBrowser, timeout: 120_000 };
+
+test("a page made of files with carriage returns shows its run", inBrowser, async (context) => {
+  const { pageData, pageOf } = await withCarriageReturns(context)("lib/keeping/page.mjs");
+  const path = join(temporaryFolder(context), "seed-5.html");
+  writeFileSync(path, pageOf(pageData(OUTCOME, linesOf(FACTS), FILE)));
+  const browser = new Browser();
+  context.after(() => browser.close());
+  const page = await browser.open(pathToFileURL(path).href);
+  assert.equal(await page.value('document.querySelector("#timeline [aria-selected=true]").id'), "step-8");
+  assert.deepEqual(page.complaints(), []);
 });
 
 test("places in a project on Windows are named from the module's folder", () => {
@@ -180,7 +204,7 @@ test("the environment of Windows finds a name in any case, and keeps it as it wa
 });
 
 test("a file behind a link has the URL by which node's loader knows it", withLinks, (context) => {
-  const folder = temporaryFolder(context);
+  const folder = realpathSync(temporaryFolder(context));
   mkdirSync(join(folder, "real"));
   writeFileSync(join(folder, "real", "a #1.mjs"), "");
   symlinkSync(join(folder, "real"), join(folder, "link"));
@@ -227,15 +251,16 @@ test("places behind a link are named as without it", withLinks, (context) => {
   writeFileSync(join(folder, "real/agents.mjs"), `import { wait } from "./wait.mjs";
 export default ({ buffers: [buffer] }) => wait(new Int32Array(buffer));
 `);
-  const textOf = (name) => {
+  const textOf = (name, flags = []) => {
     const options = ["--agents", "1", "--buffers", "4", "--seeds", "1..1", "--check", "0"];
-    const words = [join(RECORDER, "record.mjs"), join(folder, name, "agents.mjs"), ...options];
+    const words = [...flags, join(RECORDER, "record.mjs"), join(folder, name, "agents.mjs"), ...options];
     const { stdout } = spawnSync(process.execPath, words, { encoding: "utf8" });
     return stdout.replaceAll(join(folder, name), "");
   };
   const direct = textOf("real");
   assert.match(direct, /\bat wait\.mjs:1:39\b/);
   assert.equal(textOf("link"), direct);
+  assert.equal(textOf("link", ["--preserve-symlinks"]), direct);
 });
 
 test("without signals the status is the one that shells report", () => {
@@ -352,12 +377,11 @@ test("a standard input that doesn't block is read to its end", withPipe, async (
   assert.deepEqual([await ended, texts.stdout, texts.stderr], [0, report.toString(), ""]);
 });
 
-const inClone = needing("clone of the repository", existsSync(new URL("../../.git", import.meta.url)));
+const ofGit = spawnSync("git", ["ls-files", "--eol", "-z"], { cwd: join(RECORDER, ".."), encoding: "utf8" });
+const inClone = needing("clone of the repository", ofGit.status === 0);
 
 test("a checkout has the same line ends on each system", inClone, () => {
-  const cwd = fileURLToPath(new URL("../../", import.meta.url));
-  const { status, stdout, stderr } = spawnSync("git", ["ls-files", "--eol", "-z"], { cwd, encoding: "utf8" });
-  assert.equal(status, 0, stderr);
+  const { stdout } = ofGit;
   const lines = stdout.split("\0").filter((line) => line !== "");
   const files = lines.map((line) => /^i\/(\S*) +w\/\S* +attr\/(.*?) *\t/.exec(line));
   assert.ok(files.length > 1_000);

@@ -3,11 +3,11 @@
 import assert from "node:assert/strict";
 import { spawn } from "node:child_process";
 import {
-  existsSync, mkdirSync, readFileSync, readdirSync, rmSync, symlinkSync, writeFileSync,
+  existsSync, mkdirSync, readFileSync, readdirSync, realpathSync, rmSync, symlinkSync, writeFileSync,
 } from "node:fs";
 import { join } from "node:path";
 import { after, test } from "node:test";
-import { fileURLToPath } from "node:url";
+import { fileURLToPath, pathToFileURL } from "node:url";
 import { keptFolder } from "../lib/suite/kept-folder.mjs";
 import { assertAgents } from "../testing.mjs";
 import { WITHOUT_SABSIM, agentsPath, temporaryFolder } from "./helpers/common.mjs";
@@ -23,7 +23,8 @@ const HELPER = new URL("../testing.mjs", import.meta.url).href;
  * @param {string} [reporter]
  */
 async function suite(context, code, env = {}, reporter = "spec") {
-  const folder = temporaryFolder(context);
+  // A suite works in this folder, and node knows its files by their own paths.
+  const folder = realpathSync(temporaryFolder(context));
   const temporary = join(folder, "temporary");
   mkdirSync(temporary);
   writeFileSync(join(folder, "agents.mjs"), readFileSync(agentsPath("naive-mutex"), "utf8"));
@@ -119,7 +120,7 @@ test("a failing test shows seed, ending, its explained end, and where its files 
   assert.match(last, new RegExp(`^ {2}173 0 19 wait +${wait}$`));
   assert.equal(end - shown.length - (from + 4), 16);
   assert.deepEqual(lines.slice(end, end + 4), [
-    "", `kept in ${place}: ${names.join(", ")}`, "", `    at file://${join(folder, "lock.test.mjs")}:2:1`,
+    "", `kept in ${place}: ${names.join(", ")}`, "", `    at ${pathToFileURL(join(folder, "lock.test.mjs")).href}:2:1`,
   ]);
   assert.ok(!output.includes("generatedMessage"));
 });

@@ -54,7 +54,7 @@ export class Interruption {
 /**
  * Ends the process as a signal ends it. Windows has no signals: there the status is the one that shells report.
  * @param {NodeJS.Signals} signal that nothing listens to
- * @param {import("../processes/platform.cjs").Platform} [platform]
+ * @param {import("../processes/platform.cjs").Platform} platform
  * @returns {Promise<never>}
  */
 export function endBy(signal, { hasSignals } = HERE) {

@@ -25,7 +25,7 @@ export const { quoted } = HERE;
  * each system takes.
  * @param {string} path
  * @param {string} [folder] the working directory
- * @param {import("../processes/platform.cjs").Platform} [platform]
+ * @param {import("../processes/platform.cjs").Platform} platform
  * @returns {string}
  */
 export function shortPath(path, folder = process.cwd(), { path: { isAbsolute, relative, resolve, sep } } = HERE) {

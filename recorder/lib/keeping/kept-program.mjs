@@ -73,7 +73,7 @@ function textOf({ seed, row, script, windows }, options, folder) {
  * A file's path from a folder. Its parts are parted by `/`, so that each system reads it.
  * @param {string} folder
  * @param {string} file
- * @param {import("../processes/platform.cjs").Platform} [platform]
+ * @param {import("../processes/platform.cjs").Platform} platform
  * @returns {string}
  */
 export const pathFrom = (folder, file, { path } = HERE) => path.relative(folder, file).replaceAll(path.sep, "/");

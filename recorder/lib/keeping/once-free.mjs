@@ -10,7 +10,7 @@ const WAIT_MILLISECONDS = 20;
  * Does something with a file, again and again while another program holds it, as long as this system's programs may.
  * @template Done
  * @param {() => Done} act
- * @param {import("../processes/platform.cjs").Platform} [platform]
+ * @param {import("../processes/platform.cjs").Platform} platform
  * @returns {Done}
  * @throws {Error} what `act` threw last
  */

@@ -20,7 +20,7 @@ export function endGroup(id) {
  * Ends what is left of a group whose leader has ended. Without groups nothing is left that could be found: by then, the
  * system may have given the leader's number to another process.
  * @param {number | undefined} id of the process that led the group
- * @param {import("./platform.cjs").Platform} [platform]
+ * @param {import("./platform.cjs").Platform} platform
  */
 export function endRest(id, { hasGroups } = HERE) {
   if (hasGroups) endGroup(id);

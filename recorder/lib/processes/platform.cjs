@@ -3,7 +3,6 @@
 "use strict";
 
 const path = require("node:path");
-const process = require("node:process");
 
 /**
  * @typedef {object} Platform

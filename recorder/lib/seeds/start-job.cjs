@@ -47,7 +47,7 @@ function jobWords(words) {
 
 /**
  * @param {Known} [known]
- * @param {import("../processes/platform.cjs").Platform} [platform]
+ * @param {import("../processes/platform.cjs").Platform} platform
  * @returns {import("node:child_process").ChildProcess} which leads a group of processes, where there are groups. On
  *   Windows a detached process would have no console
  */
