@@ -102,7 +102,7 @@ def json_of(text):
 def is_sound(found, opened=0):
     """Returns whether no bracket is too deep, and no text has half of a surrogate pair."""
     if isinstance(found, str):
-        return not any("\ud800" <= letter <= "\udfff" for letter in found)
+        return found.isascii() or not any("\ud800" <= letter <= "\udfff" for letter in found)
     parts = found if isinstance(found, list) else [*found, *found.values()] if isinstance(found, dict) else []
     if isinstance(found, (list, dict)) and opened == MOST_OPEN:
         return False

@@ -52,15 +52,16 @@ def accessed(blocks, node):
     return "", with_bytes(blocks, Place(node.block, node.byte), node.written)
 
 
-def segment(automata, agent, blocks, start, made=()) -> Union[Segment, Unknown]:
+def segment(automata, agent, blocks, at) -> Union[Segment, Unknown]:
     """Returns the segment that an agent makes from a node on; the edge that isn't there, if one is lacking."""
-    node = automata.node(agent, start)
-    if not is_within_act(node):
-        return Segment(blocks, start, made)
-    answer, after = accessed(blocks, node)
-    if answer not in node.edges:
-        return Unknown(automata.agents[agent].automaton, start, answer)
-    return segment(automata, agent, after, node.edges[answer], made + (start,))
+    made = ()
+    while is_within_act(automata.node(agent, at)):
+        node = automata.node(agent, at)
+        answer, blocks = accessed(blocks, node)
+        if answer not in node.edges:
+            return Unknown(automata.agents[agent].automaton, at, answer)
+        made, at = made + (at,), node.edges[answer]
+    return Segment(blocks, at, made)
 
 
 def first_state(automata) -> Union[State, Unknown]:
