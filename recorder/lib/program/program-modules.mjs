@@ -97,7 +97,8 @@ function requireBuiltins() {
   const translated = translators.get("builtin");
   /** @this {any} @param {any[]} given */
   const translate = function translate(...given) {
-    const [url] = given;
+    // A program may have replaced iterators, so the list isn't taken apart.
+    const url = given[0];
     required(url);
     loadBuiltinModule(url.slice("node:".length), url).syncExports();
     return apply(translated, this, given);
