@@ -7,13 +7,15 @@ from typing import NamedTuple
 
 from .machine import Machine, Thrown
 
-KINDS = [("Int32", 4), ("Int32", 4), ("Int32", 4), ("BigInt64", 8), ("Int8", 1), ("Uint8", 1), ("Int16", 2),
-         ("Uint16", 2), ("Uint32", 4), ("BigUint64", 8), ("Float32", 4), ("Uint8Clamped", 1)]  # fmt: skip
-ACCESSES = ["load", "store", "store", "exchange", "add", "sub", "and", "or", "xor", "compareExchange", "compareExchange"]
+# Kinds with their sizes: the first ones can be waited on.
+KINDS = [("Int32", 4), ("Int32", 4), ("Int32", 4), ("BigInt64", 8), ("Int8", 1), ("Uint8", 1),
+         ("Int16", 2), ("Uint16", 2), ("Uint32", 4), ("BigUint64", 8), ("Float32", 4), ("Uint8Clamped", 1)]  # fmt: skip
+SIZES = dict(KINDS)
+ACCESSES = ["load", "store", "store", "exchange", "add", "sub", "and", "or", "xor", "compareExchange"]
 VALUES = [0, 0, 0, 0, 1, 1, 1, 1, 2, -1, 255, 256, 2**31, -(2**40)]
-# What waits expect: often what is there.
-EXPECTED = [0, 0, 0, 0, 0, 1, 1, -1]
-BOUNDS = [[], [], [0], [100], [-1]]
+# What waits expect, besides what is there at first.
+EXPECTED = [0, 1, -1]
+BOUNDS, COUNTS = [[], [0], [100], [-1]], [[], [1], [1], [2], [0], [-3]]
 TEXTS = ["no", "gave up", "", "caf\u00e9 \u2192"]
 WALKS, STEPS = 25, 14
 
@@ -42,9 +44,14 @@ class Writer:
         self.draw, self.only_calls = draw, only_calls
         self.blocks = draw.choice([[8], [8], [16], [8, 8], [8, 8], [4, 8], [8, 0], [8, 8, 1]])
         self.views = [self.view(n) for n in range(draw.randrange(1, 6))]
+        digits = ["00"] if only_calls or draw.random() < 0.5 else ["01", "ff"] + 10 * ["00"]
+        self.initial = ["".join(draw.choice(digits) for _ in range(length)) for length in self.blocks]
+        # Few elements on which most calls are, so that agents meet.
+        spots = [(view, index) for view in self.views[:2] for index in range(self.length(view))]
+        self.spots = draw.sample(spots, min(len(spots), draw.choice([1, 2, 2])))
         # How often a node is an ordinary access, and of what its calls are.
         self.ordinary = 0 if only_calls else draw.choice([0, 0.2, 0.5])
-        self.waiting, self.throwing = draw.choice([0.2, 0.5, 0.8]), draw.choice([0, 0, 0.1])
+        self.waiting, self.throwing = draw.choice([0.2, 0.6, 0.9]), draw.choice([0, 0, 0.1])
 
     def view(self, number):
         # The first views can be waited on.
@@ -54,24 +61,28 @@ class Writer:
         if not fitting or (number == 0 and self.blocks[block] < size):
             kind, size, block = "Int32", 4, 0
         room = self.blocks[block] // size
-        offset = self.draw.choice([0, 0, 0, room]) if number else 0
+        offset = self.draw.choice(10 * [0] + [room]) if number else 0
         length = self.draw.choice([None, None, room - offset])
         return {"name": f"v{number}", "kind": kind, "block": block, "offset": offset * size, "length": length}
 
     def file(self):
         draw = self.draw
-        automata = [{"name": f"a{n}", "nodes": self.nodes()} for n in range(draw.randrange(1, 4))]
-        names = [draw.choice(automata)["name"] for _ in range(draw.choice([1, 2, 3, 3, 3, 4, 4]))]
+        automata = [{"name": f"a{n}", "nodes": self.nodes(n)} for n in range(draw.choice([1, 2, 2, 2, 3]))]
+        # Mostly each automaton has an agent.
+        names = [it["name"] for it in automata] + [draw.choice(automata)["name"] for _ in range(draw.randrange(3))]
+        names = names[draw.random() < 0.1 :]
         agents = [{"automaton": name, "block": draw.random() > self.throwing} for name in names]
         file = {"blocks": self.blocks, "views": self.views, "automata": automata, "agents": agents}
-        if not self.only_calls and draw.random() < 0.5:
-            file["initial"] = ["".join(draw.choice(["00", "00", "01", "ff"]) for _ in range(n)) for n in self.blocks]
+        if not self.only_calls and set("".join(self.initial)) - {"0"}:
+            file["initial"] = self.initial
         return file
 
-    def nodes(self):
-        """Returns the nodes of an automaton; the last ones are ends."""
+    def nodes(self, number):
+        """Returns the nodes of an automaton; the last ones are ends. The second one often begins with a notify."""
         nodes = []
-        for _ in range(self.draw.randrange(1, 6)):
+        if number == 1 and self.draw.random() < 0.6:
+            nodes.append({"call": self.notify(*self.spot()), "edges": []})
+        for _ in range(self.draw.randrange(2, 6)):
             nodes.append(self.access() if self.draw.random() < self.ordinary else {"call": self.call(), "edges": []})
         nodes.append({"finished": True})
         if self.draw.random() < 0.3:
@@ -99,21 +110,43 @@ class Writer:
         return str(value) if is_big else value
 
     def call(self):
+        """Returns a call, as a script spells it."""
         if self.draw.random() < self.waiting:
-            # Most calls on waiters are on few places, so that agents meet.
-            view = self.draw.choice(self.views[:2]) if self.draw.random() < 0.9 else self.draw.choice(self.views)
-            index = self.index()
-            if self.draw.random() < 0.4:
-                return ["notify", view["name"], index] + self.draw.choice([[], [], [1], [2], [0], [-3]])
-            return ["wait", view["name"], index, self.operand(view, EXPECTED)] + self.draw.choice(BOUNDS)
-        view, function = self.draw.choice(self.views), self.draw.choice(ACCESSES)
-        count = {"load": 0, "compareExchange": 2}.get(function, 1)
-        return [function, view["name"], self.index(), *(self.operand(view) for _ in range(count))]
+            view, index = self.spot() if self.draw.random() < 0.9 else self.element()
+            if self.draw.random() < 0.35:
+                return self.notify(view, index)
+            expected = self.operand(view, [self.at_first(view, index)] * 4 + EXPECTED)
+            return ["wait", view["name"], index, expected] + self.draw.choice(BOUNDS)
+        view, index = self.spot() if self.draw.random() < 0.5 else self.element()
+        function = self.draw.choice(ACCESSES)
+        operands = {"load": 0, "compareExchange": 2}.get(function, 1)
+        return [function, view["name"], index, *(self.operand(view) for _ in range(operands))]
 
-    def index(self):
+    def at_first(self, view, index):
+        """Returns the element there before the first act, as a signed number; 0 if there is none."""
+        size = SIZES[view["kind"]]
+        start = view["offset"] + index * size
+        there = bytes.fromhex(self.initial[view["block"]])[start : start + size] if index >= 0 else b""
+        return int.from_bytes(there, "little", signed=True)
+
+    def notify(self, view, index):
+        return ["notify", view["name"], index] + self.draw.choice(COUNTS)
+
+    def length(self, view):
+        room = self.blocks[view["block"]] - view["offset"]
+        return room // SIZES[view["kind"]] if view["length"] is None else view["length"]
+
+    def spot(self):
+        return self.draw.choice(self.spots)
+
+    def element(self):
+        view = self.draw.choice(self.views)
+        return view, self.index(view)
+
+    def index(self, view):
         if self.draw.random() < self.throwing:
-            return self.draw.choice([-1, 16, 2**40])
-        return self.draw.choice([0, 0, 0, 1])
+            return self.draw.choice([-1, self.length(view), 2**40])
+        return self.draw.randrange(max(self.length(view), 1))
 
 
 def is_segment(node):

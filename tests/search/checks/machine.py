@@ -213,6 +213,9 @@ class Machine:
     def is_final(self):
         return all("finished" in agent.node for agent in self.agents)
 
+    def is_ended(self):
+        return bool(self.thrown()) or self.is_final()
+
     def touched(self, agent):
         """Returns an agent's open accesses: name, block, first byte, the byte after the last, writes, is atomic."""
         found = []

@@ -1,7 +1,7 @@
 """The result of a search, as data for JSON."""
 from .kinds import conflicts, is_deadlock, is_final, unknown, without_way_out
 from .search import search
-from .states import texts_thrown
+from .states import State, texts_thrown
 
 MOST_CONFLICTS, MOST_FINAL = 100, 1_000
 
@@ -76,7 +76,7 @@ def result_of(automata, choice="early", limit=1_000_000, with_states=False):
         "limit": limit,
         "closed": it.is_closed,
         "states": len(found),
-        "acts": sum(len(acts_of[row.state]) - len([a for a in acts_of[row.state] if a.to in unknown([a])]) for row in taken),
+        "acts": sum(isinstance(act.to, State) for row in taken for act in acts_of[row.state]),
         "expanded": it.expanded,
         "depth": it.depth,
         "deadlock": one_kind([n for n, s in within if is_deadlock(automata, s, acts_of[s])], found),
