@@ -49,6 +49,8 @@ class Writer:
         # Few elements on which most calls are, so that agents meet.
         spots = [(view, index) for view in self.views[:2] for index in range(self.length(view))]
         self.spots = draw.sample(spots, min(len(spots), draw.choice([1, 2, 2])))
+        # Whether the first automaton begins with a wait, and the second one with a notify there.
+        self.meets = draw.random() < 0.6
         # How often a node is an ordinary access, and of what its calls are.
         self.ordinary = 0 if only_calls else draw.choice([0, 0.2, 0.5])
         self.waiting, self.throwing = draw.choice([0.2, 0.6, 0.9]), draw.choice([0, 0, 0.1])
@@ -67,10 +69,12 @@ class Writer:
 
     def file(self):
         draw = self.draw
-        automata = [{"name": f"a{n}", "nodes": self.nodes(n)} for n in range(draw.choice([1, 2, 2, 2, 3]))]
+        count = draw.choice([2, 2, 3] if self.meets else [1, 2])
+        automata = [{"name": f"a{n}", "nodes": self.nodes(n)} for n in range(count)]
         # Mostly each automaton has an agent.
         names = [it["name"] for it in automata] + [draw.choice(automata)["name"] for _ in range(draw.randrange(3))]
-        names = names[draw.random() < 0.1 :]
+        if not self.meets:
+            names = names[draw.randrange(2) :]
         agents = [{"automaton": name, "block": draw.random() > self.throwing} for name in names]
         file = {"blocks": self.blocks, "views": self.views, "automata": automata, "agents": agents}
         if not self.only_calls and set("".join(self.initial)) - {"0"}:
@@ -78,10 +82,13 @@ class Writer:
         return file
 
     def nodes(self, number):
-        """Returns the nodes of an automaton; the last ones are ends. The second one often begins with a notify."""
+        """Returns the nodes of an automaton; the last ones are ends."""
         nodes = []
-        if number == 1 and self.draw.random() < 0.6:
-            nodes.append({"call": self.notify(*self.spot()), "edges": []})
+        if self.meets:
+            view, index = self.spots[-1 if number == 2 else 0]
+            first = self.at_first(view, index)
+            call = self.notify(view, index) if number == 1 else self.wait(view, index, [first])
+            nodes.append({"call": call, "edges": []})
         for _ in range(self.draw.randrange(2, 6)):
             nodes.append(self.access() if self.draw.random() < self.ordinary else {"call": self.call(), "edges": []})
         nodes.append({"finished": True})
@@ -115,8 +122,7 @@ class Writer:
             view, index = self.spot() if self.draw.random() < 0.9 else self.element()
             if self.draw.random() < 0.35:
                 return self.notify(view, index)
-            expected = self.operand(view, [self.at_first(view, index)] * 4 + EXPECTED)
-            return ["wait", view["name"], index, expected] + self.draw.choice(BOUNDS)
+            return self.wait(view, index, [self.at_first(view, index)] * 4 + EXPECTED)
         view, index = self.spot() if self.draw.random() < 0.5 else self.element()
         function = self.draw.choice(ACCESSES)
         operands = {"load": 0, "compareExchange": 2}.get(function, 1)
@@ -128,6 +134,9 @@ class Writer:
         start = view["offset"] + index * size
         there = bytes.fromhex(self.initial[view["block"]])[start : start + size] if index >= 0 else b""
         return int.from_bytes(there, "little", signed=True)
+
+    def wait(self, view, index, values):
+        return ["wait", view["name"], index, self.operand(view, values)] + self.draw.choice(BOUNDS)
 
     def notify(self, view, index):
         return ["notify", view["name"], index] + self.draw.choice(COUNTS)
