@@ -3,3 +3,4 @@ pub mod WholeNumbers
 pub mod ElementBytes
 pub mod Combining
 pub mod Equality
+pub mod Lengths

@@ -1,6 +1,6 @@
 //! The block: bytes in which elements are read and written.
 
-ghost use Rattle.std.specs.Prelude.{◌≡◌, ◌+◌, ◌*◌, ◌^◌, ◌<◌, ◌≤◌, ◌↔◌, [], length, replicate, Err, IsTrue, IsOk, IfOk, OnErr, MatchOption};
+ghost use Rattle.std.specs.Prelude.{◌≡◌, ◌+◌, ◌*◌, ◌^◌, ◌<◌, ◌≤◌, ◌++◌, ◌↔◌, [], length, take, drop, replicate, Err, IsTrue, IsOk, IfOk, OnErr, MatchOption};
 ghost use Rattle.sab_block.specs.Block.{number, put, IsElementSize};
 ghost use Rattle.sab_block.specs.View.{block_len_of};
 ghost use Rattle.sab_block.specs.Access.{access_verdict, Acts};
@@ -91,6 +91,15 @@ impl Block {
         write_at(&mut self.bytes, place as usize, size, raw);
     }
 
+    /// Writes these bytes from the byte `place` on, and no other byte.
+    pub fn set_bytes(&mut self, place: usize, bytes: &[u8])
+        requires { place + length bytes.now ≤ length self.old }
+        ensures bytes { self.new ≡ take place self.old ++ bytes.now ++ drop (place + length bytes.now) self.old }
+        ensures len { length self.new ≡ length self.old }
+    {
+        set_at(&mut self.bytes, place, bytes);
+    }
+
     /// Makes one access through a view of this block, as a whole, and returns its value.
     ///
     /// The checks come in this order: the view's kind is one that the functions of `Atomics` take, else TypeError
@@ -165,4 +174,13 @@ fn write_at(bytes: &mut [u8], place: usize, size: u32, raw: u64)
         4 => LittleEndian::write_u32(element, raw as u32),
         _ => LittleEndian::write_u64(element, raw),
     }
+}
+
+/// Writes bytes from a byte on.
+fn set_at(block: &mut [u8], place: usize, bytes: &[u8])
+    requires { place + length bytes.now ≤ length block.old }
+    ensures bytes { block.new ≡ take place block.old ++ bytes.now ++ drop (place + length bytes.now) block.old }
+    ensures len { length block.new ≡ length block.old }
+{
+    block[place..place + bytes.len()].copy_from_slice(bytes);
 }

@@ -97,7 +97,7 @@ pub fn to_raw(kind: Kind, v: Operand) -> Result<u64, Thrown>
     ensures value { MatchBool (agrees kind v) (result ≡ Ok (raw kind (whole_of v))) (result ≡ Err TypeError) }
     ensures fits { IfOk result (λ r. r < raw_count kind) }
 {
-    if v.big != kind.is_big() {
+    if !agrees(kind, v) {
         return Err(Thrown::TypeError);
     }
     Ok(wrapped(kind, v.whole()))

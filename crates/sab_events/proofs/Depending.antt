@@ -26,7 +26,8 @@ use Rattle.sab_plan.specs.declared.answer.Answer.TheVariants as A
 use Rattle.sab_plan.specs.declared.entry.What.{What}
 use Rattle.sab_plan.specs.declared.entry.What.TheVariants.{Acted, Enlisted, Left}
 use Rattle.sab_plan.specs.declared.entry.Entry.{Entry}
-use Rattle.sab_sim.specs.Object.{State, Waiter, bytes_of, element_at, is_at, waiters, without_first, woken_count, woken, joined, departed, taken_off, DoesCall, Does}
+use Rattle.sab_plan.specs.declared.waiter.Waiter.{Waiter}
+use Rattle.sab_object.specs.Object.{State, bytes_of, element_at, is_at, waiters, without_first, woken_count, woken, joined, departed, taken_off, DoesCall, Does}
 use Rattle.sab_judge.specs.Event.{some_is}
 use Rattle.sab_judge.specs.Access.{covers}
 use Rattle.sab_judge.specs.declared.access.Access as Accesses
@@ -34,7 +35,8 @@ use Rattle.sab_events.specs.declared.target.Target.{Target}
 use Rattle.sab_events.specs.Events.{target_of, access_of, access_by}
 use Rattle.sab_events.specs.Reading.{byte_in}
 use Rattle.sab_events.specs.Dependence.{DependsOnWhatItReads}
-use Rattle.sab_events.proofs.WrittenBytes.{place-inside, is_inside, put-inside}
+use Rattle.sab_block.proofs.Lengths.{place-inside}
+use Rattle.sab_events.proofs.WrittenBytes.{is_inside, put-inside}
 use Rattle.sab_events.proofs.Runs.{HasBlock, has_block, target_at, writes_at, target_is, covers-access}
 
 -- ---- bytes

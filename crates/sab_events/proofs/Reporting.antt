@@ -29,7 +29,7 @@ use Rattle.sab_plan.specs.declared.answer.Answer.TheVariants as A
 use Rattle.sab_plan.specs.declared.entry.What.{What}
 use Rattle.sab_plan.specs.declared.entry.What.TheVariants.{Began, Acted, Enlisted, Left, Returned, Stuck}
 use Rattle.sab_plan.specs.declared.entry.Entry.{Entry}
-use Rattle.sab_sim.specs.Object.{State, bytes_of, opening, DoesCall}
+use Rattle.sab_object.specs.Object.{State, bytes_of, opening, DoesCall}
 use Rattle.sab_sim.specs.Run.{Run, Reaches}
 use Rattle.sab_judge.specs.declared.event.Event.{Event}
 use Rattle.sab_judge.specs.declared.order.Order.TheVariants.{SeqCst}
@@ -39,7 +39,8 @@ use Rattle.sab_judge.specs.Event.{idle_event}
 use Rattle.sab_events.specs.declared.target.Target.{Target}
 use Rattle.sab_events.specs.Events.{target_of, access_of, access_by, enters, waiters_by}
 use Rattle.sab_events.specs.Acting.{IsOfElement, reads_element, WritesElement, is_in_section, Reports, ReportsItsCall, IsOfItsAgent}
-use Rattle.sab_events.proofs.WrittenBytes.{atomic-kind, put-before, put-inside, put-after, place-inside, is_inside, raw-value, fits-value}
+use Rattle.sab_block.proofs.Lengths.{place-inside}
+use Rattle.sab_events.proofs.WrittenBytes.{atomic-kind, put-before, put-inside, put-after, is_inside, raw-value, fits-value}
 use Rattle.sab_events.proofs.Runs.{AreOf, HasBlock, has_block, target_at, writes_at, Does-leaves, zeros_are, zeros_in}
 use Rattle.sab_events.proofs.Depending.{of_element, inside, inside-from, inside-below, reads_at, place_parts, target_place, some-one}
 

@@ -24,10 +24,10 @@ use Rattle.sab_plan.specs.declared.entry.What.{What}
 use Rattle.sab_plan.specs.declared.entry.What.TheVariants.{Acted, Enlisted, Left}
 use Rattle.sab_plan.specs.declared.entry.Entry.{Entry}
 use Rattle.sab_plan.specs.Entry.{is_act}
-use Rattle.sab_sim.specs.Object.{State, bytes_of, zero_blocks, opening, DoesCall, Does}
+use Rattle.sab_object.specs.Object.{State, bytes_of, zero_blocks, opening, DoesCall, Does}
 use Rattle.sab_plan.specs.Journal.{acts_of}
 use Rattle.sab_sim.specs.Run.{Run, Reaches}
-use Rattle.sab_sim.proofs.OnlyAct.{Run-append}
+use Rattle.sab_sim.proofs.OnlyRun.{Run-append}
 use Rattle.sab_sim.proofs.PlaceLine.{Reaches-one}
 use Rattle.sab_judge.specs.declared.event.Event.{Event}
 use Rattle.sab_judge.specs.Event.{event_at, writes_byte, idle_event, some_is}
@@ -36,7 +36,8 @@ use Rattle.sab_judge.specs.declared.access.Access as Accesses
 use Rattle.sab_events.specs.declared.target.Target.{Target}
 use Rattle.sab_events.specs.Events.{target_of, access_of, access_by, event_of, events_of}
 use Rattle.sab_events.specs.Reading.{ChangesWhatItWrites, ReadsWhatWasLeft, ReadsZeros}
-use Rattle.sab_events.proofs.WrittenBytes.{ActsAt-outside, ActsAt-length, atomic-kind, place-inside, is_inside}
+use Rattle.sab_block.proofs.Lengths.{ActsAt-length, place-inside}
+use Rattle.sab_events.proofs.WrittenBytes.{ActsAt-outside, atomic-kind, is_inside}
 
 -- ---- one act
 

@@ -1,14 +1,11 @@
 -- The bytes that an access leaves.
-use Rattle.std.proofs.Common.{◌≡◌, Some, None, Option, ◌∷◌, map, refl, ◌⊎◌, inl, inr, ℕ, ◌+◌, ◌-◌, ◌*◌, ◌^◌, ◌<◌, ◌≤◌, Bool, true, false, ◌&&◌, nat_le, nat_lt, ℤ, pos, negsuc, ◌+ℤ◌, ◌-ℤ◌, List, ◌++◌, length, take, drop, slice_index, cond, ap, sym, ◌∙◌, arith, rules, length-append, length-drop, eq-eqb}
+use Rattle.std.proofs.Common.{◌≡◌, Some, None, Option, ◌∷◌, map, refl, ◌⊎◌, inl, inr, ℕ, ◌+◌, ◌-◌, ◌*◌, ◌^◌, ◌<◌, ◌≤◌, Bool, true, false, ◌&&◌, nat_le, nat_lt, ℤ, pos, ◌+ℤ◌, ◌-ℤ◌, List, ◌++◌, length, take, drop, slice_index, cond, ap, sym, ◌∙◌, arith, rules, eq-eqb}
 use Rattle.std.proofs.lemmas.Bool.{cases_eq}
-use Rattle.std.proofs.lemmas.Option.{cond_some}
-use borrow.Author.Tests.{ltb-true}
 use Rattle.std.proofs.lemmas.Bool.Decides.{nat_tests}
 use Rattle.std.proofs.lemmas.Int.{ints}
-use Rattle.std.proofs.Math.Nat.{mod-eq_of_lt, mul-le-mul_right, pow-le-pow_right}
+use Rattle.std.proofs.Math.Nat.{mod-eq_of_lt, pow-le-pow_right}
 use Rattle.std.proofs.Math.ListN.{get_or-append}
-use Rattle.std.proofs.lemmas.List.{length-map, length-take, get_or-take, get_or-append_right, get_or-drop}
-use Rattle.std.proofs.lemmas.List.FromFn.{length-range_with_len}
+use Rattle.std.proofs.lemmas.List.{length-take, get_or-take, get_or-append_right, get_or-drop}
 use Rattle.std.specs.Int.{w128}
 use Rattle.std.specs.Prelude.{FitsSigned, ◌==◌, option_map}
 use Rattle.sab_block.specs.declared.kind.Kind.{Kind}
@@ -19,34 +16,18 @@ use Rattle.sab_block.specs.declared.view.View.{View}
 use Rattle.sab_block.specs.Block.{digits, put}
 use Rattle.sab_block.specs.Kind.{element_size, is_atomic, is_signed, is_big, raw_count}
 use Rattle.sab_block.specs.Operand.{raw, value, modulo, whole_of, operand}
-use Rattle.sab_block.specs.View.{kind_of, block_len_of, offset_of, len_of, place}
+use Rattle.sab_block.specs.View.{kind_of}
 use Rattle.sab_block.specs.declared.check.Check.{Check}
 use Rattle.sab_block.specs.declared.check.Check.TheVariants as K
 use Rattle.sab_block.specs.Check.{thrown_by, first_failed}
 use Rattle.sab_block.specs.Access.{ActsAt, access_verdict, element, index_check, index_of, operand_check, operands_of, raw_of}
 use Rattle.sab_block.proofs.RawElements.{modulo-pow, raw-lt, element_bits}
 use Rattle.sab_block.proofs.WholeNumbers.{kept}
+use Rattle.sab_block.proofs.Lengths.{length-front}
 use Rattle.sab_events.specs.declared.target.Target.{Target}
 use Rattle.sab_events.specs.Events.{access_of}
 
--- up to the end of the element
-pub length-front : (mem : List ℕ) (p size r : ℕ) → p + size ≤ length mem
-    → length (take p mem ++ digits size r) ≡ p + size
-unfolding digits
-length-front mem p size r h = simp (length-append, length-map, length-range_with_len, length-take) (omega arith)
-
--- the bytes that a write leaves are as many
-pub length-put : (mem : List ℕ) (p size r : ℕ) → p + size ≤ length mem → length (put mem p size r) ≡ length mem
-unfolding put
-length-put mem p size r h =
-    omega (
-      arith,
-      length-append (take p mem ++ digits size r) (drop (p + size) mem),
-      length-front mem p size r h,
-      length-drop (p + size) mem,
-    )
-
--- and those before and after the element are as they were
+-- a write leaves the bytes before and after the element as they were
 pub put-before : (mem : List ℕ) (p size r byte : ℕ) → p + size ≤ length mem → byte < p
     → slice_index (put mem p size r) byte ≡ slice_index mem byte
 unfolding put
@@ -72,17 +53,6 @@ put-inside mem p size r byte h from below =
     get_or-append (take p mem ++ digits size r) (drop (p + size) mem) 0 byte
     (omega (arith, length-front mem p size r h))
     ∙ get_or-append_right (take p mem) (digits size r) p byte 0 (omega (arith, length-take p mem)) from
-
--- a place of a view is inside its block
-pub place-inside : (view : View) (index : ℤ) (p : ℕ) → place view index ≡ Some p
-    → p + element_size (kind_of view) ≤ block_len_of view
-place-inside view (pos i) p e =
-    let is = cond_some (nat_lt i (len_of view)) (offset_of view + i * element_size (kind_of view)) p e in
-    let within : i + 1 ≤ len_of view = omega (arith, ltb-true i (len_of view) is.0) in
-    let whole : offset_of view + len_of view * element_size (kind_of view) ≤ block_len_of view = view.inside in
-    let most = mul-le-mul_right (element_size (kind_of view)) within in
-    omega (arith, is.1, most, whole)
-place-inside view (negsuc i) p e = absurd (cc)
 
 -- a raw element is read as a value that is written as it
 raw-unsigned : (n r : ℕ) → r < 2 ^ n → modulo (pos r) (2 ^ n) ≡ r
@@ -179,18 +149,4 @@ ActsAt-outside t (X.CompareExchange index y z) p mem x mem' byte atomic h acts e
           ∙ put-outside mem p (element_size (kind_of t.view)) _ byte h
           (sym (ap (λ b. b && is_inside p (element_size (kind_of t.view)) byte) writes) ∙ e)
       | inr other ↦ ap (λ bytes. slice_index bytes byte) (acts.2 other)
-    ]
-
--- and as many
-pub ActsAt-length : (view : View) (access : Access) (p : ℕ) (mem : List ℕ) (x : Operand) (mem' : List ℕ)
-    → p + element_size (kind_of view) ≤ length mem → ActsAt view access p mem x mem' → length mem' ≡ length mem
-ActsAt-length view (X.Load index) p mem x mem' h acts = ap length acts.1
-ActsAt-length view (X.Store index y) p mem x mem' h acts =
-    ap length acts.1 ∙ length-put mem p (element_size (kind_of view)) _ h
-ActsAt-length view (X.Rmw op index y) p mem x mem' h acts =
-    ap length acts.1 ∙ length-put mem p (element_size (kind_of view)) _ h
-ActsAt-length view (X.CompareExchange index y z) p mem x mem' h acts =
-    elim (cases_eq (element view mem p) (raw_of view y)) [
-      | inl same ↦ ap length (acts.1 same) ∙ length-put mem p (element_size (kind_of view)) _ h
-      | inr other ↦ ap length (acts.2 other)
     ]

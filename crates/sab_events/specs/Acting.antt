@@ -16,7 +16,7 @@ use Rattle.sab_plan.specs.Call.{index_of}
 use Rattle.sab_plan.specs.Entry.{is_act}
 use Rattle.sab_plan.specs.Place.{place_of}
 use Rattle.sab_plan.specs.Plan.{PlanParts}
-use Rattle.sab_sim.specs.Object.{State, element_at, Does}
+use Rattle.sab_object.specs.Object.{State, element_at, Does}
 use Rattle.sab_sim.specs.Run.{Reaches}
 use Rattle.sab_judge.specs.declared.access.Access.{Access}
 use Rattle.sab_judge.specs.declared.event.Event.{Event}

@@ -2,7 +2,7 @@
 use Rattle.std.specs.Prelude.{◌≡◌, ℕ, Bool, IsTrue, map, length}
 use Rattle.sab_plan.specs.Plan.{PlanParts}
 use Rattle.sab_plan.specs.declared.entry.Entry.{Entry}
-use Rattle.sab_sim.specs.Object.{State, Does}
+use Rattle.sab_object.specs.Object.{State, Does}
 use Rattle.sab_judge.specs.Event.{writes_byte, reads_byte}
 use Rattle.sab_events.specs.Events.{event_of}
 use Rattle.sab_events.specs.Reading.{byte_in}

@@ -2,7 +2,7 @@
 use Rattle.std.specs.Prelude.{◌≡◌, ℕ, suc, ◌<◌, false, List, map, length, take, slice_index}
 use Rattle.sab_plan.specs.Plan.{PlanParts}
 use Rattle.sab_plan.specs.declared.entry.Entry.{Entry}
-use Rattle.sab_sim.specs.Object.{State, bytes_of, Does}
+use Rattle.sab_object.specs.Object.{State, bytes_of, Does}
 use Rattle.sab_sim.specs.Run.{Reaches}
 use Rattle.sab_judge.specs.Event.{event_at, writes_byte}
 use Rattle.sab_judge.specs.HappensBefore.{ReadsByteFrom}

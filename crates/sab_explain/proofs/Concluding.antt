@@ -32,7 +32,8 @@ use Rattle.sab_plan.specs.Call.{view_of, index_of}
 use Rattle.sab_plan.specs.Check.{checks, verdict}
 use Rattle.sab_plan.specs.Place.{place_of}
 use Rattle.sab_plan.specs.Plan.{PlanParts, call_of}
-use Rattle.sab_sim.specs.Object.{State, Waiter, bytes_of, element_at, is_at, waiters, stands, DoesCall, Does}
+use Rattle.sab_plan.specs.declared.waiter.Waiter.{Waiter}
+use Rattle.sab_object.specs.Object.{State, bytes_of, element_at, is_at, waiters, stands, DoesCall, Does}
 use Rattle.sab_plan.specs.Journal.{returned_of, Answers}
 use Rattle.sab_sim.specs.Run.{Reaches, Justifies}
 use Rattle.sab_sim.specs.Agent.{WaitsOn}
@@ -40,7 +41,7 @@ use Rattle.sab_sim.specs.Fits.{FitsMoves}
 use Rattle.sab_sim.specs.Shown.{AtEnd}
 use Rattle.sab_sim.specs.States.{IsOfWaits}
 use Rattle.sab_sim.specs.Sim.{SimParts}
-use Rattle.sab_sim.proofs.OnlyAct.{one_value}
+use Rattle.sab_object.proofs.OnlyAct.{one_value}
 use Rattle.sab_sim.proofs.PlaceLine.{Reaches-one}
 use Rattle.sab_plan.specs.declared.fact.Found.{Found}
 use Rattle.sab_plan.specs.declared.fact.Found.TheVariants as F

@@ -8,10 +8,10 @@ use Rattle.std.proofs.Math.Seq.{take-append_seam}
 use Rattle.sab_plan.specs.declared.entry.Entry.{Entry}
 use Rattle.sab_plan.specs.Entry.{is_act}
 use Rattle.sab_plan.specs.Plan.{PlanParts}
-use Rattle.sab_sim.specs.Object.{State, opening, Does}
+use Rattle.sab_object.specs.Object.{State, opening, Does}
 use Rattle.sab_plan.specs.Journal.{acts_of}
 use Rattle.sab_sim.specs.Run.{Run, Reaches}
-use Rattle.sab_sim.proofs.OnlyAct.{Run-append}
+use Rattle.sab_sim.proofs.OnlyRun.{Run-append}
 use Rattle.sab_sim.proofs.PlaceLine.{Reaches-one}
 use Rattle.sab_explain.specs.Fact.{IsWaker}
 use Rattle.sab_explain.specs.Explainer.{AreWakers}

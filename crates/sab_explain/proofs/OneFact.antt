@@ -19,9 +19,9 @@ use Rattle.sab_plan.specs.Call.{view_of, index_of}
 use Rattle.sab_plan.specs.Check.{checks}
 use Rattle.sab_plan.specs.Place.{place_of}
 use Rattle.sab_plan.specs.Plan.{PlanParts, call_of}
-use Rattle.sab_sim.specs.Object.{State, waiters, Does}
+use Rattle.sab_object.specs.Object.{State, waiters, Does}
 use Rattle.sab_sim.specs.Run.{Reaches}
-use Rattle.sab_sim.proofs.OnlyAct.{one_value}
+use Rattle.sab_object.proofs.OnlyAct.{one_value}
 use Rattle.sab_sim.proofs.PlaceLine.{Reaches-one}
 use Rattle.sab_sim.proofs.Fronts.{Reaches-front}
 use Rattle.sab_block.specs.declared.check.Check.{Check}

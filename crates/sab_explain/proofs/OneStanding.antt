@@ -5,10 +5,10 @@ use Rattle.sab_plan.specs.declared.place.Place.{Place}
 use Rattle.sab_plan.specs.declared.call.Call.{Call}
 use Rattle.sab_plan.specs.declared.entry.Entry.{Entry}
 use Rattle.sab_plan.specs.Plan.{PlanParts, call_of}
-use Rattle.sab_sim.specs.Object.{State, stands}
+use Rattle.sab_object.specs.Object.{State, stands}
 use Rattle.sab_plan.specs.Journal.{returned_of}
 use Rattle.sab_sim.specs.Run.{Reaches}
-use Rattle.sab_sim.proofs.OnlyAct.{one_value}
+use Rattle.sab_object.proofs.OnlyAct.{one_value}
 use Rattle.sab_sim.proofs.PlaceLine.{Reaches-one}
 use Rattle.sab_plan.specs.declared.standing.Standing.{Standing}
 use Rattle.sab_plan.specs.declared.standing.At.{At}

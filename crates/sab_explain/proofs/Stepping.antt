@@ -8,7 +8,7 @@ use Rattle.sab_plan.specs.declared.entry.Entry.{Entry}
 use Rattle.sab_plan.specs.declared.schedule.Move.{Move}
 use Rattle.sab_plan.specs.Schedule.{agent_of}
 use Rattle.sab_plan.specs.Entry.{is_stuck}
-use Rattle.sab_sim.specs.Object.{State}
+use Rattle.sab_object.specs.Object.{State}
 use Rattle.sab_sim.specs.Fits.{FitsMoves}
 use Rattle.sab_sim.specs.Shown.{AtEnd}
 use Rattle.sab_sim.specs.States.{IsOfWaits}

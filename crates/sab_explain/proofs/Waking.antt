@@ -16,8 +16,8 @@ use Rattle.sab_plan.specs.Entry.{is_act}
 use Rattle.sab_plan.specs.Call.{index_of}
 use Rattle.sab_plan.specs.Place.{place_of}
 use Rattle.sab_plan.specs.Plan.{PlanParts, call_of}
-use Rattle.sab_sim.specs.Object.{State, waiters, Does}
-use Rattle.sab_sim.proofs.OnlyAct.{one_value}
+use Rattle.sab_object.specs.Object.{State, waiters, Does}
+use Rattle.sab_object.proofs.OnlyAct.{one_value}
 use Rattle.sab_block.specs.declared.check.Check.{Check}
 use Rattle.sab_plan.specs.declared.fact.Fact.{Fact}
 use Rattle.sab_explain.specs.declared.sight.Sight.{Sight}

@@ -19,7 +19,7 @@ use Rattle.sab_plan.specs.Place.{place_of}
 use Rattle.sab_plan.specs.Script.{ScriptParts}
 use Rattle.sab_plan.specs.Plan.{PlanParts, call_of}
 use Rattle.sab_plan.specs.Check.{checks}
-use Rattle.sab_sim.specs.Object.{bytes_of, waiters}
+use Rattle.sab_object.specs.Object.{bytes_of, waiters}
 use Rattle.sab_plan.specs.Journal.{returned_of}
 use Rattle.sab_sim.specs.Shown.{AtEnd}
 use Rattle.sab_sim.specs.Sim.{SimParts}

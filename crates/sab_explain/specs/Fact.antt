@@ -22,7 +22,7 @@ use Rattle.sab_plan.specs.Place.{place_of}
 use Rattle.sab_plan.specs.Plan.{PlanParts, call_of}
 use Rattle.sab_plan.specs.Check.{checks}
 use Rattle.sab_plan.specs.Fact.{woken_in}
-use Rattle.sab_sim.specs.Object.{State, bytes_of, element_at, waiters}
+use Rattle.sab_object.specs.Object.{State, bytes_of, element_at, waiters}
 use Rattle.sab_sim.specs.Run.{Reaches}
 use Rattle.sab_sim.specs.Shown.{AtEnd}
 use Rattle.sab_plan.specs.declared.fact.Found.{Found}

@@ -3,7 +3,7 @@
 ghost use Rattle.std.specs.Prelude.{◌≡◌, ◌+◌, ◌-◌, ◌^◌, ◌<◌, ◌≤◌, ◌++◌, ◌∷◌, [], length, min, Err, OnErr, OnOk, IfOk, IfSome, IfNone, IsOk, IsOkUnless, None};
 ghost use Rattle.sab_sim.specs.declared.sim_fault.SimFault.TheVariants.{NoAgent, Full, OutOfMemory};
 ghost use Rattle.sab_plan.specs.Schedule.{agent_of};
-ghost use Rattle.sab_sim.specs.Object.{zero_blocks};
+ghost use Rattle.sab_object.specs.Object.{zero_blocks};
 ghost use Rattle.sab_plan.specs.Plan.{call_of};
 ghost use Rattle.sab_plan.specs.Journal.{returned_of};
 ghost use Rattle.sab_sim.specs.Shown.{AtEnd};

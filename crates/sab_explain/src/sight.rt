@@ -6,7 +6,7 @@ ghost use Rattle.sab_block.specs.View.{kind_of, block_len_of};
 ghost use Rattle.sab_block.specs.Access.{element};
 ghost use Rattle.sab_plan.specs.Call.{view_of};
 ghost use Rattle.sab_plan.specs.Place.{place_of};
-ghost use Rattle.sab_sim.specs.Object.{bytes_of};
+ghost use Rattle.sab_object.specs.Object.{bytes_of};
 ghost use Rattle.sab_explain.specs.Explainer as explaining;
 ghost use Rattle.sab_explain.specs.Explainer.{IsReadable, IsInside, IsSight, IsBlind};
 

@@ -17,6 +17,7 @@ mod report;
 mod schedule;
 mod script;
 mod standing;
+mod waiter;
 mod waiters;
 
 pub use answer::Answer;
@@ -34,4 +35,5 @@ pub use report::Report;
 pub use schedule::Move;
 pub use script::Script;
 pub use standing::{At, Standing};
+pub use waiter::Waiter;
 pub use waiters::Waiters;

@@ -9,7 +9,7 @@ use Rattle.sab_plan.specs.declared.answer.Answer.TheVariants as A
 use Rattle.sab_plan.specs.declared.entry.What.{What}
 use Rattle.sab_plan.specs.declared.entry.What.TheVariants.{Acted, Enlisted, Left}
 use Rattle.sab_plan.specs.declared.entry.Entry.{Entry}
-use Rattle.sab_sim.specs.Object.{State, opening, DoesCall}
+use Rattle.sab_object.specs.Object.{State, opening, DoesCall}
 use Rattle.sab_plan.specs.Journal.{acts_of}
 use Rattle.sab_sim.specs.Run.{Run}
 use Rattle.sab_plan.specs.Report.{ReportParts}

@@ -26,7 +26,8 @@ use Rattle.sab_plan.specs.declared.entry.What.{What}
 use Rattle.sab_plan.specs.declared.entry.What.TheVariants.{Acted, Enlisted, Left}
 use Rattle.sab_plan.specs.declared.entry.Entry.{Entry}
 use Rattle.sab_plan.specs.Entry.{is_act}
-use Rattle.sab_sim.specs.Object.{State, Waiter, opening, bytes_of, is_at, waiters, without_first, DoesCall, Does}
+use Rattle.sab_plan.specs.declared.waiter.Waiter.{Waiter}
+use Rattle.sab_object.specs.Object.{State, opening, bytes_of, is_at, waiters, without_first, DoesCall, Does}
 use Rattle.sab_plan.specs.Journal.{acts_of}
 use Rattle.sab_sim.specs.Run.{Run, Reaches}
 use Rattle.sab_json.proofs.ShortElements.{IsByte}

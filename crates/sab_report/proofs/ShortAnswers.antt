@@ -19,7 +19,7 @@ use Rattle.sab_plan.specs.declared.entry.What.{What}
 use Rattle.sab_plan.specs.declared.entry.What.TheVariants.{Began, Acted, Enlisted, Left, Returned, Stuck}
 use Rattle.sab_plan.specs.declared.entry.Entry.{Entry}
 use Rattle.sab_plan.specs.Entry.{is_act, is_stuck}
-use Rattle.sab_sim.specs.Object.{State, bytes_of, opening, waiters, woken_count, DoesCall, Does}
+use Rattle.sab_object.specs.Object.{State, bytes_of, opening, waiters, woken_count, DoesCall, Does}
 use Rattle.sab_plan.specs.Journal.{acts_of, track, Course, AtOnce, InLine, course, IsTrack}
 use Rattle.sab_sim.specs.Run.{Run, Reaches}
 use Rattle.sab_json.specs.CallData.{operand_data}

@@ -24,7 +24,8 @@ use Rattle.sab_plan.specs.declared.entry.Why.TheVariants as Y
 use Rattle.sab_plan.specs.declared.entry.What.{What}
 use Rattle.sab_plan.specs.declared.entry.What.TheVariants.{Began, Acted, Enlisted, Left, Stuck}
 use Rattle.sab_plan.specs.declared.entry.Entry.{Entry}
-use Rattle.sab_sim.specs.Object.{State, Waiter, is_at, waiters, stands}
+use Rattle.sab_plan.specs.declared.waiter.Waiter.{Waiter}
+use Rattle.sab_object.specs.Object.{State, is_at, waiters, stands}
 use Rattle.sab_sim.specs.Run.{Reaches}
 use Rattle.sab_plan.specs.declared.fact.Found.{Found}
 use Rattle.sab_plan.specs.declared.fact.Found.TheVariants as F

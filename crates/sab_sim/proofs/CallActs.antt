@@ -20,11 +20,11 @@ use Rattle.sab_sim.specs.declared.agent.Phase.TheVariants as P
 use Rattle.sab_plan.specs.Call.{view_of}
 use Rattle.sab_plan.specs.Script.{ScriptParts}
 use Rattle.sab_plan.specs.Plan.{PlanParts, calls_of, call_of}
-use Rattle.sab_sim.specs.Object.{State, DoesCall, Does, bytes_of, joined, woken}
+use Rattle.sab_object.specs.Object.{State, DoesCall, Does, bytes_of, joined, woken}
 use Rattle.sab_sim.specs.Agent.{newcomer, agent_at, Advances, IsLike, IsAtCall}
 use Rattle.sab_sim.specs.Machine.{MachineParts, with_phase, enlisted, IsReady, IsBegun}
 use Rattle.sab_sim.specs.Line.{Wakes}
-use Rattle.sab_sim.specs.Finding.{AnswersAccess, FindsWait, FindsNotify}
+use Rattle.sab_object.specs.Finding.{AnswersAccess, FindsWait, FindsNotify}
 use Rattle.sab_sim.specs.Turn.{Turns, entry_of}
 use Rattle.sab_sim.proofs.ChangedLists.{slice_get-set, slice_get-set_other}
 use Rattle.sab_sim.proofs.SeatedLine.{some_one}

@@ -12,7 +12,8 @@ use Rattle.sab_sim.specs.declared.agent.Phase.{Phase}
 use Rattle.sab_sim.specs.declared.agent.Phase.TheVariants as P
 use Rattle.sab_plan.specs.Entry.{is_act}
 use Rattle.sab_plan.specs.Plan.{PlanParts, calls_of, call_of}
-use Rattle.sab_sim.specs.Object.{State, Waiter, opening, stands}
+use Rattle.sab_plan.specs.declared.waiter.Waiter.{Waiter}
+use Rattle.sab_object.specs.Object.{State, opening, stands}
 use Rattle.sab_plan.specs.Journal.{acts_of, returned_of}
 use Rattle.sab_sim.specs.Run.{Run, Reaches}
 use Rattle.sab_sim.specs.Agent.{is_woken, is_waiting, waiting_phase, woken_phase, IsAtCall}
@@ -21,7 +22,7 @@ use Rattle.sab_sim.specs.Machine.{MachineParts, IsSeated}
 use Rattle.sab_sim.specs.Kept.{Kept}
 use Rattle.sab_sim.specs.Shown.{AtEnd}
 use Rattle.sab_sim.specs.States.{HasStates, IsWaitAt, IsOfWaits}
-use Rattle.sab_sim.proofs.OnlyAct.{Run-append}
+use Rattle.sab_sim.proofs.OnlyRun.{Run-append}
 use Rattle.sab_sim.proofs.PlaceLine.{Reaches-one}
 
 -- a journal's front leads to a state too

@@ -16,7 +16,7 @@ use Rattle.sab_sim.specs.declared.agent.Phase.TheVariants as P
 use Rattle.sab_plan.specs.Schedule.{agent_of}
 use Rattle.sab_plan.specs.Script.{ScriptParts}
 use Rattle.sab_plan.specs.Plan.{PlanParts, IsPlan, calls_of}
-use Rattle.sab_sim.specs.Object.{opening}
+use Rattle.sab_object.specs.Object.{opening}
 use Rattle.sab_plan.specs.Journal.{Course, AtOnce, InLine, course, IsTrack, returned_of, answers_move}
 use Rattle.sab_sim.specs.Agent.{newcomer, agent_at, is_woken, is_waiting, IsPart, IsAtCall, IsWhere}
 use Rattle.sab_sim.specs.Machine.{MachineParts, opening_machine, IsReady}

@@ -6,7 +6,7 @@ pub mod CallActs
 mod Equality
 pub mod OneMoveMore
 pub mod KeptFits
-pub mod OnlyAct
+pub mod OnlyRun
 pub mod OnlyEntry
 pub mod OnlyReport
 pub mod PlaceLine

@@ -17,7 +17,8 @@ use Rattle.sab_sim.specs.declared.agent.Phase.TheVariants as P
 use Rattle.sab_plan.specs.Call.{view_of}
 use Rattle.sab_plan.specs.Place.{same_place}
 use Rattle.sab_plan.specs.Plan.{PlanParts, calls_of, call_of, is_timed}
-use Rattle.sab_sim.specs.Object.{State, Waiter, stands, is_at, joined, taken_off, departed, Does, DoesCall}
+use Rattle.sab_plan.specs.declared.waiter.Waiter.{Waiter}
+use Rattle.sab_object.specs.Object.{State, stands, is_at, joined, taken_off, departed, Does, DoesCall}
 use Rattle.sab_sim.specs.Agent.{agent_at, waiting_phase, woken_phase, WaitsOn, HasCall, IsAtCall, IsInLine}
 use Rattle.sab_sim.specs.Line.{WaitsAt}
 use Rattle.sab_sim.specs.Machine.{MachineParts, with_phase, enlisted, IsSeated, Represents}

@@ -17,7 +17,7 @@ use Rattle.sab_sim.specs.declared.agent.Phase.TheVariants as P
 use Rattle.sab_plan.specs.Schedule.{agent_of}
 use Rattle.sab_plan.specs.Entry.{is_act, is_stuck, is_return}
 use Rattle.sab_plan.specs.Plan.{PlanParts, calls_of}
-use Rattle.sab_sim.specs.Object.{State, opening, Does}
+use Rattle.sab_object.specs.Object.{State, opening, Does}
 use Rattle.sab_plan.specs.Journal.{Course, AtOnce, InLine, course, acts_of, track, returned_of, answers_move, EachAnswers, Answers, EachAfter}
 use Rattle.sab_sim.specs.Run.{Run, IsJustified, Reaches}
 use Rattle.sab_sim.specs.Agent.{IsPart, IsAtCall, IsWhere, Advances, IsLike, IsInLine}

@@ -22,13 +22,15 @@ use Rattle.sab_sim.specs.declared.agent.Phase.TheVariants as P
 use Rattle.sab_plan.specs.declared.place.Place.{Place}
 use Rattle.sab_plan.specs.Entry.{is_act, is_stuck}
 use Rattle.sab_plan.specs.Plan.{PlanParts, calls_of, call_of, is_timed}
-use Rattle.sab_sim.specs.Object.{State, Waiter, stands, DoesCall, Does}
+use Rattle.sab_plan.specs.declared.waiter.Waiter.{Waiter}
+use Rattle.sab_object.specs.Object.{State, stands, DoesCall, Does}
 use Rattle.sab_plan.specs.Journal.{Course, AtOnce, InLine, course, track, IsTrack, answers_move, WaitsForever}
 use Rattle.sab_sim.specs.Agent.{waiting_phase, IsPart, IsAtCall, IsWhere}
 use Rattle.sab_sim.specs.Machine.{MachineParts, Represents}
 use Rattle.sab_sim.specs.Turn.{Goes}
 use Rattle.sab_sim.proofs.OneMoveMore.{track-push, its_entry}
-use Rattle.sab_sim.proofs.OnlyAct.{IsOutcome, Does-one_outcome}
+use Rattle.sab_object.specs.Kept.{IsOutcome}
+use Rattle.sab_object.proofs.OnlyAct.{Does-one_outcome}
 
 -- what an agent may do next, where it has an effect
 abbrev pub MayFollow : Phase → What → Type 0

@@ -11,7 +11,7 @@ use Rattle.sab_plan.specs.declared.progress.Progress.{Progress}
 use Rattle.sab_plan.specs.Schedule.{agent_of}
 use Rattle.sab_plan.specs.Entry.{is_act, is_stuck}
 use Rattle.sab_plan.specs.Plan.{PlanParts, calls_of}
-use Rattle.sab_sim.specs.Object.{State, opening}
+use Rattle.sab_object.specs.Object.{State, opening}
 use Rattle.sab_plan.specs.Journal.{acts_of, track, IsTrack, returned_of, Answers}
 use Rattle.sab_sim.specs.Run.{Run, Reaches, Justifies}
 use Rattle.sab_sim.specs.Agent.{agent_at, IsWhere}
@@ -23,7 +23,7 @@ use Rattle.sab_sim.specs.Machine.{MachineParts}
 use Rattle.sab_sim.specs.Sim.{IsKept}
 use Rattle.sab_sim.proofs.OneMoveMore.{its_entry}
 use Rattle.sab_sim.proofs.KeptFits.{FitsMoves-kept, IsWhere-agent_at}
-use Rattle.sab_sim.proofs.OnlyAct.{Run-one, Run-append}
+use Rattle.sab_sim.proofs.OnlyRun.{Run-one, Run-append}
 use Rattle.sab_sim.proofs.OnlyEntry.{IsWhere-next, CanDo, CanDo-one}
 
 take-next : {X : Type 0} (xs : List X) (k : ℕ) (x : X) → slice_get xs k ≡ Some x → take (suc k) xs ≡ take k xs ++ x ∷ []

@@ -17,7 +17,8 @@ use Rattle.sab_plan.specs.declared.place.Place.{Place}
 use Rattle.sab_plan.specs.Call.{view_of}
 use Rattle.sab_plan.specs.Script.{ScriptParts}
 use Rattle.sab_plan.specs.Plan.{PlanParts, calls_in, calls_of, call_of}
-use Rattle.sab_sim.specs.Object.{State, Waiter, stands, Does, DoesCall}
+use Rattle.sab_plan.specs.declared.waiter.Waiter.{Waiter}
+use Rattle.sab_object.specs.Object.{State, stands, Does, DoesCall}
 use Rattle.sab_sim.specs.Run.{Justifies}
 use Rattle.sab_sim.specs.Agent.{woken_phase, waiting_phase, is_woken, is_waiting, newcomer, agent_at, HasCall, IsAtCall, Advances}
 use Rattle.sab_sim.specs.Line.{WaitsAt}

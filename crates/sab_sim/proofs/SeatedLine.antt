@@ -7,7 +7,7 @@ use Rattle.sab_plan.specs.declared.place.Place.{Place}
 use Rattle.sab_sim.specs.declared.agent.Agent.{Agent}
 use Rattle.sab_sim.specs.declared.agent.Phase.TheVariants as P
 use Rattle.sab_plan.specs.Place.{same_place}
-use Rattle.sab_sim.specs.Object.{Waiter}
+use Rattle.sab_plan.specs.declared.waiter.Waiter.{Waiter}
 use Rattle.sab_sim.specs.Agent.{waiting_phase}
 use Rattle.sab_sim.specs.Line.{WaitsAt}
 use Rattle.sab_sim.specs.Machine.{IsSeated}

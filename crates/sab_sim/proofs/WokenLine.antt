@@ -9,7 +9,8 @@ use Rattle.std.proofs.lemmas.Option.{slice_get-get_or}
 use Rattle.sab_plan.specs.declared.place.Place.{Place}
 use Rattle.sab_sim.specs.declared.agent.Agent.{Agent}
 use Rattle.sab_sim.specs.declared.agent.Phase.TheVariants as P
-use Rattle.sab_sim.specs.Object.{State, Waiter, is_at, waiters, without_first, woken, woken_count}
+use Rattle.sab_plan.specs.declared.waiter.Waiter.{Waiter}
+use Rattle.sab_object.specs.Object.{State, is_at, waiters, without_first, woken, woken_count}
 use Rattle.sab_sim.specs.Agent.{newcomer, agent_at, woken_agent, is_woken, is_waiting, IsLike}
 use Rattle.sab_sim.specs.Line.{WaitsAt, IsLineFrom, IsLine, is_among, woken_if, AreWoken, Wakes}
 use Rattle.sab_sim.specs.Machine.{MachineParts, IsSeated, Represents}

@@ -6,7 +6,7 @@ use Rattle.sab_sim.specs.declared.sim_fault.SimFault.{SimFault}
 use Rattle.sab_sim.specs.declared.sim_fault.SimFault.TheVariants.{NoAgent, Full, OutOfMemory}
 use Rattle.sab_plan.specs.Schedule.{agent_of}
 use Rattle.sab_plan.specs.Plan.{PlanParts, calls_of}
-use Rattle.sab_sim.specs.Object.{State}
+use Rattle.sab_object.specs.Object.{State}
 use Rattle.sab_plan.specs.Journal.{track, IsTrack, EachAnswers, EachAfter}
 use Rattle.sab_sim.specs.Run.{IsJustified, Reaches}
 use Rattle.sab_plan.specs.Report.{ReportParts, progress_from}

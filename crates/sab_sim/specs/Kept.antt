@@ -5,7 +5,7 @@ use Rattle.sab_plan.specs.declared.schedule.Move.{Move}
 use Rattle.sab_sim.specs.declared.agent.Agent.{Agent}
 use Rattle.sab_plan.specs.Schedule.{agent_of}
 use Rattle.sab_plan.specs.Plan.{PlanParts}
-use Rattle.sab_sim.specs.Object.{State}
+use Rattle.sab_object.specs.Object.{State}
 use Rattle.sab_plan.specs.Journal.{EachAnswers, EachAfter}
 use Rattle.sab_sim.specs.Run.{IsJustified, Reaches}
 use Rattle.sab_sim.specs.Agent.{IsWhere}

@@ -1,10 +1,8 @@
-pub mod Object
 pub mod Run
 pub mod Fits
 pub mod Agent
 pub mod Line
 pub mod Machine
-pub mod Finding
 pub mod Turn
 pub mod Kept
 pub mod Shown

@@ -5,7 +5,8 @@ use Rattle.sab_sim.specs.declared.agent.Agent.{Agent}
 use Rattle.sab_sim.specs.declared.agent.Phase.{Phase}
 use Rattle.sab_sim.specs.declared.agent.Phase.TheVariants as P
 use Rattle.sab_plan.specs.Plan.{PlanParts, IsPlan}
-use Rattle.sab_sim.specs.Object.{State, Waiter, zero_blocks, stands}
+use Rattle.sab_plan.specs.declared.waiter.Waiter.{Waiter}
+use Rattle.sab_object.specs.Object.{State, zero_blocks, stands}
 use Rattle.sab_sim.specs.Agent.{newcomer, agent_at, is_woken, is_waiting, AllAtCalls}
 use Rattle.sab_sim.specs.Line.{WaitsAt}
 use Rattle.sab_sim.specs.declared.sim.TheConstants.Sim.{MAX_ENTRIES}

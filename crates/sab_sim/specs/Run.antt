@@ -5,7 +5,7 @@ use Rattle.sab_plan.specs.declared.entry.What.{What}
 use Rattle.sab_plan.specs.declared.entry.What.TheVariants.{Stuck}
 use Rattle.sab_plan.specs.declared.entry.Entry.{Entry}
 use Rattle.sab_plan.specs.Plan.{PlanParts, calls_of}
-use Rattle.sab_sim.specs.Object.{State, opening, stands, Does}
+use Rattle.sab_object.specs.Object.{State, opening, stands, Does}
 use Rattle.sab_plan.specs.Journal.{acts_of, IsEndless}
 
 -- each of these acts leads from one state to the next

@@ -2,7 +2,7 @@
 use Rattle.std.specs.Prelude.{List}
 use Rattle.sab_plan.specs.declared.entry.Entry.{Entry}
 use Rattle.sab_plan.specs.Plan.{PlanParts}
-use Rattle.sab_sim.specs.Object.{State}
+use Rattle.sab_object.specs.Object.{State}
 use Rattle.sab_sim.specs.Run.{Reaches}
 
 -- a fact of the state that the journal leaves

@@ -4,7 +4,7 @@ use Rattle.sab_plan.specs.declared.place.Place.{Place}
 use Rattle.sab_plan.specs.declared.call.Call.{Call}
 use Rattle.sab_plan.specs.declared.entry.Entry.{Entry}
 use Rattle.sab_plan.specs.Plan.{PlanParts, call_of}
-use Rattle.sab_sim.specs.Object.{State, stands}
+use Rattle.sab_object.specs.Object.{State, stands}
 use Rattle.sab_plan.specs.Journal.{returned_of}
 use Rattle.sab_sim.specs.Run.{Reaches}
 use Rattle.sab_sim.specs.Agent.{WaitsOn}

@@ -6,7 +6,7 @@ use Rattle.sab_plan.specs.declared.entry.Entry.{Entry}
 use Rattle.sab_sim.specs.declared.agent.Agent.{Agent}
 use Rattle.sab_plan.specs.Entry.{is_act}
 use Rattle.sab_plan.specs.Plan.{PlanParts, calls_of}
-use Rattle.sab_sim.specs.Object.{State, Does}
+use Rattle.sab_object.specs.Object.{State, Does}
 use Rattle.sab_sim.specs.Run.{Justifies}
 use Rattle.sab_sim.specs.Agent.{agent_at, IsAtCall, Advances, IsLike}
 use Rattle.sab_sim.specs.Machine.{MachineParts, Represents}

@@ -1,7 +1,6 @@
 //! The agents of a plan, and the simulator of one schedule of their moves.
 #![tactic(auto)]
 
-mod act;
 mod agent;
 mod line;
 mod lookup;

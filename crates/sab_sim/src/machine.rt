@@ -11,11 +11,11 @@ ghost use Rattle.sab_sim.specs.Machine.{IsReady, IsBegun, opening_machine, with_
 ghost use Rattle.sab_sim.specs.Turn.{Turns, entry_of};
 ghost use Rattle.sab_sim.specs.declared.sim.TheConstants.Sim.{MAX_ENTRIES};
 
-use crate::act::{act_access, find_notify, find_wait};
 use crate::agent::{Agent, Phase};
 use crate::line::wake;
 use crate::lookup::{call_at, can_block, is_timed, view_at};
 use sab_block::Block;
+use sab_object::{act_access, find_notify, find_wait};
 use sab_plan::{Answer, Call, Entry, Move, Place, Plan, What, Why};
 use std::alloc::{AllocError, Global};
 use std::marker::Model;

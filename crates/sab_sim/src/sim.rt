@@ -4,7 +4,7 @@ ghost use Rattle.std.specs.Prelude.{◌≡◌, ℕ, ◌<◌, ◌≤◌, ◌^◌,
 ghost use Rattle.sab_plan.specs.declared.entry.Entry.{Entry};
 ghost use Rattle.sab_sim.specs.declared.sim_fault.SimFault.TheVariants.{NoAgent, Full, OutOfMemory};
 ghost use Rattle.sab_plan.specs.Schedule.{agent_of};
-ghost use Rattle.sab_sim.specs.Object.{zero_blocks, waiters, stands};
+ghost use Rattle.sab_object.specs.Object.{zero_blocks, waiters, stands};
 ghost use Rattle.sab_plan.specs.Plan.{call_of};
 ghost use Rattle.sab_plan.specs.Journal.{returned_of};
 ghost use Rattle.sab_sim.specs.Shown.{AtEnd};

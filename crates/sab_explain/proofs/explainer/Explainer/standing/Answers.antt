@@ -4,7 +4,7 @@ use Rattle.std.specs.Prelude.{slice_index_or}
 use Rattle.sab_sim.specs.Run.{Reaches}
 use Rattle.sab_sim.specs.Sim.{SimParts}
 use Rattle.sab_plan.specs.declared.standing.Standing.{Standing}
-use Rattle.sab_sim.specs.Object.{State}
+use Rattle.sab_object.specs.Object.{State}
 use Rattle.sab_explain.specs.Fact.{IsLast}
 use Rattle.sab_explain.specs.Standing.{IsStanding}
 use Rattle.sab_explain.proofs.OneStanding.{IsStanding-one}

@@ -7,7 +7,7 @@ use Rattle.sab_block.specs.declared.thrown.Thrown.{Thrown}
 use Rattle.sab_block.specs.declared.operand.Operand.{Operand}
 use Rattle.sab_plan.specs.declared.place.Place.{Place}
 use Rattle.sab_plan.specs.declared.plan_view.PlanView.{PlanView}
-use Rattle.sab_sim.specs.Finding.{FindsWait, FindsNotify}
+use Rattle.sab_object.specs.Finding.{FindsWait, FindsNotify}
 use Rattle.sab_sim.proofs.CallActs.{is_acting, access_made, wait_threw, wait_differs, wait_joins, notify_threw, notify_made}
 use Rattle.sab_sim.proofs.machine.Machine.perform.Goals as goal
 

@@ -2,7 +2,7 @@
 use Rattle.std.proofs.Common.{rules, ◌≡◌, ◌∙◌, slice_get, Some, None, false, List, ap, sym, subst}
 use Rattle.sab_sim.specs.declared.agent.Agent.{Agent}
 use Rattle.sab_sim.specs.Agent.{is_waiting}
-use Rattle.sab_sim.specs.Object.{stands}
+use Rattle.sab_object.specs.Object.{stands}
 use Rattle.sab_sim.specs.Shown.{AtEnd}
 use Rattle.sab_sim.specs.Sim.{SimParts}
 use Rattle.sab_sim.proofs.Fronts.{stands-kept}

@@ -1,7 +1,7 @@
 -- The line by tickets is the object's.
 use Rattle.std.proofs.Common.{◌≡◌, ◌<◌, ℕ, length, ap, subst, List, ◌∙◌, All}
 use Rattle.sab_sim.specs.declared.agent.Agent.{Agent}
-use Rattle.sab_sim.specs.Object.{waiters}
+use Rattle.sab_object.specs.Object.{waiters}
 use Rattle.sab_sim.specs.Line.{IsLine}
 use Rattle.sab_sim.specs.Shown.{AtEnd}
 use Rattle.sab_sim.specs.Sim.{SimParts}

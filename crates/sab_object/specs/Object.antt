@@ -3,6 +3,7 @@ use Rattle.std.specs.Prelude.{◌≡◌, ◌≢◌, ℕ, zero, suc, ◌==◌, �
 use Rattle.std.specs.List.{list_any}
 use Rattle.sab_block.specs.Access.{Acts, element, raw_of}
 use Rattle.sab_plan.specs.declared.place.Place.{Place}
+use Rattle.sab_plan.specs.declared.waiter.Waiter.{Waiter}
 use Rattle.sab_plan.specs.declared.call.Call.{Call}
 use Rattle.sab_plan.specs.declared.call.Call.TheVariants as C
 use Rattle.sab_plan.specs.declared.answer.Answer.TheVariants.{Value, Woken, NotEqual, TimedOut, Count, Threw}
@@ -15,11 +16,6 @@ use Rattle.sab_plan.specs.Script.{ScriptParts}
 use Rattle.sab_plan.specs.Plan.{PlanParts}
 use Rattle.sab_plan.specs.Place.{same_place, place_of}
 use Rattle.sab_plan.specs.Check.{verdict}
-
--- an agent that waits at a place
-pub record Waiter : Type 0 where
-  pub place : Place
-  pub agent : ℕ
 
 -- a state of the object
 pub record State : Type 0 where

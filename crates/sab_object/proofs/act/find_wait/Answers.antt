@@ -20,8 +20,8 @@ use Rattle.sab_plan.specs.declared.plan_view.PlanView.{PlanView}
 use Rattle.sab_plan.specs.Check.{wait_checks}
 use Rattle.sab_plan.specs.declared.place.Place.{Place}
 use Rattle.sab_plan.specs.Place.{place_of}
-use Rattle.sab_sim.specs.Object.{bytes_of, element_at}
-use Rattle.sab_sim.proofs.act.find_wait.Goals as goal
+use Rattle.sab_object.specs.Object.{bytes_of, element_at}
+use Rattle.sab_object.proofs.act.find_wait.Goals as goal
 
 -- a block that is there has its bytes
 bytes_is : (mem : List (List ℕ)) (b len : ℕ) (bytes : List ℕ) → slice_get (map (length {A = ℕ}) mem) b ≡ Some len

@@ -1,7 +1,7 @@
 -- A write of as many bytes keeps the lengths of the blocks.
 use Rattle.std.proofs.Common.{ℕ, length}
 use Rattle.std.proofs.Math.Seq.{map-set_same}
-use Rattle.sab_sim.proofs.act.act_access.Goals as goal
+use Rattle.sab_object.proofs.act.act_access.Goals as goal
 
 pub returns-in-Ok-clause-lens : goal.returns-in-Ok-clause-lens
 returns-in-Ok-clause-lens c =

@@ -1,6 +1,5 @@
--- From one state an act has one outcome, and a run one end.
-use Rattle.std.proofs.Common.{◌≡◌, inl, inr, ℕ, Bool, false, List, [], ◌∷◌, ◌++◌, length, slice_get, slice_set, Option, Some, None, refl, ap, sym, ◌∙◌, subst}
-use Rattle.std.specs.Prelude.{⊤}
+-- From one state an act has one outcome.
+use Rattle.std.proofs.Common.{◌≡◌, inl, inr, ℕ, Bool, false, List, length, slice_get, slice_set, Option, Some, None, refl, ap, sym, ◌∙◌, subst}
 use Rattle.std.proofs.lemmas.Bool.{cases_eq, true≢false}
 use Rattle.sab_block.specs.declared.operand.Operand.{Operand}
 use Rattle.sab_block.specs.declared.view.View.{View}
@@ -17,15 +16,14 @@ use Rattle.sab_plan.specs.declared.answer.Answer.{Answer}
 use Rattle.sab_plan.specs.declared.answer.Answer.TheVariants as A
 use Rattle.sab_plan.specs.declared.entry.What.{What}
 use Rattle.sab_plan.specs.declared.entry.What.TheVariants.{Began, Acted, Enlisted, Left, Returned, Stuck}
-use Rattle.sab_plan.specs.declared.entry.Entry.{Entry}
 use Rattle.sab_plan.specs.Call.{view_of}
 use Rattle.sab_plan.specs.Entry.{is_act}
 use Rattle.sab_plan.specs.Script.{ScriptParts}
 use Rattle.sab_plan.specs.Place.{place_of}
 use Rattle.sab_plan.specs.Plan.{PlanParts}
 use Rattle.sab_plan.specs.Check.{verdict}
-use Rattle.sab_sim.specs.Object.{State, bytes_of, element_at, waiters, woken_count, woken, joined, taken_off, DoesCall, Does}
-use Rattle.sab_sim.specs.Run.{Run}
+use Rattle.sab_object.specs.Object.{State, bytes_of, element_at, waiters, woken_count, woken, joined, taken_off, DoesCall, Does}
+use Rattle.sab_object.specs.Kept.{IsOutcome}
 
 -- an option has one value
 pub one_value : {X : Type 0} (o : Option X) (x y : X) → o ≡ Some x → o ≡ Some y → x ≡ y
@@ -49,14 +47,8 @@ ActsAt-one v (X.CompareExchange index z r) p mem x y new new' a b = (
   ],
 )
 
--- an act of a call that has begun
-abbrev pub IsOutcome : What → Type 0
-IsOutcome (Acted x) = ⊤
-IsOutcome Enlisted = ⊤
-IsOutcome _ = ⊥
-
 -- a call that has begun has one outcome
-DoesCall-one : (cb : Bool) (a : ℕ) (v : PlanView) (call : Call) (S : State) (w : What) (T : State) (w' : What)
+pub DoesCall-one : (cb : Bool) (a : ℕ) (v : PlanView) (call : Call) (S : State) (w : What) (T : State) (w' : What)
     (T' : State)
     → IsOutcome w → IsOutcome w' → DoesCall cb a v call S w T → DoesCall cb a v call S w' T' → (w ≡ w') × (T ≡ T')
 DoesCall-one cb a v (C.Access n access) S (Acted (A.Threw e)) T (Acted (A.Threw f)) T' o o' d d' =
@@ -112,7 +104,7 @@ DoesCall-one cb a v (C.Wait n index x t) S Enlisted T Enlisted T' o o' d d' =
 DoesCall-one cb a v call S w T w' T' o o' d d' = absurd (first_of (assumption, cc))
 
 -- a wait that has begun leaves in one way
-DoesCall-left : (cb : Bool) (a : ℕ) (v : PlanView) (call : Call) (S : State) (x : Answer) (T T' : State)
+pub DoesCall-left : (cb : Bool) (a : ℕ) (v : PlanView) (call : Call) (S : State) (x : Answer) (T T' : State)
     → DoesCall cb a v call S (Left x) T → DoesCall cb a v call S (Left x) T' → T ≡ T'
 DoesCall-left cb a v (C.Wait n index y t) S A.Woken T T' d d' = d.1 ∙ sym d'.1
 DoesCall-left cb a v (C.Wait n index y (Some t)) S A.TimedOut T T' d d' =
@@ -146,7 +138,7 @@ Does-one_outcome plan a n S T T' w w' o o' d d' =
     DoesCall-one d'.script.can_block a d'.view d'.call S w T w' T' o o' (on_one_view plan a n S T T' w w' d d') d'.does
 
 -- what isn't an act does nothing
-DoesCall-no_act : (cb : Bool) (a : ℕ) (v : PlanView) (call : Call) (S : State) (w : What) (T : State) → is_act w ≡ false
+pub DoesCall-no_act : (cb : Bool) (a : ℕ) (v : PlanView) (call : Call) (S : State) (w : What) (T : State) → is_act w ≡ false
     → DoesCall cb a v call S w T → ⊥
 DoesCall-no_act cb a v call S (Acted x) T e d = absurd (true≢false e)
 DoesCall-no_act cb a v call S Enlisted T e d = absurd (true≢false e)
@@ -156,7 +148,7 @@ DoesCall-no_act cb a v (C.Access n access) S w T e d = d
 DoesCall-no_act cb a v (C.Notify n index k) S w T e d = d
 
 -- an entry leads to one state
-Does-one : (plan : PlanParts) (a n : ℕ) (w : What) (S T T' : State)
+pub Does-one : (plan : PlanParts) (a n : ℕ) (w : What) (S T T' : State)
     → Does plan S (record { agent = a; call = n; what = w }) T
     → Does plan S (record { agent = a; call = n; what = w }) T' → T ≡ T'
 Does-one plan a n (Acted x) S T T' d d' = (Does-one_outcome plan a n S T T' (Acted x) (Acted x) tt tt d d').1
@@ -169,17 +161,3 @@ Does-one plan a n (Returned x) S T T' d d' =
     absurd (DoesCall-no_act d.script.can_block a d.view d.call S (Returned x) T refl d.does)
 Does-one plan a n (Stuck why) S T T' d d' =
     absurd (DoesCall-no_act d.script.can_block a d.view d.call S (Stuck why) T refl d.does)
-
--- a run has one end
-pub Run-one : (plan : PlanParts) (S : State) (es : List Entry) (T T' : State) → Run plan S es T → Run plan S es T'
-    → T ≡ T'
-Run-one plan S [] T T' r r' = r ∙ sym r'
-Run-one plan S (e ∷ es) T T' r r' =
-    let same : r.0 ≡ r'.0 = Does-one plan e.agent e.call e.what S r.0 r'.0 r.1 r'.1 in
-    Run-one plan r'.0 es T T' (subst (λ (U : State). Run plan U es T) same r.2) r'.2
-
--- a run begins with a run
-pub Run-append : (plan : PlanParts) (S : State) (xs ys : List Entry) (T : State) → Run plan S (xs ++ ys) T
-    → (U : State) × Run plan S xs U × Run plan U ys T
-Run-append plan S [] ys T r = (S, refl, r)
-Run-append plan S (x ∷ xs) ys T r = let rest = Run-append plan r.0 xs ys T r.2 in (rest.0, (r.0, r.1, rest.1), rest.2)

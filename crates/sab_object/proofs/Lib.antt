@@ -1,0 +1,3 @@
+pub mod OnlyAct
+pub mod LineAgents
+pub mod Woken
