@@ -4,9 +4,11 @@
 // simulator in WebAssembly does the same in this process, except races. This launcher isn't proved.
 
 import { spawn } from "node:child_process";
-import { closeSync, existsSync, openSync, readFileSync, readSync } from "node:fs";
+import { closeSync, existsSync, openSync, readFileSync } from "node:fs";
 import { constants } from "node:os";
 import { fileURLToPath } from "node:url";
+import { HERE, MACHINE } from "./lib/processes/platform.cjs";
+import { readAll } from "./lib/processes/read-all.mjs";
 import { SCRIPT_LIMITS } from "./script/limits.mjs";
 import { Simulator } from "./wasm/simulator.mjs";
 
@@ -19,7 +21,7 @@ const MODULE = new URL("./wasm/sabsim.wasm", import.meta.url);
 const MOST_OF_SCRIPT = SCRIPT_LIMITS.text + 1;
 
 /** Where the program is: in the package, or where the repository builds it. */
-const PROGRAMS = [`../program/${process.platform}-${process.arch}/sabsim`, "../crates/sabsim/out/sabsim"];
+const PROGRAMS = [`../program/${MACHINE}/sabsim${HERE.programEnding}`, "../crates/sabsim/out/sabsim"];
 
 /** What the module adds to its version: what the proof doesn't cover. */
 const VERSION = /^(-V|--version)$/;
@@ -65,7 +67,7 @@ function run(path, words) {
 function endBy(signal) {
   // A signal that doesn't end node, such as SIGPIPE, is reported by the status, as a shell does it.
   process.exitCode = 128 + constants.signals[signal];
-  process.kill(process.pid, signal);
+  if (HERE.hasSignals) process.kill(process.pid, signal);
 }
 
 /**
@@ -76,12 +78,7 @@ function endBy(signal) {
 function readScript(file) {
   const from = file === undefined ? 0 : openSync(file);
   try {
-    const bytes = Buffer.alloc(MOST_OF_SCRIPT);
-    let size = 0;
-    for (let count = 1; count > 0 && size < MOST_OF_SCRIPT; size += count) {
-      count = readSync(from, bytes, size, MOST_OF_SCRIPT - size, null);
-    }
-    return bytes.subarray(0, size);
+    return readAll(from, MOST_OF_SCRIPT);
   } finally {
     if (file !== undefined) closeSync(from);
   }
@@ -94,7 +91,8 @@ function readScript(file) {
  */
 function endedBy(words) {
   const simulator = new Simulator(new WebAssembly.Module(readFileSync(MODULE)));
-  const read = words.includes("--trace") ? (/** @type {string | undefined} */ file) => readFileSync(file ?? 0) : readScript;
+  const readTrace = (/** @type {string | undefined} */ file) => (file === undefined ? readAll(0) : readFileSync(file));
+  const read = words.includes("--trace") ? readTrace : readScript;
   return simulator.command(words, read, process.stderr.isTTY === true);
 }
 

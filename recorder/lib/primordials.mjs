@@ -18,6 +18,7 @@ export const {
 export const { create, freeze, is } = Object;
 export const { isArray } = Array;
 export const hasOwn = uncurried(Object.prototype.hasOwnProperty);
+export const toUpperCase = uncurried(String.prototype.toUpperCase);
 
 const { defineProperty: define } = Reflect;
 

@@ -8,6 +8,7 @@ import { Crew, EngineFault } from "./engine/crew.mjs";
 import { replay } from "./engine/replay.mjs";
 import { summary } from "./engine/report.mjs";
 import { readScript, ScriptFault } from "./engine/script.mjs";
+import { withSignals } from "./helpers/needs.mjs";
 import { Opinions } from "./helpers/opinions.mjs";
 import { pathOf, replayBySabsim, runNode, start } from "./helpers/programs.mjs";
 import { seedsTo } from "./helpers/recorded.mjs";
@@ -142,7 +143,7 @@ describe("the program", () => {
     assert.deepEqual([status, output], [1, ""]);
   });
 
-  test("ends at once when it is killed in a wait", { timeout: 30_000 }, async () => {
+  test("ends at once when it is killed in a wait", { ...withSignals, timeout: 30_000 }, async () => {
     const moves = [0, 0, ...Array(40_000).fill(0), { timeout: 0 }];
     const calls = [["wait", "w", 0, 0, 1]];
     const views = [{ name: "w", kind: "Int32", offset: 0, length: null }];

@@ -13,6 +13,7 @@ import { loadProblem } from "../lib/run/load-problem.mjs";
 import { record } from "../recorder.mjs";
 import { commandHere } from "./helpers/command-here.mjs";
 import { RECORD, temporaryFolder } from "./helpers/common.mjs";
+import { onLinux } from "./helpers/needs.mjs";
 
 const MERGE = fileURLToPath(new URL("../merge.mjs", import.meta.url));
 
@@ -89,7 +90,7 @@ test("TypeScript that this node doesn't load is refused with what to do, without
   assert.deepEqual([status, errors], [2, `record: ${why}\n`]);
 });
 
-test("a folder that can't be made is refused at once", (context) => {
+test("a folder that can't be made is refused at once", onLinux, (context) => {
   for (const path of ["/proc/x", "/proc/x/y"]) {
     assert.throws(() => new Keeper(path), (error) => {
       return error instanceof Refused && /^--out \/proc\/x\S* can't be used: ENOENT: .*mkdir '\/proc\/x'$/.test(error.message);

@@ -16,7 +16,7 @@ import { isWorthIt, moreJobs } from "../lib/seeds/more-jobs.mjs";
 import { jobWords } from "../lib/seeds/start-job.cjs";
 import { commandHere } from "./helpers/command-here.mjs";
 import { RECORD, agentsOf, agentsPath, processesWith, temporaryFolder } from "./helpers/common.mjs";
-import { CHECKING, onLinux } from "./helpers/needs.mjs";
+import { CHECKING, onLinux, withSignals } from "./helpers/needs.mjs";
 
 /**
  * Runs the command line to its end.
@@ -220,7 +220,7 @@ test("outcomes that come in any order are taken in the order of their seeds, up 
   assert.deepEqual(await takenOf([5, 1, -4, 3]), [1, 3, 4]);
 });
 
-test("a job whose process dies is reported with status 3, and the summary has the other runs", (context) => {
+test("a job whose process dies is reported with status 3, and the summary has the other runs", withSignals, (context) => {
   const words = small(temporaryFolder(context), `
     const words = new Int32Array(buffers[0]);
     globalThis.seeds = (globalThis.seeds ?? 0) + 1;
@@ -242,7 +242,7 @@ test("a job whose process dies is reported with status 3, and the summary has th
   );
 });
 
-test("a failed run is reported even if the next run kills the job's process at once", (context) => {
+test("a failed run is reported even if the next run kills the job's process at once", withSignals, (context) => {
   const words = small(temporaryFolder(context), `
     globalThis.times = (globalThis.times ?? 0) + 1;
     if (globalThis.times === 8) process.kill(process.pid, "SIGKILL");

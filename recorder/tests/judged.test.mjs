@@ -32,7 +32,7 @@ const MEMBERS = [
  */
 function judging(folder, judge) {
   const path = join(folder, "judging");
-  const own = `cat > ${folder}/given; ${judge}`;
+  const own = `cat > '${folder}/given'; ${judge}`;
   const code = `#!/bin/sh\nif [ "$1" = judge ]; then ${own}; fi\nexec ${SIMULATOR_WORDS} "$@"\n`;
   writeFileSync(path, code, { mode: 0o755 });
   return path;
@@ -54,7 +54,7 @@ describe("the judge of checked runs", withShell, () => {
   it("is given the run's trace, and says what the slow judge finds in it", async (context) => {
     const folder = temporaryFolder(context);
     for (const seed of [1, RACING_SEED]) {
-      const sabsim = judging(folder, `${SIMULATOR_WORDS} judge --trace < ${folder}/given > ${folder}/said; exit $?`);
+      const sabsim = judging(folder, `${SIMULATOR_WORDS} judge --trace < '${folder}/given' > '${folder}/said'; exit $?`);
       const { checked, races } = await record({ ...SMALL, seed, sabsim });
       const events = eventsOfTrace(readFileSync(join(folder, "given"), "utf8"));
       const judged = slowJudge(events);
@@ -185,7 +185,7 @@ describe("the judge of checked runs", withShell, () => {
 
   it("judges what init left as no access, and of a run whose init throws nothing", async (context) => {
     const folder = temporaryFolder(context);
-    const options = { sabsim: judging(folder, `exec ${SIMULATOR_WORDS} "$@" < ${folder}/given`) };
+    const options = { sabsim: judging(folder, `exec ${SIMULATOR_WORDS} "$@" < '${folder}/given'`) };
     const given = () => readFileSync(join(folder, "given"), "utf8");
     const filled = await recordCase("addition", { ...options, init: ([buffer]) => new Uint8Array(buffer).fill(1) });
     assert.deepEqual([filled.ending, eventsOfTrace(given()).length], ["finished", filled.calls]);

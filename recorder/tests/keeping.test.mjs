@@ -8,7 +8,7 @@ import { test } from "node:test";
 import { Keeper, NotKept } from "../lib/keeping/keep.mjs";
 import { Refused } from "../lib/options/refused.mjs";
 import { RECORD, agentsPath, temporaryFolder } from "./helpers/common.mjs";
-import { CHECKING, withShell } from "./helpers/needs.mjs";
+import { CHECKING, onLinux, withLinks, withShell, withSignals } from "./helpers/needs.mjs";
 
 const run = (seed, parts) => ({ seed, script: `script ${seed}`, report: `report ${seed}`, ...parts });
 const filesOf = (seed) => [`seed-${seed}.json`, `seed-${seed}.report`];
@@ -51,7 +51,7 @@ test("a run without a script has no file of one", (context) => {
   assert.deepEqual(readdirSync(folder).sort(), filesOf(1));
 });
 
-test("a link that lies at a file's name isn't followed", (context) => {
+test("a link that lies at a file's name isn't followed", withLinks, (context) => {
   const folder = temporaryFolder(context);
   const outside = join(temporaryFolder(context), "outside");
   writeFileSync(outside, "as it was");
@@ -80,7 +80,7 @@ test("the error about a file that can't be written names it, and the files that 
   assert.deepEqual(readdirSync(folder).sort(), ["seed-4.json", "seed-4.report", ...filesOf(9)]);
 });
 
-test("a folder that can't be made, or written to, is refused", (context) => {
+test("a folder that can't be made, or written to, is refused", onLinux, (context) => {
   const folder = temporaryFolder(context);
   writeFileSync(join(folder, "file"), "");
   for (const path of [join(folder, "file"), join(folder, "file", "below"), "/proc/self"]) {
@@ -121,7 +121,7 @@ async function until(holds) {
   }
 }
 
-test("--out is tried before anything runs", () => {
+test("--out is tried before anything runs", onLinux, () => {
   const words = [RECORD, agentsPath("cases"), "--agents", "1", "--buffers", "4", "--out", "/proc/self", "--", "prints"];
   const { status, stdout, stderr } = spawnSync(process.execPath, words, { encoding: "utf8" });
   assert.deepEqual([status, stdout], [2, ""]);
@@ -129,7 +129,7 @@ test("--out is tried before anything runs", () => {
 });
 
 for (const signal of ["SIGINT", "SIGTERM"]) {
-  test(`${signal} ends the command after it has printed and kept what it found`, async (context) => {
+  test(`${signal} ends the command after it has printed and kept what it found`, withSignals, async (context) => {
     const out = join(temporaryFolder(context), "out");
     const { child, ended } = started(["--seeds", "1..10000000", "--out", out, ...CHECKING]);
     const kept = () => {

@@ -24,7 +24,7 @@ let launcher;
 /** Copies the launcher into a folder without a program. @param {import("node:test").TestContext} context */
 function copied(context) {
   const folder = temporaryFolder(context);
-  for (const part of ["sabsim.mjs", "wasm", "script"]) {
+  for (const part of ["sabsim.mjs", "lib/processes", "script", "wasm"]) {
     cpSync(join(RECORDER, part), join(folder, part), { recursive: true });
   }
   return folder;

@@ -28,8 +28,9 @@ const BROWSERS = {
   Chromium: { isThere: BROWSER !== undefined, begin: () => new Browser() },
   Firefox: { isThere: FIREFOX !== undefined, begin: () => Firefox.begun() },
 };
-const EXAMPLES = readdirSync(pathOf("examples")).filter((name) => name.endsWith(".json")).sort().map((name) => {
-  return { name, text: readFileSync(pathOf(`examples/${name}`), "utf8") };
+const FOLDER = pathOf("crates/check_scripts/data/examples");
+const EXAMPLES = readdirSync(FOLDER).filter((name) => name.endsWith(".json")).sort().map((name) => {
+  return { name, text: readFileSync(`${FOLDER}/${name}`, "utf8") };
 });
 
 const SCRIPT = JSON.stringify(HANDED);

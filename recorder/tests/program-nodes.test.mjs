@@ -9,6 +9,7 @@ import { join } from "node:path";
 import { test } from "node:test";
 import { record } from "../recorder.mjs";
 import { RECORD, temporaryFolder } from "./helpers/common.mjs";
+import { whereNodeHasIt } from "./helpers/where-node-has-it.mjs";
 
 const PROGRAM = `import { Worker, isMainThread, workerData } from "node:worker_threads";
 if (isMainThread) {
@@ -75,7 +76,7 @@ test("the summary names a version on which programs weren't tried, as text and a
 
 const isLoaded = Boolean(/** @type {any} */ (process.features).typescript);
 
-test("a program in TypeScript is refused by a node that loads none", { skip: isLoaded && "it loads it" }, async (context) => {
+whereNodeHasIt(!isLoaded)("a program in TypeScript is refused by a node that loads none", async (context) => {
   const file = filesIn(context, { "main.ts": RACING });
   const { status, stdout, stderr } = ranBy(["--program", file("main.ts")]);
   assert.deepEqual([status, stdout], [2, ""]);
@@ -103,9 +104,9 @@ registerHooks({
   },
 });`;
 
-const skip = !isLoaded && nodeModule.registerHooks === undefined && "this node loads no TypeScript, and has no hook";
+const withTypeScript = whereNodeHasIt(isLoaded || nodeModule.registerHooks !== undefined);
 
-test("a program in TypeScript has its own lines", { skip }, (context) => {
+withTypeScript("a program in TypeScript has its own lines", (context) => {
   const file = filesIn(context, { "main.ts": RACING, "other.mts": RACING, "hook.mjs": HOOK });
   for (const name of ["main.ts", "other.mts"]) {
     const { status, stdout, stderr } = ranBy(["--program", file(name)], isLoaded ? [] : ["--import", file("hook.mjs")]);

@@ -8,7 +8,7 @@ import { pathToFileURL } from "node:url";
 import { defaultsOf } from "../lib/options/table.mjs";
 import { Job } from "../lib/seeds/job.mjs";
 import { commandThere, temporaryFolder } from "./helpers/common.mjs";
-import { withShell } from "./helpers/needs.mjs";
+import { onLinux, withShell } from "./helpers/needs.mjs";
 import { CLOSED, LISTENS, ONE_THREAD, RACE, TWO_THREADS } from "./helpers/real-programs.mjs";
 import { seedsTo } from "./helpers/recorded.mjs";
 import { programOf, runsOf } from "./helpers/whole-programs.mjs";
@@ -62,7 +62,7 @@ describe("child processes", () => {
     ]);
   });
 
-  it("print nothing into the recorder's own output", async (context) => {
+  it("print nothing into the recorder's own output", withShell, async (context) => {
     const main = programOf(context, { "main.mjs": `import { execSync, spawn } from "node:child_process";
 execSync("echo to the output", { stdio: "inherit" });
 execSync("echo to the error >&2; cat", { stdio: ["inherit", 1, 2] });
@@ -74,7 +74,7 @@ spawn("echo", ["by a pipe"], { stdio: ["inherit", process.stdout, "inherit"] });
     assert.equal(stderr, "to the output\nto the error\nby a pipe\n");
   });
 
-  it("are gone when the run is over, also those that a thread has left amid a call", async (context) => {
+  it("are gone when the run is over, also those that a thread has left amid a call", onLinux, async (context) => {
     const folder = temporaryFolder(context);
     const files = {
       "main.mjs": `import { Worker } from "node:worker_threads"; import { spawn } from "node:child_process";
@@ -237,7 +237,7 @@ function counting(context, failing) {
   writeFileSync(file, "0");
   return programOf(context, { "main.mjs": `import { execSync } from "node:child_process";
 import { Worker } from "node:worker_threads";
-const count = Number(execSync("n=$(cat ${file}); echo $n; echo $((n + 1)) > ${file}"));
+const count = Number(execSync("n=$(cat '${file}'); echo $n; echo $((n + 1)) > '${file}'"));
 const words = new Int32Array(new SharedArrayBuffer(4));
 new Worker("", { eval: true, workerData: words });
 Atomics.store(words, 0, count);
@@ -246,7 +246,7 @@ Atomics.add(words, 0, 1);` });
 }
 
 describe("a run that can't be repeated", () => {
-  it("is a finding, which says so", async (context) => {
+  it("is a finding, which says so", withShell, async (context) => {
     const job = new Job();
     const module = pathToFileURL(counting(context, 1)).href;
     /** @type {any[]} */
@@ -269,7 +269,7 @@ describe("a run that can't be repeated", () => {
     assert.match(second.trace, /"source":"main\.mjs:5:1"/);
   });
 
-  it("is named by the summary, with what was used, and replays of it say why they differ", async (context) => {
+  it("is named by the summary, with what was used, and replays of it say why they differ", withShell, async (context) => {
     const main = counting(context, 0);
     const out = temporaryFolder(context);
     const { status, stdout } = await commandThere(["--program", main, "--seeds", "1..3", "--jobs", "1", "--out", out]);

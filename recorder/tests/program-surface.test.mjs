@@ -5,9 +5,10 @@ import { spawnSync } from "node:child_process";
 import Module, { createRequire } from "node:module";
 import { test } from "node:test";
 import { fileURLToPath } from "node:url";
-import { LATER, isSince } from "../lib/program/node-versions.mjs";
+import { LATER, isSince } from "../lib/processes/node-versions.mjs";
 import { GLOBALS, METHODS, MODULES, SCHEME_MODULES } from "../lib/program/surface-table.mjs";
 import { kindOf, kindOfGlobal, refuseRest, unknownNames } from "../lib/program/surface.mjs";
+import { withShell } from "./helpers/needs.mjs";
 import { whereNodeHasIt } from "./helpers/where-node-has-it.mjs";
 
 const require = createRequire(import.meta.url);
@@ -157,7 +158,7 @@ test("all that is refused calls `refuse` with its name, by require, node: and ge
       "domain", "fs/promises.watch", true, true]);
 });
 
-test("functions that the machine answers are node's own, and noted by name if the program calls them itself", () => {
+test("functions that the machine answers are node's own, and noted by name if the program calls them itself", withShell, () => {
   const found = inProcess(`
     const { Resolver } = require("dns").promises; new Resolver();
     const server = require("http").createServer(); server.listen(0); server.close();

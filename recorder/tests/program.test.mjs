@@ -10,7 +10,7 @@ import { optionsOf, USAGE } from "../lib/command/options.mjs";
 import { Refused } from "../lib/options/refused.mjs";
 import { commandHere } from "./helpers/command-here.mjs";
 import { RECORD, WITHOUT_SABSIM, agentsOf, agentsPath, processesWith, temporaryFolder } from "./helpers/common.mjs";
-import { CHECKING, NOWHERE, hasSabsim, onLinux, withShell } from "./helpers/needs.mjs";
+import { CHECKING, NOWHERE, hasSabsim, onLinux, withDevices, withShell } from "./helpers/needs.mjs";
 import { simulated } from "./helpers/simulate.mjs";
 
 /** Which simulator checks the runs of these tests. */
@@ -243,7 +243,7 @@ test("help is on standard output, with status 0", () => {
   assert.match(stdout, /^usage: node recorder\/record\.mjs MODULE /);
 });
 
-test("if standard output fails, the status is 3, and a line on standard error says so", async (context) => {
+test("if standard output fails, the status is 3, and a line on standard error says so", withDevices, async (context) => {
   const full = openSync("/dev/full", "w");
   context.after(() => closeSync(full));
   const stdio = ["ignore", full, "pipe"];
@@ -301,7 +301,7 @@ test("a picture that sabsim doesn't make is reported", withShell, async (context
   // It says the same of the run, whatever it was, and makes no picture.
   writeFileSync(half, [
     "#!/bin/sh", "cat > /dev/null", 'if [ "$3" = svg ]; then echo "no pictures" >&2; exit 4; fi',
-    `if [ "$2" = --format ]; then echo explained; else cat ${folder}/out/*.report; fi`, "",
+    `if [ "$2" = --format ]; then echo explained; else cat '${folder}'/out/*.report; fi`, "",
   ].join("\n"), { mode: 0o755 });
   const unchecked = ["--seeds", "1", "--no-shorten", "--out", join(folder, "out")];
   assert.equal((await commandHere(cases("waitsForEver", ...unchecked, "--check", "0"))).status, 1);

@@ -7,6 +7,7 @@ import { before, describe, it, test } from "node:test";
 import { fileURLToPath } from "node:url";
 import { NOT_YET, ORDER, pathOf, runInNode, runsInRecorder } from "./programs/order.mjs";
 import { PROGRAMS, placesOf, urlOf } from "./programs/table.mjs";
+import { withSignals } from "./helpers/needs.mjs";
 
 const FOLDER = new URL("./programs/", import.meta.url);
 const SIDE_BY_SIDE = 4;
@@ -61,7 +62,7 @@ describe("right programs end with exit code 0 in node", { concurrency: SIDE_BY_S
   }
 });
 
-describe("endless programs run in node until Ctrl-C", () => {
+describe("endless programs run in node until Ctrl-C", withSignals, () => {
   for (const program of PROGRAMS.filter(({ isEndless }) => isEndless)) {
     it(program.name, async () => {
       const whenPrinted = (text, pid) => { if (text === "ready\n") process.kill(pid, "SIGINT"); };

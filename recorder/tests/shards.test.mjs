@@ -14,7 +14,7 @@ import { Coverage } from "../lib/seeds/coverage.mjs";
 import { shardOf, united, without } from "../lib/seeds/ranges.mjs";
 import { commandHere } from "./helpers/command-here.mjs";
 import { RECORD, agentsOf, agentsPath, temporaryFolder } from "./helpers/common.mjs";
-import { CHECKING, needing } from "./helpers/needs.mjs";
+import { CHECKING, needing, withSignals } from "./helpers/needs.mjs";
 import { pathOf } from "./helpers/programs.mjs";
 
 const MERGE = fileURLToPath(new URL("../merge.mjs", import.meta.url));
@@ -227,7 +227,7 @@ test("merge.mjs ends with status 0 if no run of any shard failed", async (contex
   assert.match(stdout, /^4 runs: 4 finished\n/);
 });
 
-test("the JSON summary reports a job that died, in its member `problems`", async (context) => {
+test("the JSON summary reports a job that died, in its member `problems`", withSignals, async (context) => {
   const module = agentsOf(temporaryFolder(context), `
     globalThis.seeds = (globalThis.seeds ?? 0) + 1;
     Atomics.add(new Int32Array(buffers[0]), 0, 1);
@@ -242,7 +242,7 @@ test("the JSON summary reports a job that died, in its member `problems`", async
   assert.ok(runs < 9, stdout);
 });
 
-test("a shard whose job dies in its first run has a JSON summary, which is joined to the others", async (context) => {
+test("a shard whose job dies in its first run has a JSON summary, which is joined to the others", withSignals, async (context) => {
   const module = agentsOf(temporaryFolder(context), `
     Atomics.add(new Int32Array(buffers[0]), 0, 1);
     if (process.env.RECORDER_TEST === "dies") process.kill(process.pid, "SIGKILL");

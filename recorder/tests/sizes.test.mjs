@@ -33,7 +33,7 @@ function functionsIn(text) {
 
 const FILES = readdirSync(RECORDER, { recursive: true, encoding: "utf8" })
   .filter((file) => /\.[cm]?[jt]s$/.test(file) && !/^(?:tests|bench|examples)\//.test(file))
-  .map((file) => ({ file, text: readFileSync(new URL(file, RECORDER), "utf8") }));
+  .map((file) => ({ file, text: readFileSync(new URL(file, RECORDER), "utf8").replaceAll("\r\n", "\n") }));
 
 test("no file has more than 400 lines", () => {
   assert.ok(FILES.length > 150, `${FILES.length} files`);

@@ -3,14 +3,15 @@
 import assert from "node:assert/strict";
 import { spawn } from "node:child_process";
 import {
-  existsSync, mkdirSync, readFileSync, readdirSync, rmSync, symlinkSync, writeFileSync,
+  existsSync, mkdirSync, readFileSync, readdirSync, realpathSync, rmSync, symlinkSync, writeFileSync,
 } from "node:fs";
 import { join } from "node:path";
 import { after, test } from "node:test";
-import { fileURLToPath } from "node:url";
+import { fileURLToPath, pathToFileURL } from "node:url";
 import { keptFolder } from "../lib/suite/kept-folder.mjs";
 import { assertAgents } from "../testing.mjs";
 import { WITHOUT_SABSIM, agentsPath, temporaryFolder } from "./helpers/common.mjs";
+import { onLinux, withLinks } from "./helpers/needs.mjs";
 
 const HELPER = new URL("../testing.mjs", import.meta.url).href;
 
@@ -22,7 +23,8 @@ const HELPER = new URL("../testing.mjs", import.meta.url).href;
  * @param {string} [reporter]
  */
 async function suite(context, code, env = {}, reporter = "spec") {
-  const folder = temporaryFolder(context);
+  // A suite works in this folder, and node knows its files by their own paths.
+  const folder = realpathSync(temporaryFolder(context));
   const temporary = join(folder, "temporary");
   mkdirSync(temporary);
   writeFileSync(join(folder, "agents.mjs"), readFileSync(agentsPath("naive-mutex"), "utf8"));
@@ -118,7 +120,7 @@ test("a failing test shows seed, ending, its explained end, and where its files 
   assert.match(last, new RegExp(`^ {2}173 0 19 wait +${wait}$`));
   assert.equal(end - shown.length - (from + 4), 16);
   assert.deepEqual(lines.slice(end, end + 4), [
-    "", `kept in ${place}: ${names.join(", ")}`, "", `    at file://${join(folder, "lock.test.mjs")}:2:1`,
+    "", `kept in ${place}: ${names.join(", ")}`, "", `    at ${pathToFileURL(join(folder, "lock.test.mjs")).href}:2:1`,
   ]);
   assert.ok(!output.includes("generatedMessage"));
 });
@@ -186,7 +188,7 @@ test("the failing test of a race marks its two accesses among the last acts, wit
   assert.ok(lines.some((line) => load.test(line)), output);
 });
 
-test("a test's failing run is kept in the same folder each time, which no link leads out of", (the) => {
+test("a test's failing run is kept in the same folder each time, which no link leads out of", withLinks, (the) => {
   const { TMPDIR } = process.env;
   process.env.TMPDIR = temporaryFolder(the);
   the.after(() => {
@@ -208,7 +210,7 @@ test("a test's failing run is kept in the same folder each time, which no link l
   assert.throws(() => keptFolder(module, "one"), /isn't a folder of this user: `out` can name another one$/);
 });
 
-test("assertAgents fails with RunFailed, in any test", async (the) => {
+test("assertAgents fails with RunFailed, in any test", onLinux, async (the) => {
   const out = join(temporaryFolder(the), "out");
   const options = { module: "./agents/cases.mjs", agents: 2, buffers: [12], everywhere: true, sabsim: false, out };
   await assertAgents({ ...options, args: ["addition"], seeds: 5 });

@@ -10,6 +10,7 @@ import { compileFunction } from "node:vm";
 import { firstWorkers } from "../lib/processes/first-workers.cjs";
 import { Thread, beginThreads, begunThread } from "../lib/processes/thread.mjs";
 import { temporaryFolder } from "./helpers/common.mjs";
+import { withShell } from "./helpers/needs.mjs";
 
 /**
  * A thread that runs some code, in which `port` is where its messages go.
@@ -83,9 +84,9 @@ test("a message that other code sends by the worker's port is ignored", async (c
   assert.deepEqual([first, Object.keys(second)], [{ message: "true" }, ["ended"]]);
 });
 
-test("`stop` waits for a thread in native code no longer than its limit", async (context) => {
+test("`stop` waits for a thread in native code no longer than its limit", withShell, async (context) => {
   const mark = join(temporaryFolder(context), "mark");
-  const thread = threadOf(context, `execSync("touch ${mark}; sleep 2");`);
+  const thread = threadOf(context, `execSync("touch '${mark}'; sleep 2");`);
   while (!existsSync(mark)) await sleep(10);
   const begun = performance.now();
   assert.equal(await thread.stop(100), false);

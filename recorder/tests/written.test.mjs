@@ -13,10 +13,11 @@ import { Run } from "../page/model.mjs";
 import { KINDS } from "../script/kinds.mjs";
 import { elementText, storedBytes } from "../script/values.mjs";
 import { labelOf, writtenText, writtenView } from "../script/written.mjs";
+import { record } from "../recorder.mjs";
 import { assertAgents } from "../testing.mjs";
 import { commandHere } from "./helpers/command-here.mjs";
 import { RECORD, agentsPath, temporaryFolder } from "./helpers/common.mjs";
-import { CHECKING, withShell } from "./helpers/needs.mjs";
+import { CHECKER, CHECKING, withShell } from "./helpers/needs.mjs";
 import { recorded } from "./helpers/recorded.mjs";
 import { simulated } from "./helpers/simulate.mjs";
 import { whereNodeHasIt } from "./helpers/where-node-has-it.mjs";
@@ -287,6 +288,23 @@ withFloat16("a Float16Array is watched, and the script has the bits", async (con
     `load(Int32, 0) = ${0x3e003400}`,
     "the end: finished",
   ]);
+});
+
+withFloat16("so is one of a program", async (context) => {
+  const program = join(temporaryFolder(context), "main.mjs");
+  writeFileSync(program, `
+    import { Worker, isMainThread, workerData } from "node:worker_threads";
+    const buffer = isMainThread ? new SharedArrayBuffer(64) : workerData;
+    if (isMainThread) new Worker(new URL(import.meta.url), { workerData: buffer });
+    const halves = new Float16Array(buffer);
+    if (isMainThread) halves[3] = 0.25;
+    else halves[3] += 1;
+  `);
+  const { ending, script, races } = await record({ program, sabsim: CHECKER, everywhere: true });
+  assert.equal(ending, "race");
+  const { views } = JSON.parse(script);
+  assert.ok(views.some(({ name, kind }) => name === "ordinary_Float16_b0" && kind === "Uint16"), script);
+  for (const { sides } of races) for (const { element } of sides) assert.equal(element, "Float16_b0[3]");
 });
 
 /** The data of a kept page. @param {string} path */

@@ -60,6 +60,8 @@ declare namespace NodeJS {
     uptime(): number;
     cwd(): string;
     kill(id: number, signal: Signals): true;
+    /** Windows lacks it. */
+    getuid?(): number;
     /** Only the process of a job, and others that were forked, have it. */
     send?(message: unknown, done?: () => void): boolean;
     readonly connected?: boolean;
@@ -87,7 +89,7 @@ declare module "node:inspector" {
 
 declare class Buffer extends Uint8Array {
   static alloc(bytes: number): Buffer;
-  static concat(parts: Uint8Array[]): Buffer;
+  static concat(parts: Uint8Array[], bytes?: number): Buffer;
   static from(memory: ArrayBufferLike, offset?: number, length?: number): Buffer;
   static from(bytes: Uint8Array): Buffer;
   static from(text: string, encoding?: string): Buffer;
@@ -254,7 +256,7 @@ declare module "node:fs" {
   export function openSync(path: string, flags?: string): number;
   export function readFileSync(file: string | URL | number, encoding: "base64" | "latin1" | "utf8"): string;
   export function readFileSync(file: string | URL | number): Buffer;
-  export function readSync(file: number, bytes: Uint8Array, from: number, length: number, at: null): number;
+  export function readSync(file: number, bytes: Uint8Array): number;
   export function readlinkSync(path: string): string;
   export function realpathSync(path: string): string;
   export function renameSync(from: string, to: string): void;
@@ -284,18 +286,25 @@ declare module "node:os" {
   export function availableParallelism(): number;
   export function cpus(): { times: { idle: number } }[];
   export function tmpdir(): string;
-  export function userInfo(): { uid: number };
   export const constants: { readonly signals: Record<NodeJS.Signals, number> };
 }
 
 declare module "node:path" {
-  export const posix: { dirname(path: string): string; relative(from: string, to: string): string };
+  /** The functions for the paths of one kind of system. */
+  export interface PlatformPath {
+    dirname(path: string): string;
+    isAbsolute(path: string): boolean;
+    relative(from: string, to: string): string;
+    resolve(...parts: string[]): string;
+    readonly sep: string;
+  }
+  export const posix: PlatformPath;
+  export const win32: PlatformPath;
   export function basename(path: string): string;
   export function dirname(path: string): string;
   export function extname(path: string): string;
   export function isAbsolute(path: string): boolean;
   export function join(...parts: string[]): string;
-  export function relative(from: string, to: string): string;
   export function resolve(...parts: string[]): string;
   export const sep: string;
 }
@@ -337,8 +346,12 @@ declare module "node:timers/promises" {
 }
 
 declare module "node:url" {
-  export function fileURLToPath(url: string | URL): string;
-  export function pathToFileURL(path: string): URL;
+  /** Whose paths are meant; the running system's if it isn't given. */
+  interface System {
+    windows?: boolean;
+  }
+  export function fileURLToPath(url: string | URL, system?: System): string;
+  export function pathToFileURL(path: string, system?: System): URL;
 }
 
 declare module "node:util" {

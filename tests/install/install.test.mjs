@@ -15,6 +15,7 @@ import { NODES, PROJECT, TOP, environment, filesOf, packed, pathOf, projectWith,
 const ENGINE = pathOf("../../recorder/tests/engine/main.mjs");
 const FILES = readFileSync(pathOf("files.txt"), "utf8").trimEnd().split("\n");
 const MACHINE = `${process.platform}-${process.arch}`;
+const EXAMPLES = join(TOP, "crates/check_scripts/data/examples");
 const PROGRAM_FILES = [`program/${MACHINE}/sabsim`, `program/${MACHINE}/sabsim.txt`];
 
 const withCompiler = needing("tsc", spawnSync("tsc", ["--version"]).status === 0);
@@ -192,12 +193,11 @@ test("in an empty folder README's first command checks every run, and keeps expl
 });
 
 test("without a program `npx sabsim replay` of every example gives its report", () => {
-  const folder = join(TOP, "examples");
-  const names = readdirSync(folder).filter((name) => name.endsWith(".json"));
+  const names = readdirSync(EXAMPLES).filter((name) => name.endsWith(".json"));
   assert.ok(names.length > 5);
   for (const name of names) {
-    const output = readFileSync(join(folder, name.replace(/json$/, "report")), "utf8");
-    const replay = npx(project, ["sabsim", "replay", join(folder, name)]);
+    const output = readFileSync(join(EXAMPLES, name.replace(/json$/, "report")), "utf8");
+    const replay = npx(project, ["sabsim", "replay", join(EXAMPLES, name)]);
     assert.deepEqual(replay, { status: 0, signal: null, output, errors: "" });
   }
 });
@@ -211,8 +211,8 @@ test("the module's version says what the proof doesn't cover", () => {
 });
 
 test("without a program the module does what sabsim does, except races", () => {
-  const script = readFileSync(join(TOP, "examples/lost-wake-up.json"), "utf8");
-  const report = readFileSync(join(TOP, "examples/lost-wake-up.explained"), "utf8");
+  const script = readFileSync(join(EXAMPLES, "lost-wake-up.json"), "utf8");
+  const report = readFileSync(join(EXAMPLES, "lost-wake-up.explained"), "utf8");
   const words = ["sabsim", "replay", "--format", "explained"];
   assert.deepEqual(npx(project, words, script), { status: 0, signal: null, output: report, errors: "" });
   const refused = { status: 1, signal: null, output: "", errors: "sabsim: 10 BadShape\n" };

@@ -9,6 +9,7 @@ import {
 import { availableParallelism } from "node:os";
 import { join } from "node:path";
 import { test } from "node:test";
+import { needing } from "../../recorder/tests/helpers/needs.mjs";
 import { NODES, PROJECT, TOOLS, TOP, packed, projectWith, room, runOf } from "./installed.mjs";
 
 const RUNNERS = join(TOOLS, "runners/usr/share/nodejs");
@@ -146,9 +147,9 @@ function foldersOfForms() {
 
 const folders = isThere ? foldersOfForms() : [];
 
-for (const { name, command, skip: without } of NODES) {
-  const skip = isThere ? without : "tools/fetch hasn't fetched the runners";
-  test(`the package in test runners, with ${name}`, { skip, concurrency: availableParallelism() }, async (the) => {
+for (const { name, command, needs } of NODES) {
+  const how = { ...(isThere ? needs : needing("runners by tools/fetch", false)), concurrency: availableParallelism() };
+  test(`the package in test runners, with ${name}`, how, async (the) => {
     await Promise.all(FORMS.map((form, at) => the.test(form.name, async () => {
       const right = await resultOf(form, folders[at], command, "right");
       assert.equal(right.status, 0, right.text);

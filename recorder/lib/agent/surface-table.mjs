@@ -1,6 +1,8 @@
 // What an engine and node have for shared memory, threads and time, and all globals: what becomes of each in a module
-// of agents. Nowhere else versions of node are compared for such a module. A test looks on each version whether
-// something has no row.
+// of agents. `node-versions.mjs` says which of them node 20 lacks. A test looks on each version whether something has
+// no row.
+
+import { missingNames } from "../processes/node-versions.mjs";
 
 /**
  * What becomes of a name:
@@ -130,41 +132,12 @@ export const SURFACE = Object.freeze({
   },
 });
 
-/**
- * What node 20 lacks, by the version from which node has it. A name without an owner is a global.
- * @type {Readonly<Record<string, string>>}
- */
-const SINCE = Object.freeze({
-  "21.0": `navigator Navigator navigator.constructor navigator.hardwareConcurrency navigator.language navigator.languages
-    navigator.platform navigator.userAgent ArrayBuffer.prototype.detached ArrayBuffer.prototype.transfer
-    ArrayBuffer.prototype.transferToFixedLength worker_threads.isMarkedAsUntransferable`,
-  "22.0": "Iterator WebSocket Promise.withResolvers",
-  "23.0": "CloseEvent Promise.try worker_threads.markAsUncloneable",
-  "23.7": "worker_threads.isInternalThread",
-  "24.0": `Float16Array DataView.prototype.getFloat16 DataView.prototype.setFloat16 Atomics.pause DisposableStack
-    AsyncDisposableStack SuppressedError URLPattern Worker.prototype.getHeapStatistics`,
-  "24.5": "worker_threads.locks navigator.locks",
-  "24.6": "worker_threads.threadName Worker.prototype.threadName Worker.prototype.cpuUsage",
-  "24.8": "Worker.prototype.startCpuProfile",
-  "24.9": "Worker.prototype.startHeapProfile",
-  "24.22": `WebAssembly.JSTag WebAssembly.promising WebAssembly.SuspendError WebAssembly.Suspending perf_hooks.timerify
-    perf_hooks.eventLoopUtilization perf_hooks.createSlidingWindowHistogram perf_hooks.importHistogram`,
-});
-
-/** @param {string} version @returns {number} a greater one for a later version */
-function orderOf(version) {
-  const [major, minor] = version.split(".").map(Number);
-  return major * 1_000 + minor;
-}
-
 /** @param {string} names @returns {string[]} */
 const listed = (names) => names.trim().split(/\s+/);
 
 /** @returns {string[]} all names that this version of node has, each with its owner if that isn't the global object */
 export function namesHere() {
-  const here = orderOf(process.versions.node);
-  const later = Object.keys(SINCE).filter((version) => orderOf(version) > here);
-  const missing = later.flatMap((version) => listed(SINCE[version]));
+  const missing = missingNames();
   const all = Object.entries(SURFACE).flatMap(([owner, kinds]) => {
     const start = owner === "globalThis" ? "" : `${owner}.`;
     return Object.values(kinds).flatMap(listed).map((name) => `${start}${name}`);

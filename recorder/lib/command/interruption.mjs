@@ -1,8 +1,13 @@
 // A signal that ends the recorder: what was found until then is reported first.
 
+import { constants } from "node:os";
 import { setImmediate as turn } from "node:timers/promises";
+import { HERE } from "../processes/platform.cjs";
 
 const SIGNALS = ["SIGINT", "SIGTERM"];
+
+/** A shell adds this to a signal's number. */
+const SHELLS_SIGNAL = 128;
 
 /** The process was asked to end. */
 export class Interrupted extends Error {
@@ -47,11 +52,13 @@ export class Interruption {
 }
 
 /**
- * Ends the process as a signal ends it.
+ * Ends the process as a signal ends it. Windows has no signals: there the status is the one that shells report.
  * @param {NodeJS.Signals} signal that nothing listens to
+ * @param {import("../processes/platform.cjs").Platform} platform
  * @returns {Promise<never>}
  */
-export function endBy(signal) {
+export function endBy(signal, { hasSignals } = HERE) {
+  if (!hasSignals) process.exit(SHELLS_SIGNAL + constants.signals[signal]);
   process.kill(process.pid, signal);
   // Until it arrives.
   return new Promise(() => {

@@ -2,6 +2,7 @@
 
 import { readFileSync } from "node:fs";
 import { Refused } from "../options/refused.mjs";
+import { readAll } from "../processes/read-all.mjs";
 import { united, without } from "../seeds/ranges.mjs";
 import { differenceOf } from "./asked.mjs";
 import { FORM, whyNoSummary } from "./summary-form.mjs";
@@ -37,7 +38,7 @@ export function partsOf(file) {
 /** @param {string} file @param {string} name */
 function textOf(file, name) {
   try {
-    return readFileSync(file === STANDARD_INPUT ? STANDARD_INPUT_FILE : file, "utf8");
+    return file === STANDARD_INPUT ? readAll(STANDARD_INPUT_FILE).toString("utf8") : readFileSync(file, "utf8");
   } catch (error) {
     throw new Refused(`${name} can't be read: ${/** @type {Error} */ (error).message}`);
   }

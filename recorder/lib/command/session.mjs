@@ -87,7 +87,7 @@ export class Session {
 
   /** Notes whether programs were tried on this node. */
   async #noteNode() {
-    const { untriedVersion } = await import("../program/node-versions.mjs");
+    const { untriedVersion } = await import("../processes/node-versions.mjs");
     const version = untriedVersion();
     if (version !== undefined) this.summary.untriedNodes.add(version);
   }

@@ -2,9 +2,9 @@
 // again.
 
 import { existsSync, readFileSync } from "node:fs";
-import { relative, resolve } from "node:path";
 import { fileURLToPath } from "node:url";
 import { OPTIONS, wordOf } from "../options/table.mjs";
+import { HERE } from "../processes/platform.cjs";
 
 /** @typedef {import("../../page/run-data.mjs").About} About */
 /** @typedef {import("../../page/run-data.mjs").Command} Command */
@@ -17,23 +17,23 @@ function version() {
   return existsSync(PACKAGE) ? `sabsim ${JSON.parse(readFileSync(PACKAGE, "utf8")).version}` : "sabsim";
 }
 
-/**
- * A word as a shell takes it.
- * @param {string} word
- * @returns {string}
- */
-export const quoted = (word) => (/^[\w@%+=:,./-]+$/.test(word) ? word : `'${word.replaceAll("'", "'\\''")}'`);
+/** A word as this system's shell takes it. */
+export const { quoted } = HERE;
 
 /**
- * A path as seen from the working directory, unless the two share only the root.
+ * A path as seen from the working directory, unless the two share only the root. Its parts are parted by `/`, which
+ * each system takes.
  * @param {string} path
+ * @param {string} [folder] the working directory
+ * @param {import("../processes/platform.cjs").Platform} platform
  * @returns {string}
  */
-export function shortPath(path) {
-  const short = relative("", path);
-  const up = short.split(/[\\/]/).filter((part) => part === "..").length;
-  const depth = process.cwd().split(/[\\/]/).filter((part) => part !== "").length;
-  return short === "" || (up > 0 && up >= depth) ? resolve(path) : short;
+export function shortPath(path, folder = process.cwd(), { path: { isAbsolute, relative, resolve, sep } } = HERE) {
+  const short = relative(folder, path);
+  const up = short.split(sep).filter((part) => part === "..").length;
+  const depth = folder.split(sep).filter((part) => part !== "").length;
+  const isFar = short === "" || isAbsolute(short) || (up > 0 && up >= depth);
+  return (isFar ? resolve(folder, path) : short).replaceAll(sep, "/");
 }
 
 /**
@@ -59,7 +59,7 @@ export function optionsText(options) {
   });
   const { args = [] } = /** @type {{ args?: string[] }} */ (given);
   const words = names.flatMap(([name, { word = name }]) => wordsOf(word, given[name]));
-  return [...words, ...(args.length === 0 ? [] : ["--", ...args.map(quoted)])].join(" ");
+  return [...words, ...(args.length === 0 ? [] : ["--", ...args].map(quoted))].join(" ");
 }
 
 /**

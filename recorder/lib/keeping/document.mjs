@@ -24,8 +24,14 @@ export function builtSimulator() {
   return { loader, module: readFileSync(module, "base64") };
 }
 
+/**
+ * Parsers of HTML make one line feed of a carriage return and a line feed before a browser makes its digests.
+ * @param {string} text
+ */
+const withLineFeeds = (text) => text.replaceAll("\r\n", "\n");
+
 /** @param {string} name @returns {string} */
-const partOf = (name) => readFileSync(new URL(name, PAGES), "utf8");
+const partOf = (name) => withLineFeeds(readFileSync(new URL(name, PAGES), "utf8"));
 
 /** @param {string} text */
 const escaped = (text) => text.replace(/[&<>"']/g, (sign) => `&#${sign.charCodeAt(0)};`);
@@ -44,7 +50,7 @@ const digestOf = (text) => `'sha256-${createHash("sha256").update(text).digest("
 function codeOf(name, loader) {
   const modules = [new URL(`${name}.mjs`, PAGES), ...(loader === undefined ? [] : [loader])];
   const { code, names: [page, simulator] } = bundleOf(modules);
-  return `${code}\n${page}.openPage(${simulator === undefined ? "" : `${simulator}.Simulator`});\n`;
+  return withLineFeeds(`${code}\n${page}.openPage(${simulator === undefined ? "" : `${simulator}.Simulator`});\n`);
 }
 
 /**

@@ -24,10 +24,10 @@ export function replayCommand(options) {
   const { module, args } = options;
   const others = Object.entries(OPTIONS).filter(([name, { isReplayed, ifNone }]) =>
     isReplayed && ![undefined, ifNone].includes(/** @type {any} */ (options[name])));
-  const words = others.map(([name]) => ` --${wordOf(name)} ${options[name]}`);
+  const words = others.map(([name]) => ` --${wordOf(name)} ${quoted(`${options[name]}`)}`);
   return {
     options: `${programWords()} ${quoted(module)}${words.join("")}`,
-    args: args.length === 0 ? "" : ` -- ${args.map(quoted).join(" ")}`,
+    args: args.length === 0 ? "" : ` ${["--", ...args].map(quoted).join(" ")}`,
   };
 }
 

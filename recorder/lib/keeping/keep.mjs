@@ -2,9 +2,11 @@
 
 import { randomBytes } from "node:crypto";
 import { closeSync, existsSync, mkdirSync, openSync, renameSync, rmSync, writeFileSync } from "node:fs";
-import { dirname, join, resolve } from "node:path";
+import { join, resolve } from "node:path";
 import { Refused } from "../options/refused.mjs";
+import { HERE } from "../processes/platform.cjs";
 import { comesBefore } from "../run/order.mjs";
+import { onceFree } from "./once-free.mjs";
 
 /**
  * @typedef {object} Kept
@@ -37,11 +39,14 @@ export function missingFiles({ seed, script, noScript, trace, noTrace }) {
  * Makes a folder, and those above it. Node's own way never ends if the folder above exists and no folder can be made in
  * it, as in /proc.
  * @param {string} path
+ * @param {import("../processes/platform.cjs").Platform} [platform]
  * @throws {Error} if it can't be made
  */
-function makeFolder(path) {
+export function makeFolder(path, platform = HERE) {
   if (existsSync(path)) return;
-  makeFolder(dirname(path));
+  const above = platform.path.dirname(path);
+  // The folder above a drive that isn't there is that drive itself.
+  if (above !== path) makeFolder(above, platform);
   try {
     mkdirSync(path);
   } catch (error) {
@@ -143,7 +148,8 @@ export class Keeper {
     let aside;
     try {
       aside = this.#writeAside(name, text);
-      renameSync(aside, path);
+      const from = aside;
+      onceFree(() => renameSync(from, path));
     } catch (error) {
       if (aside !== undefined) rmSync(aside, { force: true });
       const there = this.names.length === 0 ? "nothing" : this.names.join(", ");
@@ -157,7 +163,7 @@ export class Keeper {
     for (const name of names) {
       const path = join(this.folder, name);
       try {
-        rmSync(path, { force: true });
+        onceFree(() => rmSync(path, { force: true }));
       } catch (error) {
         throw new NotKept(`${path} can't be removed: ${messageOf(error)}`);
       }

@@ -2,12 +2,13 @@
 // seed, and says which thread moved with each draw. A script doesn't have the turns of event loops.
 
 import { createHash } from "node:crypto";
-import { isAbsolute, relative, resolve } from "node:path";
+import { resolve } from "node:path";
 import { fileURLToPath, pathToFileURL } from "node:url";
 import { SCRIPT_LIMITS } from "../../script/limits.mjs";
 import { MOST_DRAWS, moverOf } from "../board/row.mjs";
 import { Refused } from "../options/refused.mjs";
 import { optionsOf } from "../options/table.mjs";
+import { HERE } from "../processes/platform.cjs";
 import { Windows } from "../run/windows.mjs";
 import { rowOf, stretchesOf } from "../shorter/stretches.mjs";
 import { PROGRAM_ENDING } from "./keep.mjs";
@@ -59,7 +60,7 @@ function textOf({ seed, row, script, windows }, options, folder) {
   const given = RULES.filter(([name, { ifNone }]) =>
     ![undefined, ifNone].includes(/** @type {any} */ (options)[name]));
   const members = {
-    program: relative(resolve(folder), fileURLToPath(options.module)), args: options.args, seed,
+    program: pathFrom(resolve(folder), fileURLToPath(options.module)), args: options.args, seed,
     options: Object.fromEntries(given.map(([name]) => [name, /** @type {any} */ (options)[name]])),
     row: stretchesOf(row).map(({ agent, draws }) => [agent, draws]),
     ...(script === undefined ? {} : { script: { file: script, row: digestOf(row), ...memoryOf(windows) } }),
@@ -67,6 +68,15 @@ function textOf({ seed, row, script, windows }, options, folder) {
   const lines = Object.entries(members).map(([name, value]) => `  ${JSON.stringify(name)}: ${JSON.stringify(value)}`);
   return `{\n${lines.join(",\n")}\n}\n`;
 }
+
+/**
+ * A file's path from a folder. Its parts are parted by `/`, so that each system reads it.
+ * @param {string} folder
+ * @param {string} file
+ * @param {import("../processes/platform.cjs").Platform} platform
+ * @returns {string}
+ */
+export const pathFrom = (folder, file, { path } = HERE) => path.relative(folder, file).replaceAll(path.sep, "/");
 
 /** @param {Outcome["windows"]} windows @returns {{ windows?: number[][] }} */
 const memoryOf = (windows) => (windows === undefined ? {} : {
@@ -169,8 +179,14 @@ export function keptProgram(text, file) {
   };
 }
 
-/** @param {string} file @param {string} path from that file's folder @returns {string} */
-const besides = (file, path) => (isAbsolute(path) ? path : resolve(file, "..", path));
+/**
+ * @param {string} file
+ * @param {string} path from that file's folder
+ * @param {import("../processes/platform.cjs").Platform} platform
+ * @returns {string}
+ */
+export const besides = (file, path, { path: system } = HERE) =>
+  (system.isAbsolute(path) ? path : system.resolve(file, "..", path));
 
 /** @param {string} path @returns {string} */
 export const urlOf = (path) => pathToFileURL(path).href;

@@ -5,7 +5,7 @@ import process from "node:process";
 import { described } from "../agent/described.mjs";
 import { PHASE } from "../memory/layout.mjs";
 import { leaveContexts, serializeError } from "./internals.mjs";
-import { doesOtherwise } from "./node-versions.mjs";
+import { doesOtherwise } from "../processes/node-versions.mjs";
 import { KIND } from "./ports.mjs";
 
 /** The exit code of a thread whose module is still being evaluated when nothing keeps it alive. */

@@ -1,13 +1,20 @@
 // What the recorder uses of node's inside: all of it is here, with what is needed of it. Only threads with the flags of
 // `graph-flags.cjs` have it. If this node lacks something, no thread of a program begins, and the error names all of it.
 
+import fs from "node:fs";
 import { createRequire } from "node:module";
 import process from "node:process";
+import { fileURLToPath } from "node:url";
 import { types } from "node:util";
+import { apply } from "../primordials.mjs";
 import { REFUSED } from "../options/refused.mjs";
-import { TRIED } from "./node-versions.mjs";
+import { TRIED } from "../processes/node-versions.mjs";
 
 const required = createRequire(import.meta.url);
+const { readFileSync, statSync } = /** @type {any} */ (fs);
+
+/** The URL of a file whose text is a script or a module. */
+const SCRIPT = /^file:.*\.[cm]?js$/;
 
 /** @type {string[]} what this node lacks */
 const lacking = [];
@@ -133,11 +140,40 @@ function tickCallback() {
  */
 export const resolveModule = (specifier, parentURL) => defaultResolve(specifier, { parentURL }).url;
 
+/** @param {string} url @param {string | undefined} format @returns {string | undefined} undefined: node reads it itself */
+function textOf(url, format) {
+  // A module of CommonJS is read by what runs it.
+  if (format === "commonjs") return "";
+  return SCRIPT.test(url) ? readFileSync(fileURLToPath(url), "utf8").replace(/^\uFEFF/, "") : undefined;
+}
+
 /** @param {string} url @param {Asked} [asked] @returns {Read} */
 function readAtOnce(url, asked) {
-  const found = defaultLoadSync(url, { ...asked });
-  // A module of CommonJS is read by what runs it.
+  const found = defaultLoadSync(url, { ...asked, source: textOf(url, asked?.format) });
   return found.format === "commonjs" ? { ...found, source: null } : found;
+}
+
+/** So many are remembered: some programs make other URLs in each run. */
+const MOST_FILES = 1_000;
+
+/** @type {Map<string, { found: { url: string }, file: string }>} the files that modules import, by module and specifier */
+const files = new Map();
+
+/**
+ * Has a loader find a file where it was found before in this thread, as long as it is there: to find it takes long.
+ * @param {any} loader
+ */
+function rememberFiles(loader) {
+  const find = loader.defaultResolve;
+  loader.defaultResolve = (/** @type {string} */ specifier, /** @type {string} */ parent, /** @type {object} */ given) => {
+    const key = `${parent} ${specifier}`;
+    const known = files.get(key);
+    if (known !== undefined && statSync(known.file, { throwIfNoEntry: false })?.isFile()) return known.found;
+    const found = apply(find, loader, [specifier, parent, given]);
+    if (files.size === MOST_FILES) files.clear();
+    if (found.url.startsWith("file:")) files.set(key, { found, file: fileURLToPath(found.url) });
+    return found;
+  };
 }
 
 /**
@@ -149,6 +185,7 @@ export function freshLoader() {
   loaders.getOrInitializeCascadedLoader = () => loader;
   // A later node reads at once by itself.
   if (!types.isAsyncFunction(loader.load)) return { loader, read: (url, asked) => loader.load(url, asked) };
+  rememberFiles(loader);
   loader.load = async (/** @type {string} */ url, /** @type {Asked} */ asked) => readAtOnce(url, asked);
   return { loader, read: readAtOnce };
 }

@@ -15,7 +15,8 @@ export const isDropped = ({ callback }) => typeof callback === "function" && wea
 /** @param {() => boolean} isPlaying whether the thread's code has a part in a run */
 export function installMicrotasks(isPlaying) {
   member(globalThis, "queueMicrotask", likeEngine((/** @type {any[]} */ ...given) => {
-    const [act] = given;
+    // A program may have replaced iterators, so the list isn't taken apart.
+    const act = given[0];
     // Node throws its error.
     if (typeof act !== "function") return apply(engine, undefined, given);
     const call = () => {

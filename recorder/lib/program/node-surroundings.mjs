@@ -2,12 +2,13 @@
 // The file `web/surroundings.mjs` has the same for a program of browsers.
 
 import process from "node:process";
+import { HERE } from "../processes/platform.cjs";
 import { broadcastClass } from "./broadcast.mjs";
 import { Ends } from "./ends.mjs";
 import { installThreads } from "./install.mjs";
 import { PortEvents, servePorts } from "./port-events.mjs";
 import { KIND, channelClass } from "./ports.mjs";
-import { envOf } from "./process-env.mjs";
+import { envOf, ignoringCase } from "./process-env.mjs";
 import { ProgramModules } from "./program-modules.mjs";
 import { receiverOf } from "./receiving.mjs";
 import { argvOf, evaluated } from "./start.mjs";
@@ -43,7 +44,8 @@ function begin(parts, start, parentPort) {
   const { agent } = moves;
   /** @type {any} */
   const { workerData, environment } = ports.unpacked({ workerData: start.workerData, environment: start.environment });
-  const env = envOf(start.env, start.sharesEnv, refuse);
+  const values = HERE.ignoresCase && agent === 0 ? ignoringCase(start.env) : start.env;
+  const env = envOf(values, start.sharesEnv, refuse);
   const { threadName } = start;
   installThreads({ agent, workerData, parentPort, argv: argvOf(start), env, environment, threadName }, {
     Worker: workerClass({ ...parts, environment }), MessageChannel: channelClass(ports),

@@ -2,12 +2,40 @@
 // copy each. From then on any change of it ends the run, so the copies stay the same.
 
 import process from "node:process";
-import { defineProperty, deleteProperty, get, hasOwn, proxyOf, set } from "../primordials.mjs";
+import {
+  defineProperty, deleteProperty, get, getOwnPropertyDescriptor, has, hasOwn, ownKeys, proxyOf, set, toUpperCase,
+} from "../primordials.mjs";
 
 /** @typedef {Record<string, string | undefined>} Values */
 
 /** Whether the thread shares its `process.env` with another one. */
 let isShared = false;
+
+/**
+ * The environment of the first thread on Windows ignores the case of names. Those of Workers are copies, and don't.
+ * @param {Values} values
+ * @returns {Values}
+ */
+export function ignoringCase(values) {
+  /** @param {Values} env @param {string | symbol} key @returns {string | symbol} the name that is there for it */
+  const nameOf = (env, key) => {
+    if (typeof key !== "string" || hasOwn(env, key)) return key;
+    const names = ownKeys(env);
+    for (let at = 0; at < names.length; at += 1) {
+      const name = names[at];
+      if (typeof name === "string" && toUpperCase(name) === toUpperCase(key)) return name;
+    }
+    return key;
+  };
+  return proxyOf(values, {
+    get: (env, key) => get(env, nameOf(env, key)),
+    has: (env, key) => has(env, nameOf(env, key)),
+    set: (env, key, value) => set(env, nameOf(env, key), value),
+    deleteProperty: (env, key) => deleteProperty(env, nameOf(env, key)),
+    defineProperty: (env, key, descriptor) => defineProperty(env, nameOf(env, key), descriptor),
+    getOwnPropertyDescriptor: (env, key) => getOwnPropertyDescriptor(env, nameOf(env, key)),
+  });
+}
 
 /**
  * @param {Values} values

@@ -45,6 +45,9 @@ function isOfLoader(url, read) {
 /** Between the folder of a module and what it requires. */
 const BETWEEN = "\0";
 
+/** @param {unknown} request @returns {boolean} whether it is sure to be a builtin's name */
+const isOfNode = (request) => typeof request === "string" && request.startsWith("node:");
+
 /** Thrown where node would look for a file. */
 const NOWHERE = Object.freeze({});
 
@@ -62,7 +65,7 @@ class Places {
     const places = this.#places;
     this.#load = load;
     Modules._load = function (/** @type {any} */ request, /** @type {any} */ parent, /** @type {any[]} */ ...more) {
-      if (parent) places.add(`${parent.path}${BETWEEN}${request}`);
+      if (parent && !isOfNode(request)) places.add(`${parent.path}${BETWEEN}${request}`);
       return apply(load, this, [request, parent, ...more]);
     };
   }
@@ -92,12 +95,15 @@ class Places {
  */
 function requireBuiltins() {
   const translated = translators.get("builtin");
-  translators.set("builtin", function translate(/** @type {any[]} */ ...given) {
-    const [url] = given;
+  /** @this {any} @param {any[]} given */
+  const translate = function translate(...given) {
+    // A program may have replaced iterators, so the list isn't taken apart.
+    const url = given[0];
     required(url);
     loadBuiltinModule(url.slice("node:".length), url).syncExports();
     return apply(translated, this, given);
-  });
+  };
+  translators.set("builtin", translate);
 }
 
 export class ProgramModules {

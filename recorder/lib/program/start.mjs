@@ -1,29 +1,28 @@
 // What a program's thread begins with: the program's main module, or what a Worker was given.
 
-import fs from "node:fs";
 import Module from "node:module";
 import process from "node:process";
 import { fileURLToPath, pathToFileURL } from "node:url";
 import { nodeError } from "./node-error.mjs";
 
-const { statSync: statOf } = /** @type {any} */ (fs);
 /** @type {(path: string, folders: null, isMain: boolean) => string | false} */
 const findPath = /** @type {any} */ (Module)._findPath;
 
 const EVALUATED = "[worker eval]";
 
 /**
- * Node finds the module that a thread begins with as `require` does: its name may be without the ending.
+ * Node finds the module that a thread begins with as `require` does: its name may be without the ending. It goes by the
+ * file itself if a link leads to it.
  * @param {string} url
  * @returns {string} the URL of the file
  */
 function entryOf(url) {
   if (!url.startsWith("file:")) return url;
   const path = fileURLToPath(url);
-  if (statOf(path, { throwIfNoEntry: false })?.isFile()) return url;
   const found = findPath(path, null, true);
   if (found === false) throw nodeError("MODULE_NOT_FOUND", `Cannot find module '${path}'`, { requireStack: [] });
-  return pathToFileURL(found).href;
+  const [rest = ""] = /[?#].*$/.exec(url) ?? [];
+  return `${pathToFileURL(found).href}${rest}`;
 }
 
 /**

@@ -3,9 +3,9 @@
 // ends the run with its name and line. One word stands for a whole module. `node-versions.mjs` adds what later versions
 // have.
 
-import { withLater } from "./node-versions.mjs";
+import { withLater } from "../processes/node-versions.mjs";
 
-/** @typedef {"simulated" | "harmless" | "real" | "refused"} Kind */
+/** @typedef {import("../processes/node-versions.mjs").Kind} Kind */
 /** @typedef {Kind | Partial<Record<Kind, string>>} Row of a module; the names of its exports by kind */
 
 // Modules with an underscore are parts of others.

@@ -162,13 +162,16 @@ export class Timers {
     const { inside: { timerListMap, timerListQueue, immediateQueue }, counts } = this.#node;
     for (const name of Object.keys(timerListMap)) delete timerListMap[name];
     while (timerListQueue.peek() !== undefined) timerListQueue.shift();
-    [immediateQueue.head, immediateQueue.tail] = [null, null];
+    immediateQueue.head = null;
+    immediateQueue.tail = null;
     counts.immediateInfo.fill(0);
     counts.timeoutInfo.fill(0);
     this.#made.clear();
     this.#known.clear();
-    [this.#round, this.#next] = [[], []];
-    [this.#numbers, this.#pass] = [0, 0];
+    this.#round = [];
+    this.#next = [];
+    this.#numbers = 0;
+    this.#pass = 0;
   }
 
   /** Lets node's code go over its timers until one has run, or one that can't run is out of the way. */
@@ -204,11 +207,13 @@ export class Timers {
     const { immediateQueue } = this.#node.inside;
     for (let item = immediateQueue.head; item !== null;) {
       const next = item._idleNext;
-      [item._idlePrev, item._idleNext] = [null, null];
+      item._idlePrev = null;
+      item._idleNext = null;
       this.#next.push(item);
       item = next;
     }
-    [immediateQueue.head, immediateQueue.tail] = [null, null];
+    immediateQueue.head = null;
+    immediateQueue.tail = null;
   }
 
   /** @returns {any[]} node's lists, one for each number of milliseconds */

@@ -4,7 +4,7 @@
 import fs from "node:fs";
 import util from "node:util";
 import { BUFFER_SIZE, FileHandle, engine, isInPieces, takeWatching } from "./file-handle.mjs";
-import { doesOtherwise } from "./node-versions.mjs";
+import { doesOtherwise } from "../processes/node-versions.mjs";
 import { callLater, isThrown, outcomeOf, promiseLater, putTwin, replaceCall } from "./twin-calls.mjs";
 import { apply, defineProperty, getOwnPropertyDescriptor } from "../primordials.mjs";
 
@@ -16,8 +16,8 @@ const enginePromises = { ...files.promises };
 
 const PLAIN = Object.freeze([
   "access", "appendFile", "chmod", "chown", "copyFile", "fchmod", "fchown", "fdatasync", "fstat", "fsync",
-  "ftruncate", "futimes", "lchown", "link", "lutimes", "mkdir", "mkdtemp", "open", "readFile", "readdir", "readlink",
-  "realpath", "rename", "rm", "rmdir", "statfs", "symlink", "truncate", "unlink", "utimes", "writeFile",
+  "ftruncate", "futimes", "lchmod", "lchown", "link", "lutimes", "mkdir", "mkdtemp", "open", "readFile", "readdir",
+  "readlink", "realpath", "rename", "rm", "rmdir", "statfs", "symlink", "truncate", "unlink", "utimes", "writeFile",
 ]);
 const STATS = Object.freeze(["stat", "lstat"]);
 
@@ -59,7 +59,9 @@ function putReads(given) {
 /** @param {Given} given */
 function putCallbacks(given) {
   const { isPlaying = () => true } = given;
-  for (const name of PLAIN) putTwin(given, files, name, engine[`${name}Sync`]);
+  // Only macOS has lchmod.
+  const there = PLAIN.filter((name) => typeof engine[`${name}Sync`] === "function");
+  for (const name of there) putTwin(given, files, name, engine[`${name}Sync`]);
   for (const name of STATS) {
     putTwin(given, files, name, (...all) => statOf(name, all), { answer: always });
   }

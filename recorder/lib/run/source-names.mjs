@@ -1,8 +1,9 @@
 // The names of places in the agents' code, as people read them: by source maps, and as seen from the agents' module.
 
 import { readFileSync } from "node:fs";
-import { posix } from "node:path";
 import { fileURLToPath, pathToFileURL } from "node:url";
+import { HERE } from "../processes/platform.cjs";
+import { realUrl } from "../processes/real-url.mjs";
 import { SourceMaps } from "./source-maps.mjs";
 
 /** @typedef {{ file: string, text: string | null }} SourceText a file's name and its code; null: it can't be read */
@@ -11,9 +12,13 @@ import { SourceMaps } from "./source-maps.mjs";
 const MOST_TEXT = 2 ** 20;
 
 export class SourceNames {
-  /** @param {string} module the URL of the agents' module */
-  constructor(module) {
-    this.module = module;
+  /**
+   * @param {string} module the URL of the agents' module
+   * @param {import("../processes/platform.cjs").Platform} [platform]
+   */
+  constructor(module, platform = HERE) {
+    this.module = realUrl(module);
+    this.platform = platform;
     this.maps = new SourceMaps();
     /** @type {Map<string, string>} the names that were found so far */
     this.names = new Map();
@@ -39,7 +44,7 @@ export class SourceNames {
 
   /** @param {string} text @returns {string} a text in which places of the code are named so */
   withNames(text) {
-    return text.replace(/(?<![\w.])(?:file:\/\/)?\/[^\s:]+:\d+:\d+/g, (source) => this.nameOf(source));
+    return text.replace(this.platform.place, (source) => this.nameOf(source));
   }
 
   /**
@@ -55,7 +60,8 @@ export class SourceNames {
   /** @param {string} source */
   #madeOut(source) {
     const [, file = source, rest = ""] = /^(.*?)((?::\d+){0,2})$/.exec(source) ?? [];
-    const url = file.startsWith("/") ? pathToFileURL(file).href : file;
+    const { path, isWindows } = this.platform;
+    const url = path.isAbsolute(file) ? pathToFileURL(file, { windows: isWindows }).href : file;
     const isFile = url.startsWith("file:");
     const [line = 0, column = 0] = rest.split(":").slice(1).map(Number);
     if (!isFile || line === 0 || column === 0) return `${isFile ? this.#fileName(url, file) : file}${rest}`;
@@ -66,9 +72,17 @@ export class SourceNames {
   /** @param {string} url @param {string} other what it is called if it is no file of this machine */
   #fileName(url, other) {
     const isNear = url.startsWith("file:") && this.module.startsWith("file:");
-    const name = isNear ? posix.relative(posix.dirname(fileURLToPath(this.module)), fileURLToPath(url)) : other;
+    const name = isNear ? this.#nearName(url) : other;
     this.urls.set(name, url);
     return name;
+  }
+
+  /** @param {string} url of a file @returns {string} its path from the module's folder; on another drive the whole path */
+  #nearName(url) {
+    const { path, isWindows } = this.platform;
+    const [from, to] = [this.module, url].map((each) => fileURLToPath(each, { windows: isWindows }));
+    const name = path.relative(path.dirname(from), to);
+    return path.isAbsolute(name) ? to : name.replaceAll(path.sep, "/");
   }
 
   /** @param {string} file its name */

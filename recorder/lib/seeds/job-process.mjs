@@ -2,6 +2,7 @@
 
 import { onceMore, stopGrowth } from "../processes/garbage.mjs";
 import { endGroup } from "../processes/group-end.mjs";
+import { HERE } from "../processes/platform.cjs";
 import { Job } from "./job.mjs";
 import { Outbox } from "./outbox.mjs";
 import { packed } from "./remote-job.mjs";
@@ -26,6 +27,8 @@ async function answerTo(request) {
   return request.shorten && job.shorten(request.shorten, (tried) => outbox.put({ tried }));
 }
 
+// Without a group of its own it gets the signals of the console, too. The process that has started it ends it.
+if (!HERE.hasGroups) process.on("SIGINT", () => {});
 process.on("disconnect", () => endGroup(process.pid));
 if (!process.connected) endGroup(process.pid);
 process.on("message", async (request) => {

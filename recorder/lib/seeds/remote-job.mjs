@@ -3,7 +3,7 @@
 
 import { Difference } from "../check/difference.mjs";
 import { Refused } from "../options/refused.mjs";
-import { endGroup } from "../processes/group-end.mjs";
+import { endGroup, endRest } from "../processes/group-end.mjs";
 import { NoSabsim } from "../simulator/native.mjs";
 import { KeepsGlobals } from "./first-again.mjs";
 
@@ -126,7 +126,7 @@ export class RemoteJob {
     this.child.on("exit", (code, signal) => {
       const message = `a job's process ended by itself (${signal ?? `status ${code}`})`;
       // What it has started may be left.
-      endGroup(this.child.pid);
+      endRest(this.child.pid);
       if (this.child.connected) this.child.once("disconnect", () => lose(message));
       else lose(message);
     });

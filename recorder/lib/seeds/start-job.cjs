@@ -5,6 +5,7 @@
 const { fork } = require("node:child_process");
 const { fileURLToPath, pathToFileURL } = require("node:url");
 const { FIRST_THREADS, firstWorkers } = require("../processes/first-workers.cjs");
+const { HERE } = require("../processes/platform.cjs");
 const { GRAPH_FLAGS } = require("../program/graph-flags.cjs");
 
 const own = pathToFileURL(__filename);
@@ -46,13 +47,16 @@ function jobWords(words) {
 
 /**
  * @param {Known} [known]
- * @returns {import("node:child_process").ChildProcess} which leads a group of processes
+ * @param {import("../processes/platform.cjs").Platform} platform
+ * @returns {import("node:child_process").ChildProcess} which leads a group of processes, where there are groups. On
+ *   Windows a detached process would have no console
  */
-function startJob(known = {}) {
+function startJob(known = {}, { hasGroups } = HERE) {
   const stdio = ["ignore", "inherit", "inherit", "ipc"];
   const execArgv = jobWords(process.execArgv);
   const workers = known.isProgram ? THREADS : [AGENT, String(firstWorkers(known))];
-  return fork(PROGRAM, [MODULE, REFEREE, ...workers], { stdio, execArgv, serialization: "advanced", detached: true, windowsHide: true });
+  const how = { serialization: /** @type {const} */ ("advanced"), detached: hasGroups, windowsHide: true };
+  return fork(PROGRAM, [MODULE, REFEREE, ...workers], { stdio, execArgv, ...how });
 }
 
 module.exports = { jobWords, startJob };

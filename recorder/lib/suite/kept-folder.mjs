@@ -2,7 +2,7 @@
 
 import { createHash } from "node:crypto";
 import { lstatSync, mkdirSync, rmSync } from "node:fs";
-import { tmpdir, userInfo } from "node:os";
+import { tmpdir } from "node:os";
 import { basename, join } from "node:path";
 import { Refused } from "../options/refused.mjs";
 
@@ -15,7 +15,8 @@ const OWN_ALONE = 0o700;
  * @throws {Refused} if its name is taken by something else
  */
 function ownFolder() {
-  const { uid } = userInfo();
+  // Windows has no such numbers; a container may have one without a name.
+  const uid = process.getuid?.() ?? -1;
   const folder = join(tmpdir(), `sabsim-${uid}`);
   mkdirSync(folder, { recursive: true, mode: OWN_ALONE });
   const found = lstatSync(folder);

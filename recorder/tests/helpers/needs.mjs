@@ -3,6 +3,7 @@
 
 import { existsSync } from "node:fs";
 import { resolve } from "node:path";
+import { HERE } from "../../lib/processes/platform.cjs";
 
 /** Where sabsim certainly isn't. */
 export const NOWHERE = "/nowhere/sabsim";
@@ -39,3 +40,15 @@ export const onLinux = needing("/proc", existsSync("/proc/self/environ"));
 
 /** For tests that start a shell, or a script for one. */
 export const withShell = needing("POSIX shell", existsSync("/bin/sh"));
+
+/** For tests of processes that a signal ends. */
+export const withSignals = needing("signals", HERE.hasSignals);
+
+/** For tests that make links: Windows asks for a right to do so. */
+export const withLinks = needing("links", !HERE.isWindows);
+
+/** For tests of what the paths of Windows can't name. */
+export const withPosixPaths = needing("POSIX paths", !HERE.isWindows);
+
+/** For tests with files of POSIX that are none, as /dev/null. */
+export const withDevices = needing("files of devices", existsSync("/dev/full") && existsSync("/dev/zero"));

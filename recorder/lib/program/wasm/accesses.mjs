@@ -5,7 +5,7 @@ import { KINDS, SIZES } from "../../../script/kinds.mjs";
 import { compiled } from "../../agent/frames.mjs";
 import { DATA_VIEW } from "../../agent/ordinary/watched.mjs";
 import { sharedLengthOf } from "../../primordials.mjs";
-import { doesOtherwise } from "../node-versions.mjs";
+import { doesOtherwise } from "../../processes/node-versions.mjs";
 import { atomicFunctions } from "./atomics.mjs";
 import { PAGE } from "./slots.mjs";
 

@@ -60,7 +60,7 @@ export function resolved(specifier, parent) {
   if (!url.startsWith("file:")) return url;
   const file = fileURLToPath(url);
   const found = statSync(file, { throwIfNoEntry: false });
-  if (found === undefined || file.endsWith("/")) {
+  if (found === undefined || /^[^?#]*\/(?:[?#]|$)/.test(url)) {
     const text = `Cannot find module '${file}' imported from ${shown(parent)}`;
     throw nodeError("ERR_MODULE_NOT_FOUND", text, { url });
   }

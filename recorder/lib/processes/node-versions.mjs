@@ -1,9 +1,10 @@
-// What later versions of node have besides what `surface-table.mjs` has of node 20. Nothing else compares versions of
-// node. The first of the versions that were tried with a name is given; versions between them weren't tried.
+// What differs between versions of node. Nothing else compares versions. `LATER` has what later ones have for programs
+// besides what `surface-table.mjs` in `lib/program` has of node 20: the first of the tried versions with a name is
+// given. `SINCE` has which names of the table in `lib/agent` node 20 lacks.
 
 import process from "node:process";
 
-/** @typedef {import("./surface-table.mjs").Kind} Kind */
+/** @typedef {"simulated" | "harmless" | "real" | "refused"} Kind what becomes of an export of node's in a program */
 /** @typedef {Partial<Record<Kind, string>>} Names of exports, by kind */
 
 /**
@@ -122,4 +123,39 @@ function withNames(first, more) {
   const names = { ...first };
   for (const kind of /** @type {Kind[]} */ (Object.keys(more))) names[kind] = `${names[kind] ?? ""} ${more[kind]}`;
   return names;
+}
+
+/**
+ * What node 20 lacks of shared memory, threads, time and globals, by the version from which node has it. A name without
+ * an owner is a global.
+ * @type {Readonly<Record<string, string>>}
+ */
+const SINCE = Object.freeze({
+  "21.0": `navigator Navigator navigator.constructor navigator.hardwareConcurrency navigator.language navigator.languages
+    navigator.platform navigator.userAgent ArrayBuffer.prototype.detached ArrayBuffer.prototype.transfer
+    ArrayBuffer.prototype.transferToFixedLength worker_threads.isMarkedAsUntransferable`,
+  "22.0": "Iterator WebSocket Promise.withResolvers",
+  "23.0": "CloseEvent Promise.try worker_threads.markAsUncloneable",
+  "23.7": "worker_threads.isInternalThread",
+  "24.0": `Float16Array DataView.prototype.getFloat16 DataView.prototype.setFloat16 Atomics.pause DisposableStack
+    AsyncDisposableStack SuppressedError URLPattern Worker.prototype.getHeapStatistics`,
+  "24.5": "worker_threads.locks navigator.locks",
+  "24.6": "worker_threads.threadName Worker.prototype.threadName Worker.prototype.cpuUsage",
+  "24.8": "Worker.prototype.startCpuProfile",
+  "24.9": "Worker.prototype.startHeapProfile",
+  "24.22": `WebAssembly.JSTag WebAssembly.promising WebAssembly.SuspendError WebAssembly.Suspending perf_hooks.timerify
+    perf_hooks.eventLoopUtilization perf_hooks.createSlidingWindowHistogram perf_hooks.importHistogram`,
+});
+
+/** @param {string} version @returns {number} a greater one for a later version */
+function orderOf(version) {
+  const [major, minor] = version.split(".").map(Number);
+  return major * 1_000 + minor;
+}
+
+/** @returns {string[]} the names of `SINCE` that this node lacks */
+export function missingNames() {
+  const here = orderOf(process.versions.node);
+  const later = Object.keys(SINCE).filter((version) => orderOf(version) > here);
+  return later.flatMap((version) => SINCE[version].trim().split(/\s+/));
 }
