@@ -14,6 +14,7 @@ import { CHECKING } from "./helpers/needs.mjs";
 import { recorded } from "./helpers/recorded.mjs";
 import { slowRaces } from "./helpers/second-detector.mjs";
 
+const RING = fileURLToPath(new URL("../examples/ring-frees-first.agents.mjs", import.meta.url));
 const knownPath = (name) => fileURLToPath(new URL(`./known/${name}.mjs`, import.meta.url));
 const MEMBERS = [
   "event", "agent", "call", "does", "block", "byte", "size", "read", "write", "atomic", "waiters", "source",
@@ -55,7 +56,7 @@ describe("traces", { concurrency: 2 }, () => {
   it("beside the script of a racing run lies its trace, in which the same races are found", async (context) => {
     const out = temporaryFolder(context);
     const fewWorkers = ["--agents", "2", "--everywhere", "--jobs", "1"];
-    const words = [knownPath("ring-frees-first"), "--seeds", "1..40", "--out", out, ...fewWorkers, ...CHECKING];
+    const words = [RING, "--seeds", "1..40", "--out", out, ...fewWorkers, ...CHECKING];
     const { status, stdout } = await ran(words);
     assert.equal(status, 1);
     const [, seed] = /^first failing seed: (\d+), race$/m.exec(stdout) ?? assert.fail(stdout);
