@@ -19,7 +19,7 @@ const PYTHON = spawnSync("python3", ["-c", "import sys; print(sys.executable)"],
 const APT_GET = `#!/bin/sh
 echo "$*" >> "$CALLS"
 case "$*" in
-*indextargets*) echo 'http://mirror/debian/ bookworm main'; echo 'http://elsewhere/other nodistro main' ;;
+*indextargets*--no-release-info*) echo 'http://mirror/debian/ bookworm main'; echo 'http://elsewhere/other nodistro main' ;;
 *--print-uris*) echo "'http://mirror/a.deb' node-typescript_1%3a\${VERSION}_all.deb 100 SHA256:00"
     echo "'http://mirror/b.deb' libc6_2.0_amd64.deb 100 SHA256:00" ;;
 *download*) touch "node-typescript_1%3a\${VERSION}_all.deb" ;;

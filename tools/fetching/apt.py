@@ -38,10 +38,10 @@ def run(words, **how):
 
 
 def debian_sources():
-    """Returns this machine's own sources that are Debian's, as (address, suite, component)."""
+    """Returns this machine's own sources that are Debian's, as (address, suite, component). No list has to be there yet."""
     form = "$(REPO_URI) $(RELEASE) $(COMPONENT)"
-    said, _ = run(["apt-get", "indextargets", "--format", form, "Created-By: Packages"])
-    found = [tuple(line.split()) for line in said.splitlines()]
+    said, _ = run(["apt-get", "indextargets", "--no-release-info", "--format", form, "Created-By: Packages"])
+    found = [tuple(line.split()) for line in dict.fromkeys(said.splitlines())]
     sources = [source for source in found if re.search(r"/debian(-security)?/?$", source[0])]
     if not sources:
         raise NotFetched("apt-get knows no source of Debian's on this machine")
@@ -63,7 +63,7 @@ class Apt:
     def __init__(self, room, suite, is_over):
         self.room = room
         for folder in ("lists/partial", "cache"):
-            os.makedirs(f"{room}/{folder}")
+            os.makedirs(f"{room}/{folder}", exist_ok=True)
         with open(f"{room}/sources.list", "w", encoding="utf8") as file:
             file.writelines(lines_of(suite))
         shutil.copyfile(INSTALLED if is_over else os.devnull, f"{room}/status")
