@@ -6,7 +6,7 @@ import { Buffer as NodeBuffer, Blob, isUtf8, transcode } from "node:buffer";
 import childProcess from "node:child_process";
 import crypto, { createHash } from "node:crypto";
 import fs, { writeSync } from "node:fs";
-import { tmpdir } from "node:os";
+import { devNull, tmpdir } from "node:os";
 import { join } from "node:path";
 import { StringDecoder } from "node:string_decoder";
 import { PassThrough } from "node:stream";
@@ -241,8 +241,8 @@ const REFUSED = {
   "structuredClone of a list with a buffer": [whole, (buffer) => structuredClone([[buffer]])],
   "a Buffer's method, of larger elements,": [words, (array) => Buffer.prototype.latin1Slice.call(array, 1, 3)],
   "fs.write": [bytes, (array) => fs.write(1, array, () => {})],
-  "fs.promises.writeFile": [bytes, (array) => fs.promises.writeFile("/dev/null", array)],
-  "fs.writeFile of a DataView": [view, (array) => fs.writeFile("/dev/null", array, () => {})],
+  "fs.promises.writeFile": [bytes, (array) => fs.promises.writeFile(devNull, array)],
+  "fs.writeFile of a DataView": [view, (array) => fs.writeFile(devNull, array, () => {})],
   "crypto.subtle.digest": [bytes, (array) => crypto.subtle.digest("SHA-1", array)],
   "crypto.randomFill": [bytes, (array) => crypto.randomFill(array, () => {})],
   "zlib.deflate": [bytes, (array) => zlib.deflate(array, () => {})],
