@@ -12,6 +12,7 @@ import { fileURLToPath } from "node:url";
 import { checkedOptions } from "../lib/library/library-options.mjs";
 import { Runs } from "../lib/seeds/runs.mjs";
 import { BATCH } from "../lib/seeds/seed-queue.mjs";
+import { isMain } from "./is-main.mjs";
 
 const RECORDER = new URL("../", import.meta.url);
 
@@ -103,7 +104,7 @@ export async function printTable(modules, jobs, amount, print) {
   }
 }
 
-if (process.argv[1] === fileURLToPath(import.meta.url)) {
+if (isMain(import.meta.url)) {
   const { turns, each, jobs, modules } = parseArgs({
     options: {
       turns: { type: "string", default: "15" },

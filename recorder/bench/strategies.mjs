@@ -10,6 +10,7 @@ import { fileURLToPath } from "node:url";
 import { checkedOptions } from "../lib/library/library-options.mjs";
 import { Job } from "../lib/seeds/job.mjs";
 import { Runs, outcomesOf } from "../lib/seeds/runs.mjs";
+import { isMain } from "./is-main.mjs";
 
 const FOLDER = new URL("./programs/", import.meta.url);
 
@@ -111,4 +112,4 @@ async function main() {
   process.stdout.write(await tables(String(values.programs).split(","), amount, report));
 }
 
-if (process.argv[1] === fileURLToPath(import.meta.url)) await main();
+if (isMain(import.meta.url)) await main();

@@ -14,6 +14,7 @@ import { tmpdir } from "node:os";
 import { join } from "node:path";
 import { fileURLToPath } from "node:url";
 import { parseArgs } from "node:util";
+import { isMain } from "./is-main.mjs";
 
 const ROOT = fileURLToPath(new URL("../../", import.meta.url));
 const PUBLISHED = join(ROOT, "tests/published");
@@ -168,7 +169,7 @@ function main() {
   }
 }
 
-if (process.argv[1] === fileURLToPath(import.meta.url)) {
+if (isMain(import.meta.url)) {
   try {
     main();
   } catch (error) {

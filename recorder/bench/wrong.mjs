@@ -20,6 +20,7 @@ import { Refused } from "../lib/options/refused.mjs";
 import { Job } from "../lib/seeds/job.mjs";
 import { Runs, outcomesOf } from "../lib/seeds/runs.mjs";
 import { EDITS, HIDDEN, RIGHT, STARVES, editedText, fileOf } from "./edits.mjs";
+import { isMain } from "./is-main.mjs";
 
 /** The names of the pieces. */
 export const PIECES = readdirSync(new URL("./pieces/", import.meta.url)).map((name) => name.replace(/\.mjs$/, ""));
@@ -171,4 +172,4 @@ function tellRefused(failure) {
   process.exitCode = 2;
 }
 
-if (process.argv[1] === fileURLToPath(import.meta.url)) await main().catch(tellRefused);
+if (isMain(import.meta.url)) await main().catch(tellRefused);

@@ -2,13 +2,15 @@
 
 import assert from "node:assert/strict";
 import { spawnSync } from "node:child_process";
-import { existsSync, readFileSync } from "node:fs";
+import { existsSync, readFileSync, symlinkSync } from "node:fs";
+import { join } from "node:path";
 import { test } from "node:test";
 import { fileURLToPath } from "node:url";
 import { printTable } from "../bench/checks.mjs";
 import { COLUMNS, PROGRAMS, measured, tables } from "../bench/strategies.mjs";
 import { median, ratioOf, rowOf, sumOf } from "../bench/turns.mjs";
-import { needing } from "./helpers/needs.mjs";
+import { temporaryFolder } from "./helpers/common.mjs";
+import { needing, withLinks } from "./helpers/needs.mjs";
 
 const README = readFileSync(new URL("../bench/README.md", import.meta.url), "utf8");
 
@@ -84,4 +86,10 @@ test("both recorders make the runs of a module and of a program, by turns", inCl
 test("a program that isn't there, and a commit that isn't named, are errors", () => {
   assert.match(turns("HEAD", "pol").stderr, /there is no program pol: it is one of mutex-naive, bounded-queue, /);
   assert.match(turns().stderr, /name a commit, such as HEAD/);
+});
+
+test("a benchmark is run by a link to its file, too", withLinks, (context) => {
+  const link = join(temporaryFolder(context), "turns.mjs");
+  symlinkSync(TURNS, link);
+  assert.match(spawnSync(process.execPath, [link], { encoding: "utf8" }).stderr, /name a commit, such as HEAD/);
 });

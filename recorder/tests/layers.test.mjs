@@ -117,6 +117,12 @@ test("no modules need each other in a circle", () => {
   assert.deepEqual(circleIn((file) => circle[file], ["a"]), ["b", "d", "b"]);
 });
 
+test("one file alone asks which system runs", () => {
+  const ASKS = /\bprocess\s*\.\s*platform\b|\bplatform\(\)|\{[^}]*\bplatform\b[^}]*\} = process\b/;
+  const asking = MODULES.filter((file) => ASKS.test(readFileSync(new URL(file, RECORDER), "utf8")));
+  assert.deepEqual(asking, ["lib/processes/platform.cjs"]);
+});
+
 test("an import from a row above, or from the same row, is a fault that names both files", () => {
   const [run, seeds, keeping] = ["lib/run/group.mjs", "lib/seeds/runs.mjs", "lib/keeping/keep.mjs"];
   const [of, to] = [ROWS.get("lib/run"), ROWS.get("lib/seeds")];

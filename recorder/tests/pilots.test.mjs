@@ -3,6 +3,8 @@
 
 import assert from "node:assert/strict";
 import { spawnSync } from "node:child_process";
+import { readFileSync, writeFileSync } from "node:fs";
+import { join } from "node:path";
 import { test } from "node:test";
 import { explore, record } from "../recorder.mjs";
 import { RECORD, agentsOf, agentsPath, recordCase, temporaryFolder } from "./helpers/common.mjs";
@@ -77,20 +79,33 @@ test("an agent that waits for what pilots couldn't see doesn't spin for ever", (
 });
 
 test("pilots that meet a bound, that fail or that don't end let the runs be made all the same", async () => {
-  const begun = performance.now();
   const withPilots = { everywhere: false };
   const spins = await recordCase("spins", withPilots);
   assert.deepEqual([spins.ending, /has made 1000 calls/.test(spins.detail)], ["bound", true]);
   const endless = await recordCase("loops", { ...withPilots, seconds: 1 });
   const silent = "agent 1 has made no call for 1 s: it is at cases.mjs:40:5";
   assert.deepEqual([endless.ending, endless.detail], ["bound", silent]);
-  // One second is spent on a pilot, and one on the run.
-  assert.ok(performance.now() - begun < 30_000);
   const init = () => {
     throw new Error("no");
   };
   assert.match((await recordCase("addition", { ...withPilots, init })).detail, /^init threw Error: no/);
   assert.equal((await recordCase("exits", withPilots)).ending, "failed");
+});
+
+test("after a pilot that doesn't end there is no other", async (context) => {
+  const folder = temporaryFolder(context);
+  const [module, begun] = ["agents.mjs", "begun"].map((name) => join(folder, name));
+  writeFileSync(module, `import { appendFileSync } from "node:fs";
+export const setup = { agents: 2, buffers: [4] };
+export default function agent({ agent }) {
+  if (agent === 0) return;
+  appendFileSync(${JSON.stringify(begun)}, ".");
+  for (;;);
+}
+`);
+  const { ending } = await record({ module, sabsim: false, seconds: 1, everywhere: false });
+  assert.equal(ending, "bound");
+  assert.equal(readFileSync(begun, "utf8"), "..", "in a pilot, and in the run");
 });
 
 test("a run is the same whether its group has made others before, with other options for its workers", async () => {

@@ -37,7 +37,7 @@ assert.equal(text, "through a pipe");
 assert.equal(execSync("echo at once; echo unseen >&2").toString(), "at once\\n");
 assert.equal(execFileSync("cat", { input: "given" }).toString(), "given");
 assert.equal(spawnSync("sh", ["-c", "exit 3"]).status, 3);
-const [problem] = await once(spawn("there-is-no-such-program"), "error");
+const [problem] = await once(spawn("./there-is-no-such-program"), "error");
 assert.equal(problem.code, "ENOENT");
 const child = fork(new URL("child.cjs", import.meta.url));
 child.send("to the child");

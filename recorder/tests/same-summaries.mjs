@@ -4,8 +4,9 @@
 // usage: node recorder/tests/same-summaries.mjs "NODE" "OTHER NODE" [--seeds A..B] [--beside N] [WORD..]
 //
 // Each NODE is a command with its words, as "unshare .. node". With WORDs only those modules and programs are compared
-// whose names have one of them. N pairs of summaries are made at a time, by default 2. The last line is
-// `N passed, M failed`, and the status is 0 only if none failed.
+// whose names have one of them. N pairs of summaries are made at a time, by default 2. If runs end since an agent makes
+// no call for seconds, only three seeds are compared. The last line is `N passed, M failed`, and the status is 0 only
+// if none failed. It is 2 if the command line can't be used.
 
 import { execFile } from "node:child_process";
 import { readFileSync, readdirSync } from "node:fs";
@@ -21,9 +22,15 @@ const FOLDERS = ["recorder/tests/known", "recorder/tests/agents", "recorder/exam
 /** What modules get that don't say it themselves. */
 const SETUP = ["--agents", "2", "--buffers", "64,64"];
 
-/** Where a module has a function for each of its first arguments. */
-const WAYS = /^(?:export )?const (?:WAYS|PROGRAMS|STEPS|programs) = \{$([^]*?)^\}/m;
+/** Where a module has a function for each of its first arguments: each on lines of its own, or all on one line. */
+const WAYS = /^(?:export )?const (?:CASES|PROGRAMS|STEPS|WAYS|programs) = \{$([^]*?)^\}/m;
 const WAY = /^ {2}(?:async )?(\w+)(?:: |\()/gm;
+const LINE_OF_WAYS = /^const (?:PARTS|SERVERS) = \{ (.*) \};$/m;
+const WAY_IN_LINE = /(\w+)(?:: \w+)?(?:, |$)/g;
+
+/** Such runs take this long each, so that few are made. */
+const ENDS_BY_TIME = /has made no call for \d+ s/;
+const FEW = "1..3";
 
 /** @typedef {{ name: string, words: string[] }} Case of which two summaries are compared */
 /** @typedef {{ status: number, output: string }} Made */
@@ -33,7 +40,9 @@ function casesOf(path) {
   const code = readFileSync(`${ROOT}${path}`, "utf8");
   if (!code.includes("export default")) return [];
   const words = [path, ...(/\bsetup\b/.test(code) ? [] : SETUP), "--seconds", "3"];
-  const ways = [...(WAYS.exec(code)?.[1] ?? "").matchAll(WAY)].map(([, way]) => way);
+  const lines = (WAYS.exec(code)?.[1] ?? "").matchAll(WAY);
+  const inLine = (LINE_OF_WAYS.exec(code)?.[1] ?? "").matchAll(WAY_IN_LINE);
+  const ways = [...lines, ...inLine].map(([, way]) => way);
   if (ways.length === 0) return [{ name: path, words }];
   return ways.map((way) => ({ name: `${path} ${way}`, words: [...words, "--", way] }));
 }
@@ -94,10 +103,12 @@ function differenceOf(one, other) {
  * @returns {Promise<boolean>} whether it is the same
  */
 async function isSame({ name, words }, nodes, seeds) {
-  const [one, other] = await Promise.all(nodes.map((node) => madeBy(node, words, seeds)));
+  const endsByTime = ENDS_BY_TIME.test((await madeBy(nodes[0], words, FEW)).output);
+  const [one, other] = await Promise.all(nodes.map((node) => madeBy(node, words, endsByTime ? FEW : seeds)));
   const isAlike = one.status === other.status && one.output === other.output;
   const exception = EXCEPTIONS[name];
-  if (isAlike) console.log(`${name}: the same, status ${one.status}${one.status > 1 ? `, ${one.output}` : ""}`);
+  const few = endsByTime ? `, seeds ${FEW}` : "";
+  if (isAlike) console.log(`${name}: the same, status ${one.status}${one.status > 1 ? `, ${one.output}` : ""}${few}`);
   else if (exception !== undefined) console.log(`${name}: differs, as it may: ${exception}`);
   else console.log(`${name} differs: status ${one.status} and ${other.status}\n${differenceOf(one.output, other.output)}`);
   return isAlike || exception !== undefined;
@@ -110,8 +121,12 @@ const { values, positionals } = parseArgs({
   },
 });
 const [one, other, ...wanted] = positionals;
-if (other === undefined) throw new Error("name two commands of node: see the usage in this file");
-const waiting = [...modules(), ...programs()].filter(({ name }) => wanted.length === 0 || wanted.some((word) => name.includes(word)));
+if (other === undefined) {
+  console.error("same-summaries: name two commands of node, as in the usage at the head of this file");
+  process.exit(2);
+}
+const isWanted = ({ name }) => wanted.length === 0 || wanted.some((word) => name.includes(word));
+const waiting = [...modules(), ...programs()].filter(isWanted);
 /** @type {boolean[]} */
 const same = [];
 await Promise.all(Array.from({ length: Number(values.beside) }, async () => {

@@ -8,13 +8,13 @@ import { chmodSync, copyFileSync, existsSync, mkdirSync, readFileSync, readdirSy
 import { once } from "node:events";
 import { join } from "node:path";
 import { test } from "node:test";
+import { MACHINE } from "../../recorder/lib/processes/platform.cjs";
 import { SABSIM, needing, withSabsim } from "../../recorder/tests/helpers/needs.mjs";
 import { NODES, PROJECT, TOP, environment, filesOf, packed, pathOf, projectWith, room, run, succeeds, version }
   from "./installed.mjs";
 
 const ENGINE = pathOf("../../recorder/tests/engine/main.mjs");
 const FILES = readFileSync(pathOf("files.txt"), "utf8").trimEnd().split("\n");
-const MACHINE = `${process.platform}-${process.arch}`;
 const EXAMPLES = join(TOP, "crates/check_scripts/data/examples");
 const PROGRAM_FILES = [`program/${MACHINE}/sabsim`, `program/${MACHINE}/sabsim.txt`];
 

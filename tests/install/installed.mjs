@@ -4,7 +4,7 @@ import assert from "node:assert/strict";
 import { spawn, spawnSync } from "node:child_process";
 import { once } from "node:events";
 import { copyFileSync, existsSync, mkdirSync, mkdtempSync, readFileSync, readdirSync, rmSync, writeFileSync } from "node:fs";
-import { homedir, tmpdir } from "node:os";
+import { tmpdir } from "node:os";
 import { join } from "node:path";
 import { after } from "node:test";
 import { fileURLToPath } from "node:url";
@@ -14,8 +14,7 @@ export const pathOf = (place) => fileURLToPath(new URL(place, import.meta.url));
 export const TOP = pathOf("../../");
 export const PROJECT = pathOf("project/");
 /** Where tools/fetch puts what it fetches. */
-const { SABSIM_TOOLS, XDG_CACHE_HOME = join(homedir(), ".cache") } = process.env;
-export const TOOLS = SABSIM_TOOLS ?? join(XDG_CACHE_HOME, "sabsim-tools");
+export const TOOLS = spawnSync(join(TOP, "tools/fetch"), ["--folder"], { encoding: "utf8" }).stdout?.trimEnd() ?? "";
 export const { version } = JSON.parse(readFileSync(join(TOP, "package.json"), "utf8"));
 
 export const room = mkdtempSync(join(tmpdir(), "sabsim-package-"));
