@@ -12,18 +12,19 @@ import { fileURLToPath } from "node:url";
 const FETCH = fileURLToPath(new URL("../published/fetch.mjs", import.meta.url));
 
 /**
- * What is printed for SQLite's sources.
+ * What is printed for SQLite's sources, or for other products.
  * @param {import("node:test").TestContext} context
  * @param {string} says what apt-get says
+ * @param {string[]} [names] of products
  */
-function fetched(context, says) {
+function fetched(context, says, names = ["sqlite", "sqlite-now"]) {
   const folder = mkdtempSync(join(tmpdir(), "fetch-"));
   context.after(() => rmSync(folder, { recursive: true }));
   writeFileSync(join(folder, "apt-get"), `#!/bin/sh\necho "E: ${says}" >&2\nexit 100\n`, { mode: 0o755 });
   const into = join(folder, "published");
   mkdirSync(into);
   const env = { ...process.env, SABSIM_PUBLISHED: into, PATH: `${folder}${delimiter}${dirname(process.execPath)}:/usr/bin:/bin` };
-  const { status, stdout, stderr } = spawnSync(process.execPath, [FETCH, "sqlite", "sqlite-now"], { env, encoding: "utf8" });
+  const { status, stdout, stderr } = spawnSync(process.execPath, [FETCH, ...names], { env, encoding: "utf8" });
   const left = readdirSync(into).flatMap((name) => readdirSync(join(into, name)));
   return { status, stdout, stderr, left };
 }
@@ -41,6 +42,14 @@ for (const says of ["You must put some 'deb-src' URIs in your sources.list", "Un
     assert.deepEqual(left, []);
   });
 }
+
+test("without lists of packages it says how apt-get gets them", (context) => {
+  const { status, stderr, left } = fetched(context, "Unable to locate package esbuild", ["esbuild"]);
+  assert.equal(status, 1);
+  const why = "apt-get has no package esbuild in its lists. Run `apt-get update` as root";
+  assert.equal(stderr, `not fetched: esbuild: ${why}\n`);
+  assert.deepEqual(left, []);
+});
 
 test("what else apt-get says is printed as it is", (context) => {
   const { status, stderr } = fetched(context, "Unable to fetch some archives");

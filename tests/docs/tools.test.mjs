@@ -90,6 +90,16 @@ test("only Debian's sources are asked, and what is this machine's isn't changed"
   }
 });
 
+test("sid's packages come from the address of Debian's archive, and not from that of its security updates", (context) => {
+  const show = 'cat "$(dirname "$0")"/tools/.new-*/apt-0/sources.list >> "$CALLS" 2> /dev/null';
+  const security = "echo 'http://mirror/debian-security/ bookworm-security main'; echo 'http://mirror/debian/";
+  const aptGet = APT_GET.replace("case", `${show}\ncase`).replace("echo 'http://mirror/debian/", security);
+  const { fetch, calls } = machineOf(context, { aptGet });
+  fetch(["node"]);
+  assert.match(calls(), /^deb .*http:\/\/mirror\/debian\/ sid main$/m);
+  assert.doesNotMatch(calls(), /debian-security\/ sid/);
+});
+
 test("of a part that is installed nothing is fetched", (context) => {
   const aptGet = APT_GET.replace("*--print-uris*)", "*--print-uris*) exit 0");
   const { fetch, there } = machineOf(context, { aptGet });

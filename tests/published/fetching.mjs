@@ -15,6 +15,9 @@ export class NotFetched extends Error {}
 /** What apt-get says if it knows no sources, or none of a package. */
 const NO_SOURCES = /'deb-src' URIs|Unable to find a source package/;
 
+/** What it says if it knows no package of a name: so it is where it has no lists yet. */
+const NO_PACKAGE = /Unable to locate package|Can't find a source to download/;
+
 /** @param {Source} source @returns {string} the folder of its files */
 const folderOf = ({ folder }) => fileURLToPath(new URL(`${folder}/`, FETCHED));
 
@@ -38,6 +41,20 @@ function download(name, room) {
     throw new NotFetched(`apt-get has no sources of ${name}. Put this line into a file such as \
 /etc/apt/sources.list.d/sabsim.list, and run \`apt-get update\` as root:
     deb-src http://deb.debian.org/debian ${suite} main`);
+  }
+}
+
+/**
+ * Downloads the archive of a package.
+ * @param {string} name of the package, and perhaps of its suite: zlib1g/sid
+ * @param {string} room the folder for it
+ */
+function downloadPackage(name, room) {
+  try {
+    run("apt-get", ["download", name], room);
+  } catch (problem) {
+    if (!(problem instanceof NotFetched) || !NO_PACKAGE.test(problem.message)) throw problem;
+    throw new NotFetched(`apt-get has no package ${name} in its lists. Run \`apt-get update\` as root`);
   }
 }
 
@@ -113,7 +130,7 @@ const FETCH = {
   node: fetchNode,
   deb: (source, into, room) => {
     const { name, files, strip = 0 } = source;
-    run("apt-get", ["download", name ?? ""], room);
+    downloadPackage(name ?? "", room);
     const words = ["-C", into, `--strip-components=${strip}`, ...files];
     run("sh", ["-c", `dpkg-deb --fsys-tarfile *.deb | tar x "$@"`, "sh", ...words], room);
     finish(source, into);

@@ -49,10 +49,12 @@ def debian_sources():
 
 
 def lines_of(suite):
-    """Returns the lines of a list of sources: this machine's, or those of one suite at the same address."""
+    """Returns the lines of a list of sources: this machine's, or that of one suite at the same address."""
     sources = debian_sources()
     if suite:
-        sources = [(sources[0][0], suite, "main")]
+        # Security updates have an address of their own, without this suite.
+        address = next((source[0] for source in sources if "-security" not in source[0]), sources[0][0])
+        sources = [(address, suite, "main")]
     signed = f"[signed-by={KEYS}] " if os.path.exists(KEYS) else ""
     return [f"deb {signed}{' '.join(source)}\n" for source in sources]
 
