@@ -83,9 +83,12 @@ test("both recorders make the runs of a module and of a program, by turns", inCl
   for (const row of rows) assert.match(row, /^\| [a-z-]+ \| \d+\.\d\d \| \d+\.\d\d \| \d+\.\d{3} \| \d+\.\d\d to \d+\.\d\d \|$/);
 });
 
-test("a program that isn't there, and a commit that isn't named, are errors", () => {
+test("a program that isn't there, a commit that isn't named and numbers that are none are errors", () => {
   assert.match(turns("HEAD", "pol").stderr, /there is no program pol: it is one of mutex-naive, bounded-queue, /);
   assert.match(turns().stderr, /name a commit, such as HEAD/);
+  for (const option of ["turns", "seeds"]) {
+    assert.match(turns("HEAD", `--${option}`, "many").stderr, /^turns: --turns and --seeds are 1 at least$/m);
+  }
 });
 
 test("a benchmark is run by a link to its file, too", withLinks, (context) => {

@@ -4,7 +4,7 @@
 import assert from "node:assert/strict";
 import { spawnSync } from "node:child_process";
 import {
-  chmodSync, existsSync, mkdirSync, mkdtempSync, readFileSync, readdirSync, rmSync, writeFileSync,
+  chmodSync, existsSync, mkdirSync, mkdtempSync, readFileSync, readdirSync, rmSync, symlinkSync, writeFileSync,
 } from "node:fs";
 import { tmpdir } from "node:os";
 import { delimiter, join } from "node:path";
@@ -117,9 +117,11 @@ test("what can't be unpacked leaves nothing", (context) => {
 });
 
 test("a fetch that was killed leaves no part, and the next one removes its rest", (context) => {
-  const { fetch, there, write } = machineOf(context, { dpkgDeb: "#!/bin/sh\nkill -9 $PPID\n" });
+  const { fetch, there, tools, write } = machineOf(context, { dpkgDeb: "#!/bin/sh\nkill -9 $PPID\n" });
   assert.equal(fetch(["types"]).signal, "SIGKILL");
   assert.match(there().join(), /^\.new-\w+$/);
+  // As one leaves it that was killed while it put the part in its place.
+  symlinkSync("types-1-0.9-1", join(tools, ".new-types"));
   write("dpkg-deb", DPKG_DEB);
   assert.equal(fetch(["types"]).stdout, "fetched: types 1-1.0-1\n");
   assert.deepEqual(there(), ["types", "types-1-1.0-1"]);

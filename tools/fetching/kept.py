@@ -26,6 +26,14 @@ def version_of(name):
     return os.readlink(link).removeprefix(f"{name}-") if os.path.isdir(link) else ""
 
 
+def remove(path):
+    """Removes a folder with all that is in it, or a link."""
+    if os.path.islink(path):
+        os.remove(path)
+    else:
+        shutil.rmtree(path)
+
+
 @contextlib.contextmanager
 def room_in(folder):
     """Gives a room in a folder while no other command fetches there. What was broken off before is removed."""
@@ -34,7 +42,7 @@ def room_in(folder):
         fcntl.flock(lock, fcntl.LOCK_EX)
         for name in os.listdir(folder):
             if name.startswith(NEW):
-                shutil.rmtree(f"{folder}/{name}")
+                remove(f"{folder}/{name}")
         with tempfile.TemporaryDirectory(prefix=NEW, dir=folder) as room:
             yield room
 
