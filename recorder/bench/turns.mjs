@@ -147,7 +147,8 @@ function asked() {
   const unknown = names.find((name) => !all.includes(name));
   if (commit === undefined) throw new Error("name a commit, such as HEAD");
   if (unknown !== undefined) throw new Error(`there is no program ${unknown}: it is one of ${all.join(", ")}`);
-  if (![values.turns, values.seeds].every((each) => Number(each) >= 1)) throw new Error("--turns and --seeds are 1 at least");
+  const numbers = [values.turns, values.seeds].map(Number);
+  if (!numbers.every((each) => each >= 1)) throw new Error("--turns and --seeds are 1 at least");
   return { commit, names: names.length > 0 ? names : all, values };
 }
 
