@@ -90,7 +90,7 @@ test("only Debian's sources are asked, and what is this machine's isn't changed"
   }
 });
 
-test("sid's packages come from the address of Debian's archive, and not from that of its security updates", (context) => {
+test("sid's packages come from Debian's archive, and not from the address of its security updates", (context) => {
   const show = 'cat "$(dirname "$0")"/tools/.new-*/apt-0/sources.list >> "$CALLS" 2> /dev/null';
   const security = "echo 'http://mirror/debian-security/ bookworm-security main'; echo 'http://mirror/debian/";
   const aptGet = APT_GET.replace("case", `${show}\ncase`).replace("echo 'http://mirror/debian/", security);

@@ -38,7 +38,7 @@ def run(words, **how):
 
 
 def debian_sources():
-    """Returns this machine's own sources that are Debian's, as (address, suite, component). No list has to be there yet."""
+    """Returns this machine's own sources that are Debian's, as (address, suite, component). They need no lists yet."""
     form = "$(REPO_URI) $(RELEASE) $(COMPONENT)"
     said, _ = run(["apt-get", "indextargets", "--no-release-info", "--format", form, "Created-By: Packages"])
     found = [tuple(line.split()) for line in dict.fromkeys(said.splitlines())]
