@@ -2,7 +2,7 @@
 
 import assert from "node:assert/strict";
 import { spawnSync } from "node:child_process";
-import { existsSync, readFileSync, symlinkSync } from "node:fs";
+import { readFileSync, symlinkSync } from "node:fs";
 import { join } from "node:path";
 import { test } from "node:test";
 import { fileURLToPath } from "node:url";
@@ -69,8 +69,10 @@ test("the ratio of two commits is that of their medians, and the turns give its 
   assert.deepEqual(sumOf([pool, { before: [1, 2, 3], now: [3, 2, 1] }]), { before: [5, 4, 12], now: [8, 5, 7] });
 });
 
-const TURNS = fileURLToPath(new URL("../bench/turns.mjs", import.meta.url));
-const inClone = needing("clone of the repository", existsSync(new URL("../../.git", import.meta.url)));
+const ROOT = fileURLToPath(new URL("../../", import.meta.url));
+const TURNS = join(ROOT, "recorder/bench/turns.mjs");
+/** git answers to nobody but the owner of a clone. */
+const inClone = needing("clone of the repository", spawnSync("git", ["rev-parse", "HEAD"], { cwd: ROOT }).status === 0);
 
 /** What `turns.mjs` prints. @param {string[]} words */
 const turns = (...words) => spawnSync(process.execPath, [TURNS, ...words], { encoding: "utf8" });

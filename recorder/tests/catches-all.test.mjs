@@ -30,7 +30,9 @@ test("a loop that catches everything ends with its run, prints nothing of that, 
   assert.deepEqual([status, errors], [1, ""], errors.slice(0, 200));
   assert.match(output, new RegExp(`^first failing seed: ${FAILING}, threw\n  agent 0 threw Error: job 2 isn't done$`, "m"));
   assert.doesNotMatch(output, /^not kept: /m);
-  for (const ending of ["trace.jsonl", "original.trace.jsonl"]) {
+  // Each shorter run that is tried needs another worker. A slow machine ends that after ten seconds, and says so.
+  const original = /^not shortened: .*, stopped after 10 s/m.test(output) ? [] : ["original.trace.jsonl"];
+  for (const ending of ["trace.jsonl", ...original]) {
     const trace = readFileSync(join(out, `seed-${FAILING}.${ending}`), "utf8");
     assert.match(trace, /"source":"catches-all\.mjs:\d+:\d+"/);
   }
