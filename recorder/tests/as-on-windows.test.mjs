@@ -2,12 +2,12 @@
 
 import assert from "node:assert/strict";
 import { spawn, spawnSync } from "node:child_process";
-import { cpSync, mkdirSync, writeFileSync } from "node:fs";
+import { cpSync, mkdirSync, readdirSync, writeFileSync } from "node:fs";
 import { join } from "node:path";
 import { test } from "node:test";
 import { fileURLToPath } from "node:url";
 import { MACHINE } from "../lib/processes/platform.cjs";
-import { RECORD, agentsOf, temporaryFolder } from "./helpers/common.mjs";
+import { RECORD, agentsOf, agentsPath, temporaryFolder } from "./helpers/common.mjs";
 import { withShell, withSignals } from "./helpers/needs.mjs";
 import { programIn } from "./helpers/whole-programs.mjs";
 
@@ -19,14 +19,14 @@ const RECORDER = fileURLToPath(new URL("../", import.meta.url));
  * The words by which node's command takes this system for one that differs as Windows does.
  * @param {string} folder for the file that says so
  * @param {(keyof Platform)[]} names of what differs
- * @param {string} [recorder] the folder of the recorder that is run
+ * @param {{ recorder?: string, code?: string }} [how] the folder of the recorder that is run; what the file does besides
  */
-function asOnWindows(folder, names, recorder = RECORDER) {
+function asOnWindows(folder, names, { recorder = RECORDER, code = "" } = {}) {
   const path = join(folder, "as-on-windows.cjs");
   writeFileSync(path, `const platforms = require(${JSON.stringify(join(recorder, "lib/processes/platform.cjs"))});
 const { ${names.join(", ")} } = platforms.WINDOWS;
 platforms.HERE = { ...platforms.HERE, ${names.join(", ")} };
-`);
+${code}`);
   return ["--require", path];
 }
 
@@ -46,7 +46,7 @@ test("a launcher without signals reports by its status which one has ended the p
     const programs = join(folder, "program", MACHINE);
     mkdirSync(programs, { recursive: true });
     writeFileSync(join(programs, "sabsim.exe"), '#!/bin/sh\nkill -"$1" $$\n', { mode: 0o755 });
-    const flags = asOnWindows(folder, ["programEnding", "hasSignals"], recorder);
+    const flags = asOnWindows(folder, ["programEnding", "hasSignals"], { recorder });
     const wanted = [["INT", 130], ["TERM", 143], ["KILL", 137]];
     const found = wanted.map(([signal]) => ended([...flags, join(recorder, "sabsim.mjs"), `${signal}`]));
     assert.deepEqual(found, wanted.map(([, status]) => ({ status, signal: null, stdout: "", stderr: "" })));
@@ -112,3 +112,31 @@ test("a SIGINT that the command and its job both get ends both, after what was f
     assert.equal(await isClosed, "SIGINT");
     assert.match(texts.stdout, /^interrupted by SIGINT after [\d,]+ of 10,000,000 runs$/m);
   });
+
+/** Each file in a folder is held by another program the first two times that it is removed or gets another name. */
+const holding = (folder) => `const fs = require("node:fs");
+for (const name of ["rmSync", "renameSync"]) {
+  const [own, times] = [fs[name], new Map()];
+  fs[name] = (path, ...others) => {
+    times.set(path, (times.get(path) ?? 0) + 1);
+    const isHeld = path.startsWith(${JSON.stringify(folder)}) && times.get(path) <= 2;
+    if (isHeld) throw Object.assign(new Error("EBUSY: it is held"), { code: "EBUSY" });
+    return own(path, ...others);
+  };
+}
+require("node:module").syncBuiltinESMExports();
+`;
+
+test("files that another program holds for a moment are kept, and removed, all the same", (context) => {
+  const folder = temporaryFolder(context);
+  const out = join(folder, "found");
+  const words = [RECORD, agentsPath("naive-mutex"), "--seeds", "1..60", "--check", "0", "--out", out];
+  const { status, stdout, stderr } = ended([...asOnWindows(folder, ["heldMilliseconds"], { code: holding(out) }), ...words]);
+  assert.deepEqual([status, stderr], [1, ""]);
+  const [, names] = /^kept in .*: (.*)$/m.exec(stdout);
+  assert.ok(names.split(", ").length >= 5, names);
+  assert.deepEqual(readdirSync(out).sort(), names.split(", ").sort());
+  // Where no program can hold a file, an error is an error.
+  const once = ended([...asOnWindows(folder, [], { code: holding(out) }), ...words]);
+  assert.deepEqual([once.status, once.stderr], [2, `record: --out ${out} can't be used: EBUSY: it is held\n`]);
+});

@@ -58,6 +58,18 @@ export function makeFolder(path, platform = HERE) {
 /** @param {unknown} error of node's */
 const messageOf = (error) => /** @type {Error} */ (error).message;
 
+/** @param {string} path of a file, which may be gone */
+const removeFile = (path) => onceFree(() => rmSync(path, { force: true }));
+
+/** @param {string} path of a file that nobody needs: it stays if another program holds it */
+function removeIfFree(path) {
+  try {
+    removeFile(path);
+  } catch {
+    // The error that made it useless is reported.
+  }
+}
+
 export class Keeper {
   /**
    * Makes the folder if it isn't there, and tries whether a file can be written.
@@ -76,7 +88,7 @@ export class Keeper {
     this.first = undefined;
     try {
       makeFolder(resolve(folder));
-      rmSync(this.#writeAside("sabsim"));
+      removeFile(this.#writeAside("sabsim"));
     } catch (error) {
       throw new Refused(`${option} ${folder} can't be used: ${messageOf(error)}`);
     }
@@ -151,7 +163,7 @@ export class Keeper {
       const from = aside;
       onceFree(() => renameSync(from, path));
     } catch (error) {
-      if (aside !== undefined) rmSync(aside, { force: true });
+      if (aside !== undefined) removeIfFree(aside);
       const there = this.names.length === 0 ? "nothing" : this.names.join(", ");
       throw new NotKept(`${path} can't be written: ${messageOf(error)}; kept there: ${there}`);
     }
@@ -163,7 +175,7 @@ export class Keeper {
     for (const name of names) {
       const path = join(this.folder, name);
       try {
-        onceFree(() => rmSync(path, { force: true }));
+        removeFile(path);
       } catch (error) {
         throw new NotKept(`${path} can't be removed: ${messageOf(error)}`);
       }
@@ -185,7 +197,7 @@ export class Keeper {
       writeFileSync(file, text);
       return path;
     } catch (error) {
-      rmSync(path, { force: true });
+      removeIfFree(path);
       throw error;
     } finally {
       closeSync(file);
