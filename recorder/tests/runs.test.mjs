@@ -183,7 +183,8 @@ test("what an agent does after its run changes nothing in the outcome", async ()
 });
 
 test("an ordinary write that failed for want of stack is seen when the agent repeats it", async () => {
-  const outcomes = await recorded({ module: agentsPath("retried"), agents: 1 }, [1, 2, 3]);
+  // Before its one call the agent works as long as a slow machine needs.
+  const outcomes = await recorded({ module: agentsPath("retried"), agents: 1, seconds: 60 }, [1, 2, 3]);
   assert.equal(outcomes.length, 3);
   for (const { ending, detail, bytes, ordinary } of outcomes) {
     assert.deepEqual([ending, detail, bytes], ["finished", "", ["01000000", "01".repeat(60)]]);
