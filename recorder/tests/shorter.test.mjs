@@ -162,6 +162,24 @@ test("shortening ends after so many runs, or so much time, and says so", async (
   assert.equal(tries.at(-1).changes, shortened.changes.after);
 });
 
+test("the shortest run is made again once, or up to three times if it gets real answers", async () => {
+  const { group, first } = await groupFailing("count", 2);
+  const { one } = group;
+  for (const [real, astray, isFound] of [[["fs.watch at a.mjs:1:1"], 2, true], [["fs.watch at a.mjs:1:1"], 3, false],
+    [undefined, 0, true], [undefined, 1, false]]) {
+    let left = astray;
+    group.one = async (wanted) => {
+      const run = await one.call(group, wanted);
+      run.outcome.real = real;
+      if (wanted.needsTrace) left -= 1;
+      if (wanted.needsTrace && left >= 0) run.outcome.calls += 1;
+      return run;
+    };
+    const { shortest, shortened } = await shorten(group, { ...first, real }, { milliseconds: 60_000 });
+    assert.deepEqual([shortest !== undefined, shortened.unchanged === undefined], [isFound, isFound], `${astray}`);
+  }
+});
+
 test("a run that met a limit, or whose worker died, isn't shortened", async (context) => {
   const bound = await shorten(undefined, { seed: 1, ending: "bound", detail: "agent 0 spins", calls: 1_000 });
   assert.deepEqual([bound.shortest, bound.shortened.runs, bound.shortened.unchanged], [undefined, 0, "it met a limit"]);

@@ -233,7 +233,7 @@ export async function shorten(group, summary, limits = {}) {
   const { seed } = summary;
   const all = { most: MOST_RUNS, milliseconds: MOST_MILLISECONDS, onTry: () => {}, isFresh: false, ...limits };
   const how = summary.row === undefined ? {} : { row: summary.row, isExact: true };
-  const times = summary.real === undefined ? 1 : TIMES_TRIED;
+  const times = timesOf(summary);
   let [first, made, isAgain] = [/** @type {One} */ ({}), 0, false];
   for (; made < times && !isAgain; made += 1) {
     first = await group.one({ seed, whole: true, wantsRow: true, isFresh: all.isFresh, ...how });
@@ -252,6 +252,9 @@ export async function shorten(group, summary, limits = {}) {
   const shortened = { runs, changes, calls: { before: summary.calls, after: best.calls } };
   return { shortest, shortened: stopped === undefined ? shortened : { ...shortened, stopped } };
 }
+
+/** @param {Pick<Outcome, "real">} run @returns {number} how often it is made until it goes the same way */
+const timesOf = ({ real }) => (real === undefined ? 1 : TIMES_TRIED);
 
 /**
  * What is reported about a run that stays as it was found.
@@ -277,9 +280,11 @@ function asFound({ calls }, { row = [] }, runs, unchanged, stopped) {
  */
 async function remade(group, first, { row, calls }) {
   const { seed } = first.outcome;
-  const run = await group.one({
-    seed, whole: true, row, isExact: true, wantsRow: true, needsTrace: true, isFresh: true,
-  });
-  const isSame = run.outcome.calls === calls && firstOtherMove(row, run.outcome.row ?? []) === undefined;
-  return isSame && failsAlike(run, first) ? run : undefined;
+  const wanted = { seed, whole: true, row, isExact: true, wantsRow: true, needsTrace: true, isFresh: true };
+  for (let left = timesOf(first.outcome); left > 0; left -= 1) {
+    const run = await group.one(wanted);
+    const isSame = run.outcome.calls === calls && firstOtherMove(row, run.outcome.row ?? []) === undefined;
+    if (isSame && failsAlike(run, first)) return run;
+  }
+  return undefined;
 }
