@@ -19,7 +19,7 @@ const RECORDER = fileURLToPath(new URL("../", import.meta.url));
  * The words by which node's command takes this system for one that differs as Windows does.
  * @param {string} folder for the file that says so
  * @param {(keyof Platform)[]} names of what differs
- * @param {{ recorder?: string, code?: string }} [how] the folder of the recorder that is run; what the file does besides
+ * @param {{ recorder?: string, code?: string }} [how] the folder of the recorder that is run; what the file does, too
  */
 function asOnWindows(folder, names, { recorder = RECORDER, code = "" } = {}) {
   const path = join(folder, "as-on-windows.cjs");
@@ -131,12 +131,13 @@ test("files that another program holds for a moment are kept, and removed, all t
   const folder = temporaryFolder(context);
   const out = join(folder, "found");
   const words = [RECORD, agentsPath("naive-mutex"), "--seeds", "1..60", "--check", "0", "--out", out];
-  const { status, stdout, stderr } = ended([...asOnWindows(folder, ["heldMilliseconds"], { code: holding(out) }), ...words]);
+  const code = holding(out);
+  const { status, stdout, stderr } = ended([...asOnWindows(folder, ["heldMilliseconds"], { code }), ...words]);
   assert.deepEqual([status, stderr], [1, ""]);
   const [, names] = /^kept in .*: (.*)$/m.exec(stdout);
   assert.ok(names.split(", ").length >= 5, names);
   assert.deepEqual(readdirSync(out).sort(), names.split(", ").sort());
   // Where no program can hold a file, an error is an error.
-  const once = ended([...asOnWindows(folder, [], { code: holding(out) }), ...words]);
+  const once = ended([...asOnWindows(folder, [], { code }), ...words]);
   assert.deepEqual([once.status, once.stderr], [2, `record: --out ${out} can't be used: EBUSY: it is held\n`]);
 });
