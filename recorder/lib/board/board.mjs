@@ -8,6 +8,7 @@ import { KnownPlaces } from "../memory/known-places.mjs";
 import { LOOP, ORDER, PHASE, WORD, wordsFor } from "../memory/layout.mjs";
 import { FLAG } from "../memory/log.mjs";
 import { NamedPlaces } from "../memory/named-places.mjs";
+import { NotedPlaces } from "../memory/noted-places.mjs";
 import { Random } from "../memory/random.mjs";
 import { Answers } from "./answers.mjs";
 import { AsyncWaiters } from "./async-waiters.mjs";
@@ -15,12 +16,14 @@ import { Clock } from "./clock.mjs";
 import { Deadlines } from "./deadlines.mjs";
 import { End } from "./end.mjs";
 import { Journal, MOST_MOVES, MOVES } from "./journal.mjs";
+import { Lags } from "./lags.mjs";
 import { Line } from "./line.mjs";
 import { LOOK, Row, STRAYS } from "./row.mjs";
 import { Spins } from "./spins.mjs";
 import { NOBODY_MOVES, Strategy } from "./strategy.mjs";
 import { NEVER } from "./strategy/ways.mjs";
 import { REASON_BYTES, Turn } from "./turn.mjs";
+import { Vain } from "./vain.mjs";
 
 const { Int32Array, Float64Array } = globalThis;
 const { load, store } = Atomics;
@@ -36,7 +39,10 @@ const TEXT_BYTES = 16_384;
  * @property {SharedArrayBuffer} reasons
  * @property {SharedArrayBuffer} times
  * @property {SharedArrayBuffer} early
+ * @property {SharedArrayBuffer} lags
+ * @property {SharedArrayBuffer} vain
  * @property {SharedArrayBuffer} places
+ * @property {SharedArrayBuffer} noted
  * @property {import("./row.mjs").RowMemory} row
  * @property {SharedArrayBuffer} [waiters] of a program: for the waits of Atomics.waitAsync
  * @property {SharedArrayBuffer} [names] of a program: the names by which pilots know its memory
@@ -53,7 +59,10 @@ export class Board {
       reasons: new SharedArrayBuffer(agents * REASON_BYTES),
       times: Clock.memory(agents),
       early: Deadlines.memory(),
+      lags: Lags.memory(agents),
+      vain: Vain.memory(agents),
       places: KnownPlaces.memory(),
+      noted: NotedPlaces.memory(),
       row: Row.memory(),
     };
   }
@@ -66,13 +75,17 @@ export class Board {
     this.end = new End(this.words, bufferFrom(memory.text));
     this.turn = new Turn(this.words, bufferFrom(memory.reasons), this.end, agents);
     this.waiters = memory.waiters === undefined ? undefined : new AsyncWaiters(memory.waiters);
-    this.line = new Line(this.words, agents, this.waiters);
-    this.journal = new Journal(this.words, new Float64Array(memory.views), agents);
     this.clock = new Clock(memory.times);
-    const { places, names } = memory;
-    this.places = names === undefined ? new KnownPlaces(places) : new NamedPlaces(places, names);
     this.spins = new Spins(this.words, agents);
-    this.deadlines = new Deadlines(memory.early, this.words, this.clock, this.spins, agents);
+    const isProgram = rules.early !== undefined;
+    const lags = isProgram ? new Lags(memory.lags, this.words, this.clock, this.spins, rules) : undefined;
+    this.line = new Line(this.words, agents, this.waiters, lags);
+    this.journal = new Journal(this.words, new Float64Array(memory.views), agents);
+    const { places, names } = memory;
+    this.noted = new NotedPlaces(memory.noted);
+    this.places = names === undefined ? new KnownPlaces(places) : new NamedPlaces(places, names);
+    this.deadlines = new Deadlines(memory.early, this.words, this.clock, this.spins, agents, lags);
+    this.vain = isProgram ? new Vain(memory.vain, this.words, agents) : undefined;
     this.answers = new Answers(this.words, this.deadlines, agents);
     this.row = new Row(memory.row, this.deadlines, this.answers, this.words, agents);
     const random = new Random(new Int32Array(memory.words, WORD.RANDOM * 4, 4));
@@ -95,6 +108,7 @@ export class Board {
     this.clock.begin(seed);
     this.deadlines.begin();
     this.answers.begin();
+    this.vain?.begin();
     this.strategy.begin(seed, isPilot);
     this.turn.start(this.strategy.nextToStart());
   }
@@ -143,6 +157,10 @@ export class Board {
       end.end("bound", `more than ${rules.maxMoves} moves would be made`);
       return false;
     }
+    if (this.vain?.isAll() && !answers.areExpected) {
+      end.end(this.#standstill(), "");
+      return false;
+    }
     const next = strategy.next();
     if (next === STRAYS) end.end("failed", "");
     else if (next === NOBODY_MOVES) end.end(this.#standstill(), "");
@@ -181,6 +199,8 @@ export class Board {
   join(agent) {
     this.words[WORD.JOINED] += 1;
     this.strategy.asks(agent, 0, 0, 0);
+    this.deadlines.lags?.wakes(agent);
+    this.vain?.news();
     this.line.become(agent, PHASE.ASKS);
     this.turn.call(agent);
   }
@@ -219,6 +239,7 @@ export class Board {
     const { answers, row, strategy } = this;
     if (!row.admits(agent)) return false;
     answers.goesOn(agent);
+    this.vain?.news();
     strategy.moves(agent, agent + LOOK);
     if (answers.came(agent)) this.turned();
     return true;

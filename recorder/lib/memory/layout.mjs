@@ -29,7 +29,7 @@ export const WORD = Object.freeze({
   STRATEGY: 24,
   IS_PILOT: 25,
   EARLY_OTHER: 26,
-  EARLY_CALL: 27,
+  EARLY_BEFORE: 27,
   IS_SILENT: 28,
   /**
    * Of a program: how many threads have joined its run, how many messages were sent, and how many threads are ready.
@@ -61,6 +61,12 @@ export const WORD = Object.freeze({
   MORE_ANSWERS: 43,
   /** Which agent has met a limit, and whether it spins, as `End` keeps them. */
   MET: 44,
+  /** Of a program: which agents are held at a wait or a notify, and how many draws of one came in a row, as `Late` keeps them. */
+  LATE: 45,
+  /** Of a program: how many callbacks of timers have run in a row, in vain so far. */
+  VAIN: 46,
+  /** In a run that notes lines of code: how many more ordinary accesses note theirs wherever they are. */
+  LINES_LEFT: 47,
 });
 
 /** Words of each agent; each agent has a line of the processor's cache for itself. */

@@ -20,9 +20,6 @@ const resources = own.getActiveResourcesInfo.bind(own);
 /** From here on are the numbers of the rows by which threads draw tasks. */
 const TASKS = 64;
 
-/** A timer that is further away is never early. */
-const SOON_MILLISECONDS = 1_000;
-
 /** How likely it is that the time of the first timer comes, in runs in which short times are up early. */
 const HASTY = 0.5;
 
@@ -34,24 +31,7 @@ const STEP = Object.freeze({ GOES_ON: 0, IS_OVER: 1, READS: 2, LOOKS: 3, TURNS: 
 /** What is under way if an answer is held back. */
 const HELD = Object.freeze({ isSome: true, byThemselves: false, texts: ["an answer"] });
 
-/**
- * @typedef {object} Served
- * @property {import("./moves.mjs").Moves} moves
- * @property {import("./ports.mjs").Ports} ports
- * @property {import("./port-events.mjs").PortEvents} events
- * @property {import("./timers.mjs").Timers} timers
- * @property {import("./wait-async.mjs").WaitAsync} waits
- * @property {import("./ends.mjs").Ends} ends
- * @property {import("../memory/keepers.mjs").Keepers} keepers
- * @property {(why: string) => never} refuse ends the run
- * @property {() => never} leave leaves all code of the run
- * @property {() => void} goHome is called when the thread's part in the run is over, and none of its code goes on
- * @property {Set<{ refed: boolean, where: string }>} children workers that this thread has started
- * @property {import("../memory/task-notes.mjs").TaskNotes} notes of tasks that begin
- * @property {() => string | undefined} here where the program's code is
- * @property {import("./looking.mjs").Looking} looking
- * @property {boolean} hasPhases whether timers that are due come before all else in each turn of the loop, as in node
- */
+/** @typedef {import("./served.mjs").Served} Served */
 
 export class Loop {
   /** @type {{ text: string, place: string | undefined, act: () => void }[]} */
@@ -102,8 +82,8 @@ export class Loop {
     return this.served.moves.board.words[WORD.NOTES_SOURCES] === 1;
   }
 
-  /** @param {string} text what begins now @param {string} [place] where it was made */
-  #note(text, place = "") {
+  /** @param {string} text what begins now, or is done @param {string} [place] where it was made, or is done */
+  note(text, place = "") {
     const { notes, moves: { agent, player } } = this.served;
     if (this.#notes) notes.note({ event: player.table.log.length, agent, text, place });
   }
@@ -170,7 +150,7 @@ export class Loop {
    * @returns {number} one of `STEP`
    */
   #step(holds) {
-    const { ends, moves, keepers } = this.served;
+    const { ends, moves, keepers, waits } = this.served;
     this.drain();
     if (ends.isDone()) return STEP.IS_OVER;
     const active = resources();
@@ -181,8 +161,9 @@ export class Loop {
     } else {
       const kept = this.#keepers().concat(moves.silentTexts(pending));
       if (kept.length === 0) return this.#endsNow();
-      keepers.write(kept.join("; "));
+      keepers.write([kept.join("; "), ...waits.texts()].join("; it awaits "));
       this.#mayLook = true;
+      moves.board.vain?.rests(moves.agent, this.#places);
       if (!moves.idle(this.#untilTimer(), pending)) return STEP.IS_OVER;
     }
     if (moves.looksFor > 0) return STEP.LOOKS;
@@ -290,6 +271,12 @@ export class Loop {
     return deadline === Infinity ? undefined : Math.max(0, deadline - this.#now());
   }
 
+  /** @returns {unknown[]} where all timers were made that are still to be due; undefined: that isn't known */
+  #places = () => {
+    const { timers: armed, waits } = this.served;
+    return waits.deadline === Infinity ? armed.places() : [undefined];
+  };
+
   /** @returns {string[]} what keeps the thread alive, in words */
   #keepers() {
     const { ports, timers: armed, children, ends } = this.served;
@@ -307,8 +294,10 @@ export class Loop {
     if (acts.length === 0) return;
     this.#hasAwaited = false;
     const at = acts.length === 1 ? 0 : this.random.below(acts.length);
+    const act = acts[at];
+    if (act !== this.#runDue) this.served.moves.board.vain?.news();
     try {
-      acts[at]();
+      act();
     } catch (thrown) {
       this.served.ends.uncaught(thrown);
     }
@@ -326,7 +315,7 @@ export class Loop {
     if (armed.inRound > 0) return [() => this.#runImmediate()];
     this.#offerEarly();
     const isDue = this.#deadline() <= this.#now();
-    if (isDue && this.#isTurning) return [() => this.#runDue()];
+    if (isDue && this.#isTurning) return [this.#runDue];
     this.#isTurning = false;
     const ready = events.ready();
     const isFirst = this.#areFirst(ready);
@@ -338,14 +327,14 @@ export class Loop {
     if (task !== undefined) {
       acts.push(() => {
         this.#tasks.shift();
-        this.#note(task.text, task.place);
+        this.note(task.text, task.place);
         task.act();
       });
     }
     if (waits.isWoken) acts.push(() => waits.settle());
     else if (armed.immediates > 0) {
       if (!isFirst) acts.push(() => this.#runImmediate());
-    } else if (isDue) acts.push(() => this.#runDue());
+    } else if (isDue) acts.push(this.#runDue);
     return acts;
   }
 
@@ -361,22 +350,26 @@ export class Loop {
   }
 
   /** Runs the first timer that is due, or ends the first waitAsync whose time is up. */
-  #runDue() {
+  #runDue = () => {
     const { timers: armed, waits } = this.served;
     this.#looks = true;
-    if (waits.deadline < armed.deadline) waits.timeOut();
-    else {
+    const { vain } = this.served.moves.board;
+    if (waits.deadline < armed.deadline) {
+      vain?.news();
+      waits.timeOut();
+    } else {
       const timer = armed.nextTimer();
-      if (timer !== undefined) this.#note(`runs ${taskText(timer)}`, timer.where);
+      vain?.turns(timer?.where);
+      if (timer !== undefined && vain?.isShown) this.note(`runs ${taskText(timer)}`, timer.where);
       armed.runTimer();
     }
-  }
+  };
 
   /** After the last immediate of a round the loop turns. */
   #runImmediate() {
     const { timers: armed } = this.served;
     const immediate = armed.nextImmediate();
-    if (immediate !== undefined) this.#note(`runs ${taskText(immediate)}`, immediate.where);
+    if (immediate !== undefined) this.note(`runs ${taskText(immediate)}`, immediate.where);
     try {
       armed.runImmediate();
     } finally {
@@ -387,11 +380,11 @@ export class Loop {
 
   /** In some of the draws the time of the first timer comes though there is something else to do. */
   #offerEarly() {
-    const { board: { clock, strategy } } = this.served.moves;
+    const { agent, board: { clock, deadlines, strategy } } = this.served.moves;
     const left = this.#deadline() - clock.now();
-    if (!(left > 0 && left < SOON_MILLISECONDS)) return;
-    const likelihood = strategy.isHasty ? HASTY : strategy.early;
-    if (likelihood > 0 && this.random.fraction() < likelihood) clock.pass(left);
+    if (!(left > 0 && deadlines.mayPassEarly(agent, left))) return;
+    const likelihood = strategy.isHasty ? HASTY : strategy.share;
+    if (likelihood > 0 && this.random.fraction() < likelihood) deadlines.passEarly(agent, left);
   }
 }
 

@@ -23,6 +23,7 @@ import { readFileSync } from "node:fs";
  * @property {string[]} [options] that the recorder needs for it
  * @property {boolean} [isEndless] whether it prints "ready" and ends only by Ctrl-C
  * @property {boolean} [isWeb] whether it is for browsers
+ * @property {RegExp} [late] what it says in node if the machine is so slow that a limit of time is met
  * @property {string} [notYet] what it needs that the recorder doesn't simulate yet, as the recorder names it
  */
 
@@ -71,6 +72,7 @@ const ALL = [
   wrong("hand-over/waits-elsewhere.mjs", deadlock(["waits-elsewhere.mjs", "Atomics.wait(words, 1, 0)"])),
   right("message/right.mjs"),
   wrong("message/too-soon.mjs", race(["too-soon.mjs", "data[0] = 7"], ["worker.mjs", "data[1] = data[0] * data[0]"])),
+  wrong("message/two-talks.mjs", race(["two-talks.mjs", "const found"], ["writes.mjs", "byte[0] = 1"])),
   right("message/after-exit.mjs"),
   wrong("message/before-exit.mjs",
     race(["before-exit.mjs", "const last"], ["fills.mjs", "data[at] = at / 2"]),
@@ -87,6 +89,10 @@ const ALL = [
   rare("calls/late-notify.mjs", failed(/woken without an answer/, ["calls.mjs", "woken without an answer"])),
   rare("calls/late-answer.mjs", failed(/woken without an answer/, ["calls.mjs", "woken without an answer"])),
   wrong("calls/notify-first.mjs", failed(/woken without an answer/, ["calls.mjs", "woken without an answer"])),
+  right("bridge/right.mjs"),
+  wrong("bridge/reads.mjs", failed(/woken without an answer/, ["bridge.mjs", "woken without an answer"])),
+  wrong("bridge/looks-first.mjs", failed(/woken without an answer/, ["bridge.mjs", "woken without an answer"])),
+  wrong("bridge/timed.mjs", failed(/woken without an answer/, ["bridge.mjs", "woken without an answer"])),
   ofTime("calls/time-limit.mjs", failed(/is answered by/, ["time-limit.mjs", THROWS])),
 
   // Pools, and what is remembered across an await.
@@ -122,6 +128,8 @@ const ALL = [
   right("free-list/right.mjs"),
   rare("free-list/comes-back.mjs",
     failed(/the free nodes are/, ["threads.mjs", THROWS]), failed(/no node is free/, ["list.mjs", THROWS])),
+  rare("free-list/wraps.mjs",
+    failed(/the free nodes are/, ["wraps.mjs", THROWS]), failed(/no node is free/, ["list.mjs", THROWS])),
   right("version/right.mjs"),
   rare("version/wraps.mjs", failed(/a torn pair/, ["threads.mjs", THROWS])),
   right("buffers/right.mjs"),
@@ -153,6 +161,19 @@ const ALL = [
   ofTime("deadline/sleeps.mjs", failed(/hasn't answered after 50 ms/, ["sleeps.mjs", THROWS])),
   rare("deadline/turns.mjs", failed(/no answer after eight turns/, ["turns.mjs", THROWS])),
 
+  // Limits of time that are met only if a thread does nothing for so long.
+  right("watchdog/right.mjs", { late: /no answer in 500 ms/ }),
+  right("watchdog/ticks.mjs", { late: /answers in 200 ms/ }),
+  wrong("watchdog/two-questions.mjs", failed(/no answer to [34] in 500 ms/, ["two-questions.mjs", "throw new Error"])),
+  right("heartbeat/right.mjs"),
+  wrong("heartbeat/first-only.mjs", failed(/no beat for [45]\d{3}/, ["first-only.mjs", THROWS])),
+  right("interval/right.mjs"),
+  right("interval/counts.mjs"),
+  wrong("interval/loses-wake-up.mjs",
+    stuck(["loses-wake-up.mjs", "const beats"], ["loses-wake-up.mjs", "Atomics.waitAsync"])),
+  right("cache/right.mjs"),
+  wrong("cache/asks-twice.mjs", failed(/the answer to b is number [23], for [ab]/, ["asks-twice.mjs", THROWS])),
+
   // How threads end: terminate, rejections, errors, exit codes, unref.
   right("terminate/right.mjs"),
   wrong("terminate/in-the-middle.mjs", deadlock(["lock.mjs", "Atomics.wait("])),
@@ -162,6 +183,10 @@ const ALL = [
   wrong("rejection/in-worker.mjs", failed(/no ticket is left/, ["in-worker.mjs", "throw new RangeError"])),
   right("errors/listened.mjs"),
   wrong("errors/no-listener.mjs", failed(/the word isn't set/, ["needs-word.mjs", THROWS])),
+  wrong("errors/dies.mjs",
+    { ending: "deadlock", at: [["dies.mjs", "Atomics.wait("], ["throws.mjs", "throw new"]], says: /ended: threw Error: there is no table/ }),
+  wrong("exits/in-catch.mjs",
+    { ending: "failed", at: [["in-catch.mjs", "process.exit(1)"], ["in-catch.mjs", THROWS]], says: /wrote to standard error:\nError: the sum is [12]/ }),
   right("exits/right.mjs"),
   wrong("exits/first-exits.mjs", failed(/\b5\b/)),
   right("unref/right.mjs"),
