@@ -1,0 +1,94 @@
+// The agents' modules, rewritten and compiled once, and made anew as often as that is needed.
+
+import { readFileSync } from "node:fs";
+import { basename } from "node:path";
+import { fileURLToPath } from "node:url";
+import vm from "node:vm";
+import { Refused } from "../../options/refused.mjs";
+import { parseScript, resolveModule } from "../../program/internals.mjs";
+import { rewritten } from "../rewriting/rewrite.mjs";
+
+/** @typedef {import("../rewriting/rewrite.mjs").Rewritten} Rewritten */
+
+/**
+ * @typedef {object} Module
+ * @property {string} url
+ * @property {Function} make its function
+ * @property {(string | object)[]} imports the URLs of the modules that it imports, and what node's own export
+ */
+
+/** Modules of node's that keep nothing. */
+const HARMLESS = new Set(["node:assert", "node:assert/strict", "node:util", "node:path"]);
+
+/** @param {string} url @param {string} source */
+function parsed(url, source) {
+  try {
+    return parseScript(source, { ecmaVersion: "latest", sourceType: "module" });
+  } catch (error) {
+    throw new Refused(`--all can't read ${basename(url)}: ${/** @type {Error} */ (error).message}`);
+  }
+}
+
+export class Graph {
+  constructor() {
+    /** @type {Map<string, Rewritten>} by the modules' URLs */
+    this.texts = new Map();
+    /** @type {Module[]} each after all that it imports */
+    this.modules = [];
+    /** @type {Record<string, object>} what node's own modules export, by their names */
+    this.nodes = {};
+  }
+
+  /**
+   * Takes a module, with all that it imports.
+   * @param {string} url
+   * @param {boolean} [isEntry] whether it is the agents' own
+   */
+  async take(url, isEntry = false) {
+    if (this.texts.has(url)) return;
+    if (!/\.m?js$/.test(url)) throw new Refused(`--all can't read ${basename(url)}: it takes modules of JavaScript, .mjs or .js`);
+    const source = readFileSync(fileURLToPath(url), "utf8").replace(/^\uFEFF/, "");
+    const text = rewritten(parsed(url, source), source, { file: basename(fileURLToPath(url)), isEntry });
+    this.texts.set(url, text);
+    /** @type {(string | object)[]} */
+    const imports = [];
+    for (const specifier of text.imports) imports.push(await this.#imported(specifier, url));
+    this.modules.push({ url, make: new vm.Script(text.code, { filename: url }).runInThisContext(), imports });
+  }
+
+  /** @param {string} specifier @param {string} parent @returns {Promise<string | object>} */
+  async #imported(specifier, parent) {
+    const url = resolveModule(specifier, parent);
+    if (!url.startsWith("node:")) {
+      await this.take(url);
+      return url;
+    }
+    if (!HARMLESS.has(url)) throw new Refused(`--all can't show what agents keep in ${url}, which ${basename(parent)} imports`);
+    this.nodes[url] ??= await import(url);
+    return this.nodes[url];
+  }
+
+  /**
+   * Makes all modules anew.
+   * @param {object} calls what rewritten code calls
+   * @returns {Map<string, Record<string, any>>} what each exports, by their URLs
+   */
+  made(calls) {
+    /** @type {Map<string, Record<string, any>>} */
+    const exports = new Map(this.modules.map(({ url }) => [url, Object.create(null)]));
+    for (const { url, make, imports } of this.modules) {
+      const own = /** @type {Record<string, any>} */ (exports.get(url));
+      const others = imports.map((one) => (typeof one === "string" ? exports.get(one) : one));
+      make(calls, { imports: others, exported: (/** @type {any} */ getters, /** @type {number[]} */ stars) => fill(own, getters, stars.map((at) => others[at])) });
+    }
+    return exports;
+  }
+}
+
+/** @param {object} own what a module exports @param {Record<string, () => unknown>} getters @param {any[]} stars */
+function fill(own, getters, stars) {
+  const passed = stars.flatMap((other) => Object.keys(other).filter((name) => name !== "default" && !Object.hasOwn(getters, name))
+    .map((name) => /** @type {[string, () => unknown]} */ ([name, () => other[name]])));
+  for (const [name, get] of [...passed, ...Object.entries(getters)]) Object.defineProperty(own, name, { get, enumerable: true, configurable: true });
+  Object.defineProperty(own, Symbol.toStringTag, { value: "Module" });
+}
