@@ -59,6 +59,11 @@ export class Code {
     return this.capture.here(keyOf(asked));
   }
 
+  /** @returns {string} the file, line and column at which an agent asks for something now */
+  line() {
+    return this.capture.line();
+  }
+
   #renew() {
     this.renewals += 1;
     this.runtime.beginModules();

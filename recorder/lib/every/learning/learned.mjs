@@ -22,6 +22,8 @@ import { Learner, LooksAtNumber } from "./learner.mjs";
 export class Learned {
   /** @param {Code} code @param {import("./asking.mjs").Asker} asker @param {Wanted} wanted */
   constructor(code, asker, wanted) {
+    /** @type {(isBegun: boolean) => void} is called before and after each call of the agents' function */
+    this.onCall = () => {};
     this.code = code;
     this.asker = asker;
     this.wanted = wanted;
@@ -55,12 +57,12 @@ export class Learned {
     const { asker, code, isShared, plan, wanted } = this;
     const key = wanted.isUnmerged ? undefined : code.key.bind(code);
     const agents = { count: plan.agents, args: wanted.args, canBlock: plan.canBlock, isShared };
-    return new Learner(asker, agents, { agentNow: () => code.agentNow(), key });
+    return new Learner(asker, agents, { onCall: (isBegun) => this.onCall(isBegun), agentNow: () => code.agentNow(), line: () => code.line(), key });
   }
 
   /**
    * Learns and searches, from the beginning again if the agents look at their numbers.
-   * @param {() => boolean} [isLate]
+   * @param {(states: number) => boolean} [isLate]
    * @returns {Search}
    */
   search(isLate) {
@@ -74,7 +76,7 @@ export class Learned {
     }
   }
 
-  /** @param {() => boolean} [isLate] */
+  /** @param {(states: number) => boolean} [isLate] */
   #search(isLate) {
     const { bases, initial, learner, plan, wanted: { limit, timeouts } } = this;
     // What an agent writes before its first call is seen by later ones.

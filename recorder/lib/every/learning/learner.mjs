@@ -29,19 +29,29 @@ const MOST_ACCESSES = 100_000;
  * @property {boolean} isShared whether all have one automaton
  */
 
+/**
+ * @typedef {object} AgentCode
+ * @property {() => Function} agentNow the agent's function, from modules that keep what they keep at first
+ * @property {() => string} line where the agent that runs now asks for something
+ * @property {(asked: Asked) => string} [key] shows the state of the agent that asks, and throws CantShow if it can't;
+ * without, no two histories are one node
+ * @property {(isBegun: boolean) => void} [onCall] is called before and after each call of the agent's function
+ */
+
 /** @typedef {{ node: Node, answer: Answer } | undefined} Origin of a node: the first edge that has led there */
 
 export class Learner {
   /**
    * @param {import("./asking.mjs").Asker} asker
    * @param {Agents} agents
-   * @param {{ agentNow: () => Function, key?: (asked: Asked) => string }} code `agentNow` returns the agent's function, from
-   * modules that are as they were first; `key` shows the state of the agent that asks, and throws CantShow if it can't
+   * @param {AgentCode} code
    */
-  constructor(asker, agents, { agentNow, key }) {
+  constructor(asker, agents, { agentNow, line, key, onCall = () => {} }) {
+    this.onCall = onCall;
     this.asker = asker;
     this.agents = agents;
     this.agentNow = agentNow;
+    this.line = line;
     this.key = key;
     /** @type {Node[]} of all automata */
     this.nodes = [];
@@ -92,6 +102,20 @@ export class Learner {
     return history.reverse();
   }
 
+  /** @param {Node} node that is no end @returns {string} the line at which agents ask for it */
+  lineOf(node) {
+    const history = this.historyOf(node);
+    let at = 0;
+    let line = "a place that isn't known";
+    const answer = () => {
+      if (at === history.length) line = this.line();
+      at += 1;
+      return history[at - 1]?.[1];
+    };
+    this.call(node.automaton, { answer });
+    return line;
+  }
+
   /**
    * @param {number} agent
    * @param {Origin} origin the edge, or undefined for the agent's beginning
@@ -124,7 +148,9 @@ export class Learner {
     };
     const given = { buffers: [...asker.buffers], agents: agents.count, args: [...agents.args] };
     Object.defineProperty(given, "agent", { get: number, enumerable: true, configurable: true });
+    this.onCall(true);
     const { isBroken, result, hasThrown, thrown } = asker.call(run, () => fn(given));
+    this.onCall(false);
     if (agents.isShared && this.looksAtNumber) throw new LooksAtNumber();
     if (isBroken) return undefined;
     if (hasThrown) return askedEnd(titleOf(thrown));

@@ -12,7 +12,7 @@ import { Writer } from "./writer.mjs";
  * @property {string} code an expression: the function of `$R`, what shows, and `$m`, what is imported and exported
  * @property {string[]} imports the specifiers of what it imports
  * @property {(place: number) => import("./places.mjs").Place} at what can be read at a place of the code
- * @property {(place: number) => number} original where a place of the code is in the module's text
+ * @property {(place: number) => string} lineOf the line and the column, in the module's text, of a place of the code
  */
 
 /**
@@ -35,7 +35,7 @@ export function rewritten(tree, source, { file, isEntry }) {
   writer.writeAll(tree.body, null);
   const { code, original } = edits.made();
   const places = new Places(analysis);
-  return { code: `${code}\n})`, imports, original, at: (place) => places.at(original(place)) };
+  return { code: `${code}\n})`, imports, lineOf: (place) => lineAt(source, original(place)), at: (place) => places.at(original(place)) };
 }
 
 /**
@@ -48,4 +48,10 @@ function shownModule({ root }, exported) {
     kind !== "import" && (exported.has(name) || references.some(({ within }) => within !== null)));
   const names = shown.map(({ index, name }) => `$i === ${index} ? ${name} : `);
   return `$R.module(($i) => ${names.join("")}undefined, [${shown.map(({ index }) => index).join(", ")}]);`;
+}
+
+/** @param {string} source @param {number} place */
+function lineAt(source, place) {
+  const before = source.slice(0, place).split("\n");
+  return `${before.length}:${before[before.length - 1].length + 1}`;
 }

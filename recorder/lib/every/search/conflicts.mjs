@@ -15,6 +15,8 @@ import { DOES, isCall, isEnd } from "./nodes.mjs";
 
 /** @typedef {[Open, Open]} Pair */
 
+/** @typedef {{ one: Node, other: Node, agents: [number, number] }} Conflict in a state, of two agents */
+
 // More than there are nodes, and lists of them.
 const MANY = 2 ** 26;
 
@@ -30,16 +32,19 @@ export class Conflicts {
     this.pairs = new Map();
   }
 
-  /** @returns {Pair[]} those of the world's state */
+  /** @returns {Conflict[]} those of the world's state */
   here() {
     const { world } = this;
-    /** @type {Pair[]} */
+    /** @type {Conflict[]} */
     const found = [];
     for (let one = 1; one < world.count; one += 1) {
       const number = this.#numberOf(one);
       for (let other = 0; other < one; other += 1) {
         const pairs = this.#pairsOf(number, this.#numberOf(other));
-        for (let at = 0; at < pairs.length; at += 1) if (this.#isOne(pairs[at])) found.push(pairs[at]);
+        for (let at = 0; at < pairs.length; at += 1) {
+          const [first, second] = pairs[at];
+          if (this.#isOne(pairs[at])) found.push({ one: first.node, other: second.node, agents: [one, other] });
+        }
       }
     }
     return found;

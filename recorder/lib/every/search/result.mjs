@@ -7,6 +7,7 @@ import { answerText } from "./text.mjs";
 
 /** @typedef {import("./search.mjs").Search} Search */
 /** @typedef {import("./nodes.mjs").Node} Node */
+/** @typedef {import("./conflicts.mjs").Conflict} Conflict */
 
 /** @typedef {[number, string]} ActData an agent, and what it did */
 /** @typedef {{ states: number, first: number }} Found how many states have something, and the first one */
@@ -34,6 +35,8 @@ export class Kinds {
     /** @type {Map<string, FoundUnknown>} */
     this.unknown = new Map();
     this.finalStates = 0;
+    /** @type {Uint8Array | undefined} of each state whether one without an act is reached, if that was looked for */
+    this.leads = undefined;
   }
 
   /** Looks at all states; those of a search that isn't closed as far as it has all of their depth. */
@@ -54,45 +57,69 @@ export class Kinds {
 
   /** @param {number} state that is loaded */
   #look(state) {
-    const { search: { world, timeouts } } = this;
-    let ended = 0;
-    let acts = 0;
-    /** @type {Set<string>} */
-    const texts = new Set();
-    for (let agent = 0; agent < world.count; agent += 1) {
-      const { does, text } = world.nodes[agent];
-      if (does === DOES.THREW) texts.add(text ?? "");
-      if (does === DOES.FINISHED) ended += 1;
-      if (world.canAct(agent) || (timeouts !== "never" && world.canTimeOut(agent))) acts += 1;
-    }
+    const { world } = this.search;
+    const { texts, isFinal, isDeadlock } = endingHere(this.search);
     for (const text of texts) count(this.failed, text, state, { text });
-    if (ended === world.count) {
+    if (isDeadlock) this.deadlock = more(this.deadlock, state);
+    if (isFinal) {
       this.finalStates += 1;
       count(this.finals, world.memory, state, { memory: world.memory });
-    } else if (texts.size === 0 && acts === 0) this.deadlock = more(this.deadlock, state);
+    }
     this.#lookForConflicts(state);
   }
 
   /** @param {number} state */
   #lookForConflicts(state) {
-    /** @type {Map<string, [Node, Node]>} */
+    const here = this.pairsHere();
+    if (here.size === 0) return;
+    const sorted = [...here.values()].sort((a, b) => a.one.id - b.one.id || a.other.id - b.other.id);
+    for (const { one, other } of sorted) count(this.conflicts, `${one.id} ${other.id}`, state, { one, other });
+  }
+
+  /** @returns {Map<string, Conflict>} the conflicts of the loaded state, each pair of nodes once, by its name */
+  pairsHere() {
+    /** @type {Map<string, Conflict>} */
     const here = new Map();
-    for (const [one, other] of this.conflictsHere.here()) {
-      const [first, second] = one.node.id < other.node.id ? [one.node, other.node] : [other.node, one.node];
-      here.set(`${first.id} ${second.id}`, [first, second]);
+    for (const { one, other, agents } of this.conflictsHere.here()) {
+      const [first, second] = one.id < other.id ? [one, other] : [other, one];
+      here.set(`${first.id} ${second.id}`, { one: first, other: second, agents });
     }
-    const sorted = [...here].sort(([, [a, b]], [, [c, d]]) => a.id - c.id || b.id - d.id);
-    for (const [name, [one, other]] of sorted) count(this.conflicts, name, state, { one, other });
+    return here;
   }
 
   /** Looks for states from which none is reached that has no act. */
   #findNoWayOut() {
     const { search } = this;
-    const leads = leadsOut(search);
+    this.leads = leadsOut(search);
     for (let state = 0; state < search.count; state += 1) {
-      if (leads[state] === 0) this.noWayOut = more(this.noWayOut, state);
+      if (this.leads[state] === 0) this.noWayOut = more(this.noWayOut, state);
     }
   }
+
+  /** @param {number} state @returns {boolean} whether it has no way out */
+  hasNoWayOut(state) {
+    return this.leads !== undefined && this.leads[state] === 0;
+  }
+}
+
+/**
+ * What kinds the loaded state has besides: texts that were thrown, whether all have ended, and whether it is a deadlock.
+ * @param {Search} search
+ * @returns {{ texts: Set<string>, isFinal: boolean, isDeadlock: boolean }}
+ */
+export function endingHere({ world, timeouts }) {
+  let ended = 0;
+  let acts = 0;
+  /** @type {Set<string>} */
+  const texts = new Set();
+  for (let agent = 0; agent < world.count; agent += 1) {
+    const { does, text } = world.nodes[agent];
+    if (does === DOES.THREW) texts.add(text ?? "");
+    if (does === DOES.FINISHED) ended += 1;
+    if (world.canAct(agent) || (timeouts !== "never" && world.canTimeOut(agent))) acts += 1;
+  }
+  const isFinal = ended === world.count;
+  return { texts, isFinal, isDeadlock: !isFinal && texts.size === 0 && acts === 0 };
 }
 
 /**

@@ -10,7 +10,7 @@ import { World } from "./world.mjs";
  * @typedef {object} Bounds
  * @property {Choice} timeouts
  * @property {number} limit how many states at most
- * @property {() => boolean} [isLate] whether the search is to stop now; it is asked now and then
+ * @property {(states: number) => boolean} [isLate] whether the search is to stop now; it is asked now and then
  */
 
 const ASKS_EVERY = 256;
@@ -62,7 +62,7 @@ export class Search {
     for (let state = 0; state < this.count; state += 1) {
       this.starts.push(this.targets.count);
       this.expanded = state;
-      const isStopped = state % ASKS_EVERY === 0 && this.isLate();
+      const isStopped = state % ASKS_EVERY === 0 && this.isLate(this.count);
       if (isStopped) this.bound = "time";
       if (isStopped || !this.#expand(state)) return;
     }

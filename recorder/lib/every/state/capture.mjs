@@ -63,6 +63,14 @@ export class Capture {
     return walk.text();
   }
 
+  /** @returns {string} the file, line and column at which an agent asks for something now */
+  line() {
+    const site = framesHere().find((one) => this.texts.has(one.getFileName() ?? ""));
+    const file = site?.getFileName() ?? "";
+    const line = this.texts.get(file)?.lineOf(/** @type {any} */ (site).getPosition());
+    return line === undefined ? "a place that isn't known" : `${file.slice(file.lastIndexOf("/") + 1)}:${line}`;
+  }
+
   /** @param {Walk} walk */
   #putModules(walk) {
     for (const { environment, indexes } of this.runtime.modules) {

@@ -1,0 +1,91 @@
+// The thread that learns each edge once more, in the code as it is written: its module was loaded anew, and the edges come
+// in reverse order.
+
+import { workerData } from "node:worker_threads";
+import { basesOf } from "../search/file.mjs";
+import { isEnd } from "../search/nodes.mjs";
+import { nodeText } from "../search/text.mjs";
+import { CantLearn, isSame } from "./asked.mjs";
+import { Asker } from "./asking.mjs";
+import { Learner } from "./learner.mjs";
+import { installRealm } from "./realm.mjs";
+
+/** @typedef {import("./report.mjs").EdgeData} EdgeData */
+/** @typedef {import("./asked.mjs").Asked} Asked */
+
+/**
+ * @typedef {object} Given
+ * @property {string} module
+ * @property {string[]} args
+ * @property {import("../../options/plan.mjs").Plan} plan
+ * @property {boolean} isShared
+ * @property {(Asked & { id: number })[]} nodes
+ * @property {EdgeData[]} edges
+ */
+
+class Again {
+  /** @param {Learner} learner @param {Function} agent @param {Given} given */
+  constructor(learner, agent, { nodes, edges }) {
+    this.learner = learner;
+    this.agent = agent;
+    this.edges = edges;
+    this.nodes = new Map(nodes.map((node) => [node.id, node]));
+  }
+
+  /** @returns {string | undefined} what is different */
+  run() {
+    for (const edge of [...this.edges].reverse()) {
+      const differs = this.#differs(edge);
+      if (differs !== undefined) return differs;
+    }
+    return undefined;
+  }
+
+  /** @param {EdgeData} edge @returns {string | undefined} */
+  #differs({ automaton, history, to }) {
+    const wanted = /** @type {Asked} */ (this.nodes.get(to));
+    const path = [...history, [to, undefined]];
+    let at = 0;
+    /** @type {Asked | undefined} */
+    let last;
+    /** @param {Asked} asked */
+    const answer = (asked) => {
+      last = asked;
+      const [id, given] = path[at];
+      at += 1;
+      return isSame(/** @type {Asked} */ (this.nodes.get(/** @type {number} */ (id))), asked) ? /** @type {any} */ (given) : undefined;
+    };
+    const ended = this.learner.call(automaton, { answer }, this.agent);
+    const [got, count] = ended === undefined ? [last, at] : [ended, at + 1];
+    if (got !== undefined && count === path.length && isSame(wanted, got)) return undefined;
+    const was = count < path.length ? /** @type {Asked} */ (this.nodes.get(/** @type {number} */ (path[count - 1][0]))) : wanted;
+    return `after ${count - 1} answers an agent that was learned ${said(was)} now ${got === undefined ? "does nothing" : said(got)}`;
+  }
+}
+
+/** @param {Asked} asked */
+const said = (asked) => (isEnd(/** @type {any} */ (asked)) ? "" : "to ask for ") + nodeText(/** @type {any} */ (asked));
+
+/** @param {(url: string) => Promise<any>} load imports a module */
+export async function main(load) {
+  const given = /** @type {Given & { port: import("node:worker_threads").MessagePort }} */ (workerData);
+  const { port } = given;
+  try {
+    port.postMessage({ differs: await differing(given, load) });
+  } catch (problem) {
+    port.postMessage(problem instanceof CantLearn ? { differs: problem.message } : { failed: /** @type {any} */ (problem)?.stack ?? String(problem) });
+  }
+  port.close();
+}
+
+/** @param {Given} given @param {(url: string) => Promise<any>} load */
+async function differing(given, load) {
+  const { module, args, isShared, plan } = given;
+  const asker = new Asker();
+  installRealm(asker);
+  const { default: agent } = await load(module);
+  asker.begin(plan.buffers, basesOf(plan.buffers).bases);
+  const agents = { count: plan.agents, args, canBlock: plan.canBlock, isShared };
+  const learner = new Learner(asker, agents, { agentNow: () => agent, line: () => "" });
+  return new Again(learner, agent, given).run();
+}
