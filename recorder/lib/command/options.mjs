@@ -54,8 +54,8 @@ Status:
   0  no run failed
   1  some runs failed
   2  the command line or the module was refused
-  3  the code and the simulator differ, or with --replay the code and the script; the chosen native program isn't there;
-     a file or standard output can't be written; a program keeps something in globals; or a job's process ended
+  3  the code and the simulator differ, or with --replay the code and the script, or with --all the code and what was
+     learned of it; the chosen native program isn't there; a file or standard output can't be written; a program keeps something in globals; or a job's process ended
 `;
 
 /** @type {Record<string, { type: "string" | "boolean", multiple?: boolean, short?: string }>} */
@@ -142,6 +142,10 @@ function replayOf(given) {
  * @property {string} [out]
  * @property {boolean} shorten
  * @property {{ file: string, seed: number | undefined, given: Record<string, any> }} [replay]
+ * @property {boolean} all whether every schedule is to be tried
+ * @property {number} [within] for how many seconds
+ * @property {number} [states] how many states at most
+ * @property {import("../every/data.mjs").EveryData} [every] how far that came, if it isn't closed
  */
 
 /**

@@ -1,7 +1,6 @@
 // Tries every schedule of a module of agents: learns the agents, searches, checks what was learned, and shows what was
 // found.
 
-import { FinalStates } from "../run/final-state.mjs";
 import { Runs } from "../seeds/runs.mjs";
 import { Agreement } from "./agreement.mjs";
 import { DoesOtherwise, Unlearned, learnAgain, learnApart } from "./learning/apart.mjs";
@@ -127,17 +126,4 @@ export class Every {
 function openText({ bound, depth, result: { states } }) {
   const why = bound === "time" ? "its time was over" : "there are more";
   return `all of up to ${depth ?? 0} acts were, ${states.toLocaleString("en-US")} states; ${why}`;
-}
-
-/**
- * The bytes that agents leave, by their names.
- * @param {Report} report
- * @returns {{ states: number, blocks: string[], text: string }[]}
- */
-export function finalsOf({ plan, result: { final } }) {
-  const named = new FinalStates(plan.names);
-  return final.listed.map(({ blocks, states }) => {
-    const { named: text, shown: bytes } = named.of("finished", blocks);
-    return { states, blocks, text: text ?? bytes.join(" | ") };
-  });
 }

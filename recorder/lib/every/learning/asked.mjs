@@ -13,7 +13,13 @@ import { DOES, NOT_EQUAL, OK } from "../search/nodes.mjs";
 /** @typedef {Omit<Node, "id" | "automaton" | "edges">} Asked */
 
 /** Something that can't be learned of an agent: it says why. */
-export class CantLearn extends Error {}
+export class CantLearn extends Error {
+  /** @param {string} why @param {boolean} [isRefused] whether the agents do something that nobody can learn */
+  constructor(why, isRefused = false) {
+    super(why);
+    this.isRefused = isRefused;
+  }
+}
 
 /** @type {Asked} */
 const NOTHING = {

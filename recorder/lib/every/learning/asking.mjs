@@ -40,6 +40,8 @@ export class Asker {
     this.caught = 0;
     /** @type {{ block: number, from: number, to: number } | undefined} a write that is being made */
     this.writing = undefined;
+    /** @type {() => string} where the agent that runs now is */
+    this.lineHere = () => "a place that isn't known";
     /** @type {CantLearn | undefined} why the agent can't be learned */
     this.refused = undefined;
   }
@@ -88,7 +90,7 @@ export class Asker {
 
   /** @param {string} why @returns {never} */
   refuse(why) {
-    this.refused ??= new CantLearn(why);
+    this.refused ??= new CantLearn(`--all can't learn what the agents do: ${why}, at ${this.lineHere()}`, true);
     return this.#breakOff();
   }
 

@@ -3,7 +3,6 @@
 import { isSharedArrayBuffer } from "node:util/types";
 import { syncBuiltinESMExports } from "node:module";
 import { recordedAtomics } from "../../agent/atomics.mjs";
-import { sourceHere } from "../../agent/frames.mjs";
 import { blockNumber } from "../../agent/ordinary/context.mjs";
 import { watchOrdinary } from "../../agent/ordinary/watch.mjs";
 import { simulateChance, simulateTime } from "../../agent/time.mjs";
@@ -17,7 +16,7 @@ const SAYS = /** @type {const} */ (["log", "error", "warn", "info", "debug"]);
 export function installRealm(asker) {
   const isRecording = () => asker.run !== undefined;
   /** @param {string} what @returns {never} */
-  const refuse = (what) => asker.refuse(`${what}, at ${sourceHere()}`);
+  const refuse = (what) => asker.refuse(what);
   simulateTime(() => (isRecording() ? refuse("it looks at a clock") : 0));
   simulateChance(/** @type {any} */ (new NoChance(() => refuse("it asks for a random number"))));
   watchOrdinary({

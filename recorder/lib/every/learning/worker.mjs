@@ -36,6 +36,7 @@ async function reported(given) {
   const asker = new Asker();
   installRealm(asker);
   const code = await loadCode(given.module, given.flaw);
+  asker.lineHere = () => code.line();
   const learned = new Learned(code, asker, given);
   const words = new Int32Array(given.progress);
   const until = now() + 1_000 * given.within;
@@ -53,7 +54,7 @@ async function reported(given) {
 /** @param {any} problem @returns {object} what is said about it */
 function answerOf(problem) {
   if (problem instanceof Refused || problem?.name === REFUSED) return { refused: problem.message };
-  if (problem instanceof CantLearn) return { unlearned: problem.message };
+  if (problem instanceof CantLearn) return problem.isRefused ? { refused: problem.message } : { unlearned: problem.message };
   if (problem instanceof NotTheSame) return { differs: problem.message };
   return { failed: problem?.stack ?? String(problem) };
 }
