@@ -6,6 +6,7 @@ import { DOES, isCall, isEnd } from "./search/nodes.mjs";
 import { World } from "./search/world.mjs";
 import { answerText, callData, nodeText, Views } from "./search/text.mjs";
 import { hexOf } from "./search/elements.mjs";
+import { NotAsLearned } from "./not-as-learned.mjs";
 
 /** @typedef {import("../run/outcome.mjs").Outcome} Outcome */
 /** @typedef {import("./search/nodes.mjs").Node} Node */
@@ -18,9 +19,6 @@ import { hexOf } from "./search/elements.mjs";
 const MOST_ALONE = 100_000;
 
 const SIZES = /** @type {Record<string, number>} */ ({ Int8: 1, Uint8: 1, Uint8Clamped: 1, Int16: 2, Uint16: 2, Int32: 4, Uint32: 4, Float32: 4, Float64: 8, BigInt64: 8, BigUint64: 8 });
-
-/** A real run that isn't a way through the automata: the message says where. */
-export class Disagreement extends Error {}
 
 export class Agreement {
   /** @param {import("./search/world.mjs").Program} program */
@@ -35,7 +33,7 @@ export class Agreement {
 
   /**
    * @param {Outcome} outcome of a real run, with its script, answers and trace
-   * @throws {Disagreement}
+   * @throws {NotAsLearned}
    */
   needs(outcome) {
     const { answers, script, seed, trace } = outcome;
@@ -45,8 +43,9 @@ export class Agreement {
       for (const line of trace.split("\n")) if (line !== "") way.step(JSON.parse(line));
       way.end(outcome);
     } catch (problem) {
-      if (!(problem instanceof Disagreement)) throw problem;
-      throw new Disagreement(`the run of seed ${seed} does something else than was learned: ${problem.message}`);
+      if (!(problem instanceof NotAsLearned)) throw problem;
+      throw new NotAsLearned(`the run of seed ${seed} does something else than was learned: ${problem.message}. The module may `
+        + "keep something from run to run, or go by chance or by a clock");
     }
     this.compared += 1;
   }
@@ -110,7 +109,10 @@ class Way {
     need(real === answer, `call ${call} of agent ${agent} was answered ${real}, and by the automata it is ${answer}`);
   }
 
-  /** Makes the reads of an agent that are acts of their own, and compares what it has touched. @param {number} agent */
+  /**
+   * Makes the reads of an agent that are acts of their own, and compares what it has touched.
+   * @param {number} agent
+   */
   #needAccesses(agent) {
     const { world, touched } = this;
     const real = touched[agent];
@@ -171,5 +173,5 @@ function add(found, { block, byte, size, written }) {
 
 /** @param {boolean} holds @param {string} why not @returns {asserts holds} */
 function need(holds, why) {
-  if (!holds) throw new Disagreement(why);
+  if (!holds) throw new NotAsLearned(why);
 }

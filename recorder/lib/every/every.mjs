@@ -4,6 +4,7 @@
 import { Runs } from "../seeds/runs.mjs";
 import { Agreement } from "./agreement.mjs";
 import { DoesOtherwise, Unlearned, learnAgain, learnApart } from "./learning/apart.mjs";
+import { NotAsLearned } from "./not-as-learned.mjs";
 import { programOf } from "./search/file.mjs";
 import { comparedBySecond } from "./second.mjs";
 import { shown } from "./showing.mjs";
@@ -26,15 +27,12 @@ import { shown } from "./showing.mjs";
  * @property {number} milliseconds
  */
 
-/** What was learned isn't what the agents do. The message says how it is seen. */
-export class NotAsLearned extends Error {}
-
 export class Every {
   /**
    * @param {EveryOptions} options
-   * @param {{ signal?: AbortSignal, onProgress?: (states: number) => void }} [how]
+   * @param {{ signal?: AbortSignal, onProgress?: (states: number) => void }} how
    */
-  constructor(options, { signal, onProgress } = {}) {
+  constructor(options, { signal, onProgress }) {
     this.options = options;
     this.signal = signal;
     this.onProgress = onProgress;
@@ -98,7 +96,7 @@ export class Every {
     const { args, module } = this.options;
     const differs = await learnAgain({ module, args, plan, isShared, nodes, edges });
     if (differs === undefined) return;
-    throw new NotAsLearned(`the code as it is written, loaded anew, does something else than was learned: ${differs}. `
+    throw new NotAsLearned(`the code as it is written, loaded anew, does something else than was learned. ${differs}. `
       + "It may keep something from run to run, or go by chance or by a clock");
   }
 

@@ -1,12 +1,10 @@
 // The second search: the proved one. It isn't there yet.
 
 import { isDeepStrictEqual } from "node:util";
+import { NotAsLearned } from "./not-as-learned.mjs";
 
 /** @typedef {import("./search/file.mjs").FileData} FileData */
 /** @typedef {import("./search/result.mjs").Result} Result */
-
-/** Two searches of one file that found something else. */
-export class SearchesDiffer extends Error {}
 
 /**
  * @callback SecondSearch
@@ -25,7 +23,7 @@ export const provedSearch = undefined;
  * @param {Result} result of the search in JavaScript
  * @param {SecondSearch | undefined} [second]
  * @returns {Promise<boolean>} whether there was a second search
- * @throws {SearchesDiffer}
+ * @throws {NotAsLearned}
  */
 export async function comparedBySecond(data, result, second = provedSearch) {
   if (second === undefined) return false;
@@ -33,7 +31,7 @@ export async function comparedBySecond(data, result, second = provedSearch) {
   const [own, theirs] = [countsOf(result), countsOf(other)];
   for (const name of /** @type {(keyof typeof own)[]} */ (Object.keys(own))) {
     if (isDeepStrictEqual(own[name], theirs[name])) continue;
-    throw new SearchesDiffer(`the two searches differ in ${name}: ${JSON.stringify(own[name])}, and ${JSON.stringify(theirs[name])}`);
+    throw new NotAsLearned(`the two searches differ in ${name}: ${JSON.stringify(own[name])}, and ${JSON.stringify(theirs[name])}`);
   }
   return true;
 }

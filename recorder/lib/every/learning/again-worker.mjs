@@ -3,7 +3,6 @@
 
 import { workerData } from "node:worker_threads";
 import { basesOf } from "../search/file.mjs";
-import { isEnd } from "../search/nodes.mjs";
 import { nodeText } from "../search/text.mjs";
 import { CantLearn, isSame } from "./asked.mjs";
 import { Asker } from "./asking.mjs";
@@ -59,12 +58,13 @@ class Again {
     const [got, count] = ended === undefined ? [last, at] : [ended, at + 1];
     if (got !== undefined && count === path.length && isSame(wanted, got)) return undefined;
     const was = count < path.length ? /** @type {Asked} */ (this.nodes.get(/** @type {number} */ (path[count - 1][0]))) : wanted;
-    return `after ${count - 1} answers an agent that was learned ${said(was)} now ${got === undefined ? "does nothing" : said(got)}`;
+    const now = got === undefined ? "nothing" : said(got);
+    return `With the same ${count - 1} answers an agent was learned to do this: ${said(was)}; and now it does: ${now}`;
   }
 }
 
 /** @param {Asked} asked */
-const said = (asked) => (isEnd(/** @type {any} */ (asked)) ? "" : "to ask for ") + nodeText(/** @type {any} */ (asked));
+const said = (asked) => nodeText(/** @type {any} */ (asked));
 
 /** @param {(url: string) => Promise<any>} load imports a module */
 export async function main(load) {

@@ -3,7 +3,7 @@
 import { readFileSync } from "node:fs";
 import { basename } from "node:path";
 import { fileURLToPath } from "node:url";
-import vm from "node:vm";
+import { Script } from "node:vm";
 import { Refused } from "../../options/refused.mjs";
 import { parseScript, resolveModule } from "../../program/internals.mjs";
 import { rewritten } from "../rewriting/rewrite.mjs";
@@ -53,7 +53,7 @@ export class Graph {
     /** @type {(string | object)[]} */
     const imports = [];
     for (const specifier of text.imports) imports.push(await this.#imported(specifier, url));
-    this.modules.push({ url, make: new vm.Script(text.code, { filename: url }).runInThisContext(), imports });
+    this.modules.push({ url, make: new Script(text.code, { filename: url }).runInThisContext(), imports });
   }
 
   /** @param {string} specifier @param {string} parent @returns {Promise<string | object>} */

@@ -233,7 +233,7 @@ class Growing {
 
   /** @param {Asked} asked */
   #grow(asked) {
-    const isOfCall = isCall(asked);
+    const isOfCall = isCall(/** @type {Node} */ (asked));
     this.accesses = isOfCall ? 0 : this.accesses + 1;
     if (this.accesses > MOST_ACCESSES) throw this.#cant("it makes 100,000 ordinary accesses between two calls of Atomics");
     const isLong = !isOfCall && this.accesses > READS_BEFORE_COMPARING;

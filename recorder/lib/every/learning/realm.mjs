@@ -1,7 +1,7 @@
 // The world of an agent that is learned: `Atomics` and arrays that ask, clocks and chance that are refused, and no output.
 
-import { isSharedArrayBuffer } from "node:util/types";
 import { syncBuiltinESMExports } from "node:module";
+import { types } from "node:util";
 import { recordedAtomics } from "../../agent/atomics.mjs";
 import { blockNumber } from "../../agent/ordinary/context.mjs";
 import { watchOrdinary } from "../../agent/ordinary/watch.mjs";
@@ -41,7 +41,7 @@ export function installRealm(asker) {
     unseen: new Others(),
     endUnseen: () => refuse("it uses shared memory that isn't recorded"),
   }));
-  for (const name of SAYS) console[name] = () => {};
+  for (const name of SAYS) /** @type {any} */ (console)[name] = () => {};
   syncBuiltinESMExports();
 }
 
@@ -58,11 +58,12 @@ class NoChance {
 /** Shared memory that isn't recorded: none may be used. */
 class Others {
   isAllowed = false;
+  /** @type {never[]} */
   lasting = [];
 
   /** @param {unknown} buffer */
   isTheirs(buffer) {
-    return isSharedArrayBuffer(buffer);
+    return types.isSharedArrayBuffer(buffer);
   }
 
   use() {

@@ -176,7 +176,10 @@ function writeMemberAssignment(writer, tree, info) {
   writer.write(right, info);
 }
 
-/** `o[k]++` reads and writes: what its member is of is kept while it reads. @type {Write} */
+/**
+ * `o[k]++` reads and writes: what its member is of is kept while it reads.
+ * @type {Write}
+ */
 function writeUpdate(writer, tree, info) {
   if (tree.argument.type !== "MemberExpression") return;
   if (!writer.analysis.unused.has(tree)) writer.analysis.hidden.push([tree.start, tree.end]);

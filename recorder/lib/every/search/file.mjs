@@ -1,7 +1,7 @@
 // Files of automata (tests/search/FORMAT.md): written of what was learned, and read back.
 
 import { CALL_NUMBERS, CALLS, SCRIPT_KINDS, SIZES, isBigKind } from "../../../script/kinds.mjs";
-import { hexOf, rawOf } from "./elements.mjs";
+import { hexOf, rawAt, rawOf } from "./elements.mjs";
 import { DONE, DOES, NOT_EQUAL, OK, TIMED_OUT, isCall, nodeOf } from "./nodes.mjs";
 import { Views, answerText, callData } from "./text.mjs";
 
@@ -170,7 +170,7 @@ function answerOf(node, text) {
   if (node.does === DOES.READ) {
     const { size } = node;
     if (size !== 1 && size !== 2 && size !== 4) return text;
-    return Buffer.concat([Buffer.from(text, "hex"), Buffer.alloc(4)]).readUInt32LE(0);
+    return /** @type {number} */ (rawAt(Uint8Array.from(Buffer.from(text, "hex")), 0, size));
   }
   if (/Error$/.test(text)) return text;
   if (node.does === DOES.WAIT) return /** @type {number} */ (WORDS.get(text));

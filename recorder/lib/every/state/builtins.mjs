@@ -41,7 +41,10 @@ export class Builtins {
     return this.names.get(object);
   }
 
-  /** Takes all that can be reached now. @param {Record<string, object>} modules of node's, by their names */
+  /**
+   * Takes all that can be reached now.
+   * @param {Record<string, object>} modules of node's, by their names
+   */
   take(modules) {
     this.names.set(globalThis, "globalThis");
     this.queue.push([globalThis, "globalThis"]);

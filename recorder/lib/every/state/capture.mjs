@@ -67,7 +67,7 @@ export class Capture {
   line() {
     const site = framesHere().find((one) => this.texts.has(one.getFileName() ?? ""));
     const file = site?.getFileName() ?? "";
-    const line = this.texts.get(file)?.lineOf(/** @type {any} */ (site).getPosition());
+    const line = this.texts.get(file)?.lineOf(site.getPosition());
     return line === undefined ? "a place that isn't known" : `${file.slice(file.lastIndexOf("/") + 1)}:${line}`;
   }
 
@@ -85,7 +85,7 @@ export class Capture {
     const text = this.texts.get(site?.getFileName() ?? "");
     if (site === undefined || text === undefined) throw new CantShow(`a function of the engine, ${name}, that calls others`);
     if (CALLED_BY_ENGINE.has(site.getMethodName() ?? "") || name.includes("[Symbol")) throw new CantShow(`${name}, which the engine calls`);
-    const position = /** @type {any} */ (site).getPosition();
+    const position = site.getPosition();
     const place = text.at(position);
     if (place.unknown !== undefined) throw new CantShow(place.unknown);
     if (frame.id !== place.fn || site.isConstructor() !== place.makes) throw new CantShow("another function than was seen");

@@ -1,6 +1,7 @@
 // The engine's own loops over arrays, in JavaScript: it can be shown then how far they are. They are rewritten as the
 // agents' modules are, and stand for the engine's while agents are learned.
 
+/** @type {Record<string, (this: any, f: any, that?: any) => any>} */
 export const loops = {
   forEach(f, that) {
     for (let k = 0, n = this.length; k < n; k += 1) if (k in this) f.call(that, this[k], k, this);

@@ -20,9 +20,9 @@ export class Walk {
   /**
    * @param {import("./runtime.mjs").Runtime} runtime
    * @param {import("./builtins.mjs").Builtins} builtins
-   * @param {{ hides?: string }} [flaw] what is left out on purpose, so that tests see that they notice it
+   * @param {{ hides?: string }} flaw what is left out on purpose, so that tests see that they notice it
    */
-  constructor(runtime, builtins, { hides } = {}) {
+  constructor(runtime, builtins, { hides }) {
     this.runtime = runtime;
     this.builtins = builtins;
     this.hides = hides;
@@ -130,7 +130,7 @@ export class Walk {
     for (const weak of this.weak) {
       const { object, seen, hasValues } = weak;
       for (const key of [...this.seen.keys(), ...this.builtins.names.keys()]) {
-        const isIn = typeof key !== "symbol" && !seen.has(key) && (hasValues ? weakMapHas : weakSetHas).call(object, key);
+        const isIn = typeof key !== "symbol" && !seen.has(key) && (hasValues ? weakMapHas : weakSetHas).call(object, /** @type {object} */ (key));
         if (!isIn) continue;
         seen.add(key);
         this.out.push(`w${this.seen.get(object)}`);
@@ -146,7 +146,7 @@ export class Walk {
     this.out.push("{");
     if (object === UNKNOWN) throw new CantShow("how a `try` was left, or how far a loop is");
     const watched = anyWatchedOf(object);
-    if (watched !== undefined) this.#watched(object, watched);
+    if (watched !== undefined) this.#watched(watched);
     else if (types.isProxy(object)) throw new CantShow("a proxy");
     else if (typeof object === "function") this.#function(object);
     else if (!this.#content(object)) return;
@@ -156,8 +156,8 @@ export class Walk {
     if (watched === undefined && typeof object !== "function") this.#properties(object);
   }
 
-  /** @param {object} object @param {import("../../agent/ordinary/watched.mjs").Watched} watched */
-  #watched(object, { real, place: { block, kind, offset, length } }) {
+  /** @param {import("../../agent/ordinary/watched.mjs").Watched} watched */
+  #watched({ real, place: { block, kind, offset, length } }) {
     this.out.push("view", block, kind, offset, length);
     const own = Reflect.ownKeys(real).length;
     if (own !== (types.isTypedArray(real) ? length : 0)) throw new CantShow("a typed array with properties");
@@ -235,7 +235,7 @@ export class Walk {
     const prototype = Reflect.getPrototypeOf(object);
     const name = prototype === null ? undefined : this.builtins.nameOf(prototype);
     const isTyped = anyWatchedOf(object) !== undefined || ArrayBuffer.isView(object);
-    const isPlain = name === undefined || isTyped || this.builtins.plain.has(prototype) || types.isAnyArrayBuffer(object);
+    const isPlain = name === undefined || isTyped || this.builtins.plain.has(/** @type {any} */ (prototype)) || types.isAnyArrayBuffer(object);
     if (!isPlain && typeof object !== "function") throw new CantShow(`an object of ${name}`);
     this.value(prototype);
   }
