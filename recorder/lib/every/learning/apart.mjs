@@ -48,12 +48,16 @@ export async function learnApart(wanted, { seconds, onProgress = () => {} }) {
     if (performance.now() - since > 1_000 * seconds) void thread.stop();
   }, POLLS_EVERY);
   try {
-    return reportIn(await next(thread, `an agent that was called alone made no call of Atomics for ${seconds} s, and didn't end`));
+    return reportIn(await next(thread, lateText(seconds)));
   } finally {
     clearInterval(timer);
     await thread.stop();
   }
 }
+
+/** @param {number} seconds */
+const lateText = (seconds) => `an agent that was called alone didn't come back within ${seconds} s: it makes no call of Atomics, `
+  + "or catches everything that is thrown";
 
 /** @param {any} message of the thread @returns {Report} */
 function reportIn({ report, refused, unlearned, differs, failed }) {
