@@ -66,9 +66,10 @@ export class Capture {
   /** @returns {string} the file, line and column at which an agent asks for something now */
   line() {
     const site = framesHere().find((one) => this.texts.has(one.getFileName() ?? ""));
-    const file = site?.getFileName() ?? "";
+    if (site === undefined) return "a place that isn't known";
+    const file = site.getFileName() ?? "";
     const line = this.texts.get(file)?.lineOf(site.getPosition());
-    return line === undefined ? "a place that isn't known" : `${file.slice(file.lastIndexOf("/") + 1)}:${line}`;
+    return `${file.slice(file.lastIndexOf("/") + 1)}:${line}`;
   }
 
   /** @param {Walk} walk */
