@@ -238,3 +238,10 @@ test("a time that is over at any moment, or never", async (context) => {
   const never = await everySchedule({ module, timeouts: "never", seeds: 2 });
   assert.deepEqual(never.found.map(({ kind }) => kind), ["deadlock"]);
 });
+
+test("an agent that changes the language's own objects isn't as it was learned", async (context) => {
+  const module = moduleOf(context, LOADS("Math.abs = () => 1;"));
+  const problem = await everySchedule({ module, seeds: 2 }).catch((error) => error);
+  assert.ok(problem instanceof NotAsLearned, problem);
+  assert.match(problem.message, /changes the language's own objects/);
+});

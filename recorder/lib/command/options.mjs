@@ -62,6 +62,9 @@ Status:
 const SHAPE = Object.fromEntries(ROWS.map(([name, { kind: { text, multiple = false }, letter }]) =>
   [wordOf(name), { type: text === undefined ? "boolean" : "string", multiple, ...(letter && { short: letter }) }]));
 
+/** The runs that are compared with what was learned of agents. */
+const SEEDS_OF_ALL = Object.freeze({ first: 1, last: 300 });
+
 const SEEDS_UNTIL_COVERED = Object.freeze({ first: 1, last: 1_000_000 });
 
 /** For words that are no options any more: what they are, or what there is in their place. */
@@ -155,6 +158,16 @@ function replayOf(given) {
  */
 
 /**
+ * @param {Record<string, any>} all options
+ * @param {import("../seeds/ranges.mjs").Range} seeds that serve as a rule
+ * @returns {import("../seeds/ranges.mjs").Range} the seeds, if none are given
+ */
+function unlessGiven(all, seeds) {
+  if (all.untilCovered) return SEEDS_UNTIL_COVERED;
+  return all.all ? SEEDS_OF_ALL : seeds;
+}
+
+/**
  * @param {string[]} words after the program's name
  * @returns {Options | { text: string }} what a command line asks for; only a text, if it asks for help or the version
  */
@@ -167,7 +180,7 @@ export function optionsOf(words) {
   /** @type {Record<string, any>} */
   const chosen = { ...defaultsOf("command"), ...given };
   const { seeds, shard, noShorten, help: _help, version: _version, ...all } = chosen;
-  const asked = given.seeds === undefined && all.untilCovered ? SEEDS_UNTIL_COVERED : seeds;
+  const asked = given.seeds ?? unlessGiven(all, seeds);
   return /** @type {Options} */ ({
     ...all, ...runFrom(given, positionals), args: end < 0 ? [] : words.slice(end + 1),
     ...shardFrom(asked, shard), shorten: !noShorten, replay: replayOf(given),

@@ -21,6 +21,7 @@ import { exploreOptions } from "./library-options.mjs";
 
 const WITHIN = 60;
 const STATES = 1_000_000;
+const SEEDS = 300;
 
 /** @param {string} name */
 const spelled = (name) => `\`${name}\``;
@@ -40,7 +41,7 @@ export function everyOptions(options, callersFolder) {
     if (rest[/** @type {"module"} */ (/** @type {string} */ (name))] === undefined) continue;
     throw new Refused(`\`${name}\` can't be given: the agents are learned in another thread; export it from their module`);
   }
-  const { seeds, sabsim, ...checked } = exploreOptions(rest, callersFolder);
+  const { seeds, sabsim, ...checked } = exploreOptions({ seeds: SEEDS, ...rest }, callersFolder);
   const checking = sabsim !== false && checked.checkEvery > 0 ? { sabsim: chosenProgram(sabsim) } : { checkEvery: 0 };
   return { ...checked, ...seeds, ...checking, within, states };
 }
