@@ -27,7 +27,7 @@ function written(name, text) {
 const learned = (urls, more = {}) => new Promise((done, fail) => {
   const workerData = { urls, limit: 100_000, ...more };
   const execArgv = [...graphFlags.GRAPH_FLAGS, "--no-warnings"];
-  const worker = new Worker(new URL("./helpers/merging-worker.mjs", import.meta.url), { workerData, execArgv });
+  const worker = new Worker(new URL("../bench/merging-worker.mjs", import.meta.url), { workerData, execArgv });
   worker.on("message", done);
   worker.on("error", fail);
 });

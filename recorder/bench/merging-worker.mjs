@@ -1,11 +1,11 @@
 // Learns modules with merged moments and without, in one thread, and reports what is left in both cases.
 
 import { parentPort, workerData } from "node:worker_threads";
-import { Asker } from "../../lib/every/learning/asking.mjs";
-import { loadCode } from "../../lib/every/learning/code.mjs";
-import { Learned } from "../../lib/every/learning/learned.mjs";
-import { installRealm } from "../../lib/every/learning/realm.mjs";
-import { Kinds, blocksIn } from "../../lib/every/search/result.mjs";
+import { Asker } from "../lib/every/learning/asking.mjs";
+import { loadCode } from "../lib/every/learning/code.mjs";
+import { Learned } from "../lib/every/learning/learned.mjs";
+import { installRealm } from "../lib/every/learning/realm.mjs";
+import { Kinds, blocksIn } from "../lib/every/search/result.mjs";
 
 const { urls, flaw, limit, isUnmergedToo = true } = workerData;
 const asker = new Asker();
