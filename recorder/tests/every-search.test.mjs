@@ -38,9 +38,9 @@ from model.reading import read
 from model.result import result_of
 found = []
 for seed in range(int(sys.argv[2]), int(sys.argv[3])):
-    data = drawn(seed)
+    it = drawn(seed)
     for choice in ("early", "last", "never"):
-        found.append([data, result_of(read(json.dumps(data).encode()), choice, 60 + seed % 200)])
+        found.append([it.file, result_of(read(json.dumps(it.file).encode()), choice, it.limit)])
 print(json.dumps(found))
 `;
 
@@ -48,12 +48,14 @@ test("files that were drawn", (t) => {
   const folder = mkdtempSync(join(tmpdir(), "sabsim-drawn-"));
   const script = join(folder, "draws.py");
   writeFileSync(script, DRAWS);
-  const { stdout, error, status, stderr } = spawnSync("python3", [script, SEARCH, "1", "80"], { encoding: "utf8", maxBuffer: 2 ** 28 });
+  const { stdout, error, status, stderr } = spawnSync("python3", [script, SEARCH, "1", "200"], { encoding: "utf8", maxBuffer: 2 ** 28 });
   rmSync(folder, { recursive: true });
   if (error !== undefined) {
     t.skip("no python3");
     return;
   }
   assert.equal(status, 0, stderr);
-  for (const [data, wanted] of JSON.parse(stdout)) compare(data, wanted);
+  const drawn = JSON.parse(stdout);
+  assert.equal(drawn.length, 3 * 199);
+  for (const [data, wanted] of drawn) compare(data, wanted);
 });

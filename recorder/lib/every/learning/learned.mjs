@@ -83,7 +83,7 @@ export class Learned {
     const bytes = Uint8Array.from(initial);
     const agents = plan.canBlock.map((canBlock, agent) => ({ canBlock, root: learner.root(agent, bytes) }));
     this.program = {
-      lengths: plan.buffers, bases, initial, agents, nodes: learner.nodes,
+      lengths: plan.buffers, bases, initial, agents, nodes: learner.nodes, mayLack: false,
       learn: (node, answer, found) => learner.learn(node, answer, found),
     };
     const search = new Search(this.program, { timeouts, limit, isLate });

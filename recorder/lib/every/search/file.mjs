@@ -115,7 +115,7 @@ export function programOf({ blocks: lengths, initial, views, automata, agents })
   }));
   const names = automata.map(({ name }) => name);
   const program = {
-    lengths, bases, initial: bytes, nodes, learn: () => undefined,
+    lengths, bases, initial: bytes, nodes, mayLack: true, learn: () => undefined,
     agents: agents.map(({ automaton, block }) => ({ canBlock: block, root: lists[names.indexOf(automaton)][0] })),
   };
   const places = new Map(lists.flatMap((list, at) => list.map((node, position) => /** @type {[Node, [number, number]]} */ ([node, [at, position]]))));

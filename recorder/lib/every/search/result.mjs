@@ -48,8 +48,8 @@ export class Kinds {
       world.load(state);
       this.#look(state);
     }
-    for (const { state, unknown } of search.unknown) {
-      count(this.unknown, `${unknown.node.id} ${answerText(unknown.node, unknown.answer)}`, state, { unknown });
+    for (let state = 0; world.program.mayLack && state < search.count && search.depths.items[state] <= depth; state += 1) {
+      this.#lookForUnknown(state);
     }
     if (search.isClosed && search.lost === undefined) this.#findNoWayOut();
     return this;
@@ -59,13 +59,22 @@ export class Kinds {
   #look(state) {
     const { world } = this.search;
     const { texts, isFinal, isDeadlock } = endingHere(this.search);
-    for (const text of texts) count(this.failed, text, state, { text });
+    for (const text of [...texts].sort(inBytes)) count(this.failed, text, state, { text });
     if (isDeadlock) this.deadlock = more(this.deadlock, state);
     if (isFinal) {
       this.finalStates += 1;
       count(this.finals, world.memory, state, { memory: world.memory });
     }
     this.#lookForConflicts(state);
+  }
+
+  /** @param {number} state */
+  #lookForUnknown(state) {
+    /** @type {Map<string, import("./world.mjs").Unknown>} */
+    const here = new Map();
+    for (const unknown of this.search.unknownAt(state)) here.set(unknownName(unknown), unknown);
+    const sorted = [...here.values()].sort((one, other) => one.node.id - other.node.id || inBytes(textOf(one), textOf(other)));
+    for (const unknown of sorted) count(this.unknown, unknownName(unknown), state, { unknown });
   }
 
   /** @param {number} state */
@@ -121,6 +130,15 @@ export function endingHere({ world, timeouts }) {
   const isFinal = ended === world.count;
   return { texts, isFinal, isDeadlock: !isFinal && texts.size === 0 && acts === 0 };
 }
+
+/** @param {string} one @param {string} other @returns {number} their order by their bytes in UTF-8 */
+const inBytes = (one, other) => Buffer.compare(Buffer.from(one), Buffer.from(other));
+
+/** @param {import("./world.mjs").Unknown} unknown */
+const textOf = ({ node, answer }) => answerText(node, answer);
+
+/** @param {import("./world.mjs").Unknown} unknown */
+const unknownName = (unknown) => `${unknown.node.id} ${textOf(unknown)}`;
 
 /**
  * @template {string | number} Name
@@ -228,7 +246,7 @@ export function resultOf(search, kinds, { position, blocksOf }) {
   };
   const unknown = [...kinds.unknown.values()].map(({ unknown: one, ...found }) => ({ ...edge(one), ...row(found) }));
   return {
-    timeouts: search.timeouts, limit: search.limit, closed: isClosed, states: search.count, acts: search.targets.count,
+    timeouts: search.timeouts, limit: search.limit, closed: isClosed, states: search.count, acts: search.acts ?? 0,
     expanded: isClosed ? null : expanded, depth: isClosed ? null : depths.items[expanded],
     deadlock: kind(deadlock), failed: [...failed.values()].map(({ text, ...found }) => ({ text, ...row(found) })),
     no_way_out: kind(noWayOut),

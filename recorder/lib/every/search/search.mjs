@@ -35,8 +35,6 @@ export class Search {
     this.starts = new Numbers();
     /** @type {import("./world.mjs").Unknown | undefined} why there is no first state */
     this.lost = undefined;
-    /** @type {{ state: number, unknown: import("./world.mjs").Unknown }[]} */
-    this.unknown = [];
     this.isClosed = false;
     /** @type {"states" | "time" | undefined} which bound was met */
     this.bound = undefined;
@@ -47,6 +45,11 @@ export class Search {
   /** How many states there are. */
   get count() {
     return this.world.states.count;
+  }
+
+  /** How many acts lead to a state, of the states of which all were taken. */
+  get acts() {
+    return this.starts.items[this.expanded];
   }
 
   /** Finds the states, up to a bound. */
@@ -76,7 +79,7 @@ export class Search {
     const { world } = this;
     world.load(state);
     if (hasThrown(world)) return true;
-    const times = this.timeouts === "early" || (this.timeouts === "last" && this.#isStill(state));
+    const times = this.#hasTimes(state);
     for (let agent = 0; agent < world.count; agent += 1) {
       if (world.canAct(agent)) {
         if (!this.#take(state, agent, world.act(agent))) return false;
@@ -87,6 +90,31 @@ export class Search {
       }
     }
     return true;
+  }
+
+  /** @param {number} state that is loaded @returns {boolean} whether a wait's time may be over in it */
+  #hasTimes(state) {
+    return this.timeouts === "early" || (this.timeouts === "last" && this.#isStill(state));
+  }
+
+  /**
+   * @param {number} state
+   * @returns {import("./world.mjs").Unknown[]} why acts of it lead nowhere
+   */
+  unknownAt(state) {
+    const { world } = this;
+    world.load(state);
+    if (hasThrown(world)) return [];
+    const times = this.#hasTimes(state);
+    /** @type {import("./world.mjs").Unknown[]} */
+    const found = [];
+    for (let agent = 0; agent < world.count; agent += 1) {
+      const canAct = world.canAct(agent);
+      const leads = canAct ? world.act(agent) : !(times && world.canTimeOut(agent)) || world.timeOut(agent);
+      if (!leads) found.push(/** @type {import("./world.mjs").Unknown} */ (world.unknown));
+      world.load(state);
+    }
+    return found;
   }
 
   /** @param {number} state that is loaded @returns {boolean} whether no act leads to another one, except by a time */
@@ -110,10 +138,7 @@ export class Search {
    */
   #take(state, agent, leads) {
     const { world } = this;
-    if (!leads) {
-      this.unknown.push({ state, unknown: /** @type {import("./world.mjs").Unknown} */ (world.unknown) });
-      return true;
-    }
+    if (!leads) return true;
     const before = world.states.count;
     const next = world.save(this.limit);
     if (next < 0) {

@@ -14,6 +14,7 @@ import { Lists, Rows } from "./rows.mjs";
  * @property {Uint8Array} initial the bytes of all blocks at first
  * @property {{ canBlock: boolean, root: Node }[]} agents with the first node of each one's automaton
  * @property {Node[]} nodes of all automata, by their numbers
+ * @property {boolean} mayLack whether edges may not be there for good
  * @property {(node: Node, answer: Answer, bytes: Uint8Array) => Node | undefined} learn finds the node to which an edge
  * leads that isn't there yet; it may read these bytes. Undefined: nobody knows it
  */
