@@ -1,5 +1,5 @@
-// A table of every schedule of many modules: whether all were tried, how many states there are, how long it took, and what
-// was found; beside it what the trial before this code had. `every-trial.json` has that.
+// A table of every schedule of many modules: whether all were tried, how many states there are, how long it took, and
+// what was found; beside it what the trial before this code had. `every-trial.json` has that.
 //
 // node --expose-gc recorder/bench/every.mjs [--only TEXT] [--within SECONDS] > recorder/bench/EVERY.md
 
@@ -23,7 +23,8 @@ const worked = () => {
 
 /**
  * @param {string} path
- * @returns {Promise<{ states: string, nodes: string, seconds: number, found: string[], isClosed: boolean, note: string }>}
+ * @returns {Promise<{ states: string, nodes: string, seconds: number, found: string[], isClosed: boolean, note: string
+ * }>}
  */
 async function tried(path) {
   const module = new URL(`../${path}`, import.meta.url).href;

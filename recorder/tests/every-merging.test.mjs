@@ -1,5 +1,5 @@
-// Two moments of an agent are one only if all that the agent can still read is the same: agents that tell moments apart by
-// something that is hard to see leave the same, whether moments are merged or not.
+// Two moments of an agent are one only if all that the agent can still read is the same: agents that tell moments apart
+// by something that is hard to see leave the same, whether moments are merged or not.
 
 import assert from "node:assert/strict";
 import { mkdtempSync, rmSync, writeFileSync } from "node:fs";

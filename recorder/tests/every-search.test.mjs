@@ -1,5 +1,5 @@
-// The search of every schedule in JavaScript finds what the model of tests/search finds: the same kinds, the same numbers
-// of states and the same bytes at the end, of its examples and of files that its drawing makes.
+// The search of every schedule in JavaScript finds what the model of tests/search finds: the same kinds, the same
+// numbers of states and the same bytes at the end, of its examples and of files that its drawing makes.
 
 import assert from "node:assert/strict";
 import { spawnSync } from "node:child_process";

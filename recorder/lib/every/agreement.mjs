@@ -1,6 +1,7 @@
-// Whether real runs are ways through the automata: call by call, answer by answer, with their ordinary accesses, their ends
-// and their bytes.
+// Whether real runs are ways through the automata: call by call, answer by answer, with their ordinary accesses, their
+// ends and their bytes.
 
+import { SCRIPT_KINDS, SIZES } from "../../script/kinds.mjs";
 import { OF_STORES } from "../../script/written.mjs";
 import { DOES, isCall, isEnd } from "./search/nodes.mjs";
 import { World } from "./search/world.mjs";
@@ -11,14 +12,18 @@ import { NotAsLearned } from "./not-as-learned.mjs";
 /** @typedef {import("../run/outcome.mjs").Outcome} Outcome */
 /** @typedef {import("./search/nodes.mjs").Node} Node */
 
-/** @typedef {{ agent: number, call: number, does: string, block: number, byte: number, size: number }} Event of a trace */
+/**
+ * @typedef {{ agent: number, call: number, does: string, block: number, byte: number, size: number }} Event of a trace
+ */
 
-/** @typedef {{ text: string, kind: string, block: number, byte: number }} RealCall a call as a script has it, without its view */
+/**
+ * @typedef {{ text: string, kind: string, block: number, byte: number }} RealCall a call as a script has it, without
+ * its view
+ */
 
 /** So many reads that are acts of their own an agent makes in a row at most. */
 const MOST_ALONE = 100_000;
 
-const SIZES = /** @type {Record<string, number>} */ ({ Int8: 1, Uint8: 1, Uint8Clamped: 1, Int16: 2, Uint16: 2, Int32: 4, Uint32: 4, Float32: 4, Float64: 8, BigInt64: 8, BigUint64: 8 });
 
 export class Agreement {
   /** @param {import("./search/world.mjs").Program} program */
@@ -44,8 +49,9 @@ export class Agreement {
       way.end(outcome);
     } catch (problem) {
       if (!(problem instanceof NotAsLearned)) throw problem;
-      throw new NotAsLearned(`the run of seed ${seed} does something else than was learned: ${problem.message}. The module may `
-        + "keep something from run to run, or go by chance or by a clock");
+      const why = "The module may keep something from run to run, or go by chance or by a clock";
+      const how = `does something else than was learned: ${problem.message}`;
+      throw new NotAsLearned(`the run of seed ${seed} ${how}. ${why}`);
     }
     this.compared += 1;
   }
@@ -55,10 +61,13 @@ export class Agreement {
 function callsOf(text) {
   const { agents, views } = JSON.parse(text);
   const byName = new Map(views.map((/** @type {any} */ view) => [view.name, view]));
-  return agents.map((/** @type {any} */ { calls }) => calls.filter((/** @type {any[]} */ call) => !OF_STORES.test(call[1]))
+  /** @param {any[]} call */
+  const isOwn = ([, view]) => !OF_STORES.test(view);
+  return agents.map((/** @type {any} */ { calls }) => calls.filter(isOwn)
     .map((/** @type {any[]} */ [name, view, index, ...rest]) => {
       const { kind, block, offset } = /** @type {any} */ (byName.get(view));
-      return { text: JSON.stringify([name, ...rest]), kind, block, byte: offset + index * SIZES[kind] };
+      const byte = offset + index * SIZES[SCRIPT_KINDS.indexOf(kind)];
+      return { text: JSON.stringify([name, ...rest]), kind, block, byte };
     }));
 }
 
@@ -97,8 +106,9 @@ class Way {
     const made = this.calls[agent][call];
     const [name, , , ...rest] = isCall(node) ? callData(node, new Views()) : ["nothing"];
     const is = JSON.stringify([name, ...rest]);
-    const isAt = made !== undefined && (node.error !== undefined || (made.block === node.block && made.byte === node.byte));
-    need(isAt && made.text === is, `call ${call} of agent ${agent} is ${made?.text}, and ${nodeText(node)} was learned`);
+    const isThere = node.error !== undefined || (made?.block === node.block && made?.byte === node.byte);
+    const isSame = isThere && made?.text === is;
+    need(isSame, `call ${call} of agent ${agent} is ${made?.text}, and ${nodeText(node)} was learned`);
   }
 
   /** @param {Event} event @param {Node} node */
@@ -144,7 +154,8 @@ class Way {
     if (ending === "finished" || ending === "race" || ending === "check") {
       for (let agent = 0; agent < world.count; agent += 1) {
         this.#needAccesses(agent);
-        need(world.nodes[agent].does === DOES.FINISHED, `agent ${agent} ended, and ${nodeText(world.nodes[agent])} was learned`);
+        const node = world.nodes[agent];
+        need(node.does === DOES.FINISHED, `agent ${agent} ended, and ${nodeText(node)} was learned`);
       }
       this.#needBytes(bytes);
     } else if (ending === "deadlock") {

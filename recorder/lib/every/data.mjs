@@ -35,8 +35,8 @@ import { FinalStates } from "../run/final-state.mjs";
  * @property {{ why: string, nodes: number }[]} hidden moments that were compared with no others, and why
  * @property {number} realRuns that agree with what was learned
  * @property {boolean} searchProved whether the proved search has found the same
- * @property {{ automaton: number, nodes: number, line: string | null, answers: number } | null} widest the automaton with
- * the most nodes, and the line whose answers are the most
+ * @property {{ automaton: number, nodes: number, line: string | null, answers: number } | null} widest the automaton
+ * with the most nodes, and the line whose answers are the most
  * @property {number} milliseconds
  */
 
@@ -53,12 +53,13 @@ export function dataOf({ report, open, realRuns, isSecond, shown, milliseconds }
   const { counts, depth = null, edges, findings, hidden, plan, result, widest } = report;
   const found = findings.map(({ row: _row, goesOn: _goesOn, ...finding }) => {
     const { outcome } = shown.find((each) => each.finding.row === _row) ?? {};
-    return { ...finding, detail: outcome === undefined ? null : outcome.detail.split("\n"), onlyIf: outcome?.onlyIf ?? null };
+    return { ...finding, detail: outcome?.detail.split("\n") ?? null, onlyIf: outcome?.onlyIf ?? null };
   });
   return {
     ...common, agents: plan.agents, states: result.states, acts: result.acts, depth, finals: finalsOf(report),
     finalCount: result.final.count, found, moments: counts.moments, edges: counts.edges,
-    edgesByOne: edges.filter(({ isOther }) => !isOther).length, hidden, widest: { ...widest, line: widest.line ?? null },
+    edgesByOne: edges.filter(({ isOther }) => !isOther).length, hidden,
+    widest: { ...widest, line: widest.line ?? null },
   };
 }
 

@@ -27,6 +27,8 @@ import { shown } from "./showing.mjs";
  * @property {number} milliseconds
  */
 
+const CHANGES_BUILTINS = "an agent changes the language's own objects, so what was learned may be wrong";
+
 export class Every {
   /**
    * @param {EveryOptions} options
@@ -58,7 +60,7 @@ export class Every {
       const nothing = { realRuns: 0, isSecond: false, shown: [] };
       if (typeof report === "string") return { report: undefined, open: report, ...nothing };
       if (!report.isClosed) return { report, open: openText(report), ...nothing };
-      if (report.changesBuiltins) throw new NotAsLearned("an agent changes the language's own objects, so what was learned may be wrong");
+      if (report.changesBuiltins) throw new NotAsLearned(CHANGES_BUILTINS);
       const isSecond = await comparedBySecond(report.file, report.result);
       await Promise.all([this.#learnAgain(report), running]);
       const realRuns = this.#agreeing(report);
@@ -80,10 +82,11 @@ export class Every {
   /** @returns {Promise<Report | string>} a text: why nothing could be learned */
   async #report() {
     const { agents, args, buffers, module, noBlock, seconds, states, timeouts, within } = this.options;
+    /** @type {"early" | "never"} */
     const choice = timeouts === "never" ? "never" : "early";
-    const wanted = { module, args, place: { agents, buffers, noBlock }, timeouts: /** @type {"early" | "never"} */ (choice), limit: states, within };
+    const wanted = { module, args, place: { agents, buffers, noBlock }, timeouts: choice, limit: states, within };
     try {
-      return await learnApart(wanted, { seconds, onProgress: this.onProgress });
+      return await learnApart(wanted, { seconds, onProgress: this.onProgress, signal: this.signal });
     } catch (problem) {
       if (problem instanceof DoesOtherwise) throw new NotAsLearned(problem.message);
       if (problem instanceof Unlearned) return problem.message;
@@ -115,8 +118,9 @@ export class Every {
     const other = races ? undefined : found.find(({ isSame }) => !isSame);
     if (other === undefined) return found.filter(({ isSame }) => isSame);
     const { finding: { kind, text }, outcome: { ending, detail } } = other;
-    throw new NotAsLearned(`the search has found ${kind}${text === "" ? "" : ` (${text})`}, but the run by its schedule ends so: `
-      + `${ending}${detail === "" ? "" : `, ${detail.split("\n")[0]}`}`);
+    const what = text === "" ? kind : `${kind} (${text})`;
+    const how = detail === "" ? ending : `${ending}, ${detail.split("\n")[0]}`;
+    throw new NotAsLearned(`the search has found ${what}, but the run by its schedule ends so: ${how}`);
   }
 }
 

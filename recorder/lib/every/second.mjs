@@ -31,7 +31,8 @@ export async function comparedBySecond(data, result, second = provedSearch) {
   const [own, theirs] = [countsOf(result), countsOf(other)];
   for (const name of /** @type {(keyof typeof own)[]} */ (Object.keys(own))) {
     if (isDeepStrictEqual(own[name], theirs[name])) continue;
-    throw new NotAsLearned(`the two searches differ in ${name}: ${JSON.stringify(own[name])}, and ${JSON.stringify(theirs[name])}`);
+    const both = [own[name], theirs[name]].map((one) => JSON.stringify(one)).join(", and ");
+    throw new NotAsLearned(`the two searches differ in ${name}: ${both}`);
   }
   return true;
 }

@@ -1,4 +1,5 @@
-// Shows what a search has found by runs of the code as it is, in real workers: each goes by the schedule that leads there.
+// Shows what a search has found by runs of the code as it is, in real workers: each goes by the schedule that leads
+// there.
 
 import { Job } from "../seeds/job.mjs";
 
@@ -29,7 +30,8 @@ export async function shown(findings, options) {
   const found = [];
   try {
     const { sabsim, checkEvery } = options;
-    await job.open({ ...options, everywhere: true, trace: true, checkEvery: 1, checks: checkEvery > 0, sabsim: sabsim || undefined });
+    const checking = { checkEvery: 1, checks: checkEvery > 0, sabsim: sabsim || undefined };
+    await job.open({ ...options, everywhere: true, trace: true, ...checking });
     await job.run(wanted, (outcome) => {
       const finding = findings[found.length];
       found.push({ finding, outcome, isSame: isShownBy(finding, outcome) });

@@ -8,7 +8,9 @@ import { counted, digits, listed } from "../run/words.mjs";
 const MOST_LISTED = 8;
 
 /** What agents can do wrong, in the words of the first line. */
-const WORDS = Object.freeze({ deadlock: "deadlock", threw: "throw", race: "race", check: "fail check", "no way out": "go on for ever" });
+const WORDS = Object.freeze({
+  deadlock: "deadlock", threw: "throw", race: "race", check: "fail check", "no way out": "go on for ever",
+});
 
 /** @param {EveryData} data @returns {string} lines, each with its end */
 export function everyText(data) {
@@ -41,7 +43,8 @@ function foundText(found) {
 /** @param {FoundData} found */
 function findingLines({ acts, changes, detail, kind, onlyIf, states, text }) {
   const what = text === "" ? kind : `${kind}: ${text}`;
-  const how = `${counted(states, "state")}; shown by ${counted(acts, "act")} with ${counted(changes, "change")} of agents`;
+  const by = `${counted(acts, "act")} with ${counted(changes, "change")} of agents`;
+  const how = `${counted(states, "state")}; shown by ${by}`;
   const lines = detail === null ? ["not shown: a run by its schedule ends otherwise"] : detail.slice(0, 4);
   return [`${what}, in ${how}`, ...lines.map(indented), ...(onlyIf === null ? [] : [indented(onlyIf)])];
 }

@@ -39,7 +39,8 @@ export function everyOptions(options, callersFolder) {
   needFittingAll(rest, spelled, true);
   for (const name of /** @type {const} */ (["init", "check"])) {
     if (rest[/** @type {"module"} */ (/** @type {string} */ (name))] === undefined) continue;
-    throw new Refused(`\`${name}\` can't be given: the agents are learned in another thread; export it from their module`);
+    const instead = "export it from their module";
+    throw new Refused(`\`${name}\` can't be given: the agents are learned in another thread; ${instead}`);
   }
   const { seeds, sabsim, ...checked } = exploreOptions({ seeds: SEEDS, ...rest }, callersFolder);
   const checking = sabsim !== false && checked.checkEvery > 0 ? { sabsim: chosenProgram(sabsim) } : { checkEvery: 0 };

@@ -13,7 +13,8 @@ const WITHOUT = Object.freeze({
 /** Values that don't go with it; and why. */
 const VALUES = Object.freeze({
   clock: ["real", "what agents see of it can't be learned"],
-  ordinary: ["store", "their reads aren't seen"], races: ["allow", "a search makes the accesses between two calls at once"],
+  ordinary: ["store", "their reads aren't seen"],
+  races: ["allow", "a search makes the accesses between two calls at once"],
   unrecorded: ["allow", "what agents do with such memory can't be learned"],
 });
 
@@ -42,7 +43,7 @@ export function needFittingAll(given, spelled, isAll = given.all === true) {
     if (isRefused) throw new Refused(`${spelled(name)} ${given[name]} ${without}: ${why}`);
   }
   if (given.timeouts === 0) {
-    throw new Refused(`${spelled("timeouts")} 0 ${without}: it has no time that goes by. Above 0 any wait's time may be over at `
-      + "any moment, and never means that it never is");
+    throw new Refused(`${spelled("timeouts")} 0 ${without}: it has no time that goes by. Above 0 any wait's time may be `
+      + "over at any moment, and never means that it never is");
   }
 }

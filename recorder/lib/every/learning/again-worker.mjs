@@ -1,5 +1,5 @@
-// The thread that learns each edge once more, in the code as it is written: its module was loaded anew, and the edges come
-// in reverse order.
+// The thread that learns each edge once more, in the code as it is written: its module was loaded anew, and the edges
+// come in reverse order.
 
 import { workerData } from "node:worker_threads";
 import { basesOf } from "../search/file.mjs";
@@ -40,9 +40,14 @@ class Again {
     return undefined;
   }
 
+  /** @param {unknown} id @returns {Asked} */
+  #node(id) {
+    return /** @type {Asked} */ (this.nodes.get(/** @type {number} */ (id)));
+  }
+
   /** @param {EdgeData} edge @returns {string | undefined} */
   #differs({ automaton, history, to }) {
-    const wanted = /** @type {Asked} */ (this.nodes.get(to));
+    const wanted = this.#node(to);
     const path = [...history, [to, undefined]];
     let at = 0;
     /** @type {Asked | undefined} */
@@ -52,12 +57,12 @@ class Again {
       last = asked;
       const [id, given] = path[at];
       at += 1;
-      return isSame(/** @type {Asked} */ (this.nodes.get(/** @type {number} */ (id))), asked) ? /** @type {any} */ (given) : undefined;
+      return isSame(this.#node(id), asked) ? /** @type {any} */ (given) : undefined;
     };
     const ended = this.learner.call(automaton, { answer }, this.agent);
     const [got, count] = ended === undefined ? [last, at] : [ended, at + 1];
     if (got !== undefined && count === path.length && isSame(wanted, got)) return undefined;
-    const was = count < path.length ? /** @type {Asked} */ (this.nodes.get(/** @type {number} */ (path[count - 1][0]))) : wanted;
+    const was = count < path.length ? this.#node(path[count - 1][0]) : wanted;
     const now = got === undefined ? "nothing" : said(got);
     return `With the same ${count - 1} answers an agent was learned to do this: ${said(was)}; and now it does: ${now}`;
   }
@@ -73,7 +78,8 @@ export async function main(load) {
   try {
     port.postMessage({ differs: await differing(given, load) });
   } catch (problem) {
-    port.postMessage(problem instanceof CantLearn ? { differs: problem.message } : { failed: /** @type {any} */ (problem)?.stack ?? String(problem) });
+    const { stack = String(problem) } = /** @type {any} */ (problem);
+    port.postMessage(problem instanceof CantLearn ? { differs: problem.message } : { failed: stack });
   }
   port.close();
 }

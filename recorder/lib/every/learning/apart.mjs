@@ -29,15 +29,18 @@ export class DoesOtherwise extends Error {}
 /**
  * Learns the agents of a module, and searches all their schedules.
  * @param {Wanted} wanted
- * @param {{ seconds: number, onProgress?: (states: number) => void }} how for how long an agent may make no call
+ * @param {{ seconds: number, onProgress?: (states: number) => void, signal?: AbortSignal }} how for how long an agent
+ * may make no call; what ends it
  * @returns {Promise<Report>}
  * @throws {Refused | Unlearned | DoesOtherwise}
  */
-export async function learnApart(wanted, { seconds, onProgress = () => {} }) {
+export async function learnApart(wanted, { seconds, onProgress = () => {}, signal }) {
   const progress = new SharedArrayBuffer(4 * PROGRESS.WORDS);
   const words = new Int32Array(progress);
   const thread = begunThread(LEARNING, FLAGS);
   thread.give(LEARNING, { ...wanted, progress });
+  const stop = () => void thread.stop();
+  signal?.addEventListener("abort", stop);
   let calls = -1;
   let since = performance.now();
   const timer = setInterval(() => {
@@ -45,19 +48,21 @@ export async function learnApart(wanted, { seconds, onProgress = () => {} }) {
     const isSame = words[PROGRESS.RUNS] === 1 && words[PROGRESS.CALLS] === calls;
     if (!isSame) since = performance.now();
     calls = words[PROGRESS.CALLS];
-    if (performance.now() - since > 1_000 * seconds) void thread.stop();
+    if (performance.now() - since > 1_000 * seconds) stop();
   }, POLLS_EVERY);
   try {
-    return reportIn(await next(thread, lateText(seconds)));
+    const message = await next(thread, lateText(seconds)).catch((problem) => Promise.reject(signal?.reason ?? problem));
+    return reportIn(message);
   } finally {
+    signal?.removeEventListener("abort", stop);
     clearInterval(timer);
     await thread.stop();
   }
 }
 
 /** @param {number} seconds */
-const lateText = (seconds) => `an agent that was called alone didn't come back within ${seconds} s: it makes no call of Atomics, `
-  + "or catches everything that is thrown";
+const lateText = (seconds) => `an agent that was called alone didn't come back within ${seconds} s: it makes no call `
+  + "of Atomics, or catches everything that is thrown";
 
 /** @param {any} message of the thread @returns {Report} */
 function reportIn({ report, refused, unlearned, differs, failed }) {

@@ -39,7 +39,9 @@ export const askedEnd = (text) => (text === undefined ? NOTHING : { ...NOTHING, 
  * @returns {Asked} an ordinary access
  */
 export const askedAccess = (block, from, size, base, written) =>
-  ({ ...NOTHING, does: written === undefined ? DOES.READ : DOES.WRITE, block, byte: from, size, at: base + from, written });
+  ({
+    ...NOTHING, does: written === undefined ? DOES.READ : DOES.WRITE, block, byte: from, size, at: base + from, written,
+  });
 
 /**
  * @param {Call} call

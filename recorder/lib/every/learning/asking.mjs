@@ -1,5 +1,5 @@
-// Answers what an agent asks for while its function is called alone: by its history, as far as that goes. What it asks for
-// next is handed on, and then it is broken off, or gets a further answer.
+// Answers what an agent asks for while its function is called alone: by its history, as far as that goes. What it asks
+// for next is handed on, and then it is broken off, or gets a further answer.
 
 import { answerOfRead, bytesOfRead } from "../search/elements.mjs";
 import { DONE } from "../search/nodes.mjs";

@@ -1,5 +1,5 @@
-// The agents' code, rewritten so that its state can be shown, and begun anew whenever its modules keep something else than
-// at first.
+// The agents' code, rewritten so that its state can be shown, and begun anew whenever its modules keep something else
+// than at first.
 
 import { Refused } from "../../options/refused.mjs";
 import { Builtins } from "../state/builtins.mjs";

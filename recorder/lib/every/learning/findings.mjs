@@ -1,5 +1,5 @@
-// What is found in the states of agents, and how each is shown: by the schedule with the fewest changes of agents. Things
-// that have the same message, without its numbers, are one finding.
+// What is found in the states of agents, and how each is shown: by the schedule with the fewest changes of agents.
+// Things that have the same message, without its numbers, are one finding.
 
 import { leftOpen, foundBy } from "../../agent/answer.mjs";
 import { DOES } from "../search/nodes.mjs";
@@ -24,9 +24,16 @@ import { shortestTo } from "../search/shortest.mjs";
  * @property {boolean} goesOn whether agents go on behind the row
  */
 
-/** @typedef {{ key: string, kind: FindingKind, text: string, next?: number[] }} Here something in a state; who acts next to show it */
+/**
+ * @typedef {{ key: string, kind: FindingKind, text: string, next?: number[] }} Here something in a state; who acts next
+ * to show it
+ */
 
 const MOST_LINES = 400;
+
+/** @param {Finding} one @param {Finding} other @returns {number} which is shown first */
+const byLength = (one, other) =>
+  Number(one.isEarly) - Number(other.isEarly) || one.changes - other.changes || one.acts - other.acts;
 
 /** @param {string} text @returns {string} without its numbers */
 const plain = (text) => text.replace(/-?\d+/g, "#");
@@ -65,12 +72,13 @@ export class Findings {
     }
     const ways = shortestTo(search, found.size, (state) => this.#at(state).map(({ key }) => key));
     const all = [...ways].map(([key, way]) => this.#finding(/** @type {any} */ (found.get(key)), way));
-    return all.sort((one, other) => Number(one.isEarly) - Number(other.isEarly) || one.changes - other.changes || one.acts - other.acts);
+    return all.sort(byLength);
   }
 
   #hasAny() {
     const { kinds, problems } = this;
-    return kinds.failed.size + kinds.conflicts.size + problems.size > 0 || kinds.deadlock !== undefined || kinds.noWayOut !== undefined;
+    const named = kinds.failed.size + kinds.conflicts.size + problems.size;
+    return named > 0 || kinds.deadlock !== undefined || kinds.noWayOut !== undefined;
   }
 
   /** Calls `check` once for each different list of bytes at the end. */
@@ -114,7 +122,8 @@ export class Findings {
   /** @returns {Here} */
   #deadlock() {
     const { world } = this.search;
-    const places = world.nodes.flatMap(({ block, byte, does }) => (does === DOES.WAIT ? [`${block}:${byte}`] : [])).sort();
+    const waits = world.nodes.filter(({ does }) => does === DOES.WAIT);
+    const places = waits.map(({ block, byte }) => `${block}:${byte}`).sort();
     return { key: `deadlock ${places.join(" ")}`, kind: "deadlock", text: "" };
   }
 
@@ -132,7 +141,11 @@ export class Findings {
     return [...found.values()];
   }
 
-  /** @param {Here & { states: number }} here @param {import("../search/shortest.mjs").Schedule} way @returns {Finding} */
+  /**
+   * @param {Here & { states: number }} here
+   * @param {import("../search/shortest.mjs").Schedule} way
+   * @returns {Finding}
+   */
   #finding({ key, kind, text, states }, { state, agents, changes, isEarly }) {
     const row = this.#rowOf(agents);
     const next = this.#at(state).find((one) => one.key === key)?.next ?? [];

@@ -46,9 +46,10 @@ export class Graph {
    */
   async take(url, isEntry = false) {
     if (this.texts.has(url)) return;
-    if (!/\.m?js$/.test(url)) throw new Refused(`--all can't read ${basename(url)}: it takes modules of JavaScript, .mjs or .js`);
+    const name = basename(fileURLToPath(url));
+    if (!/\.m?js$/.test(url)) throw new Refused(`--all can't read ${name}: it takes modules in .mjs or .js files`);
     const source = readFileSync(fileURLToPath(url), "utf8").replace(/^\uFEFF/, "");
-    const text = rewritten(parsed(url, source), source, { file: basename(fileURLToPath(url)), isEntry });
+    const text = rewritten(parsed(url, source), source, { file: name, isEntry });
     this.texts.set(url, text);
     /** @type {(string | object)[]} */
     const imports = [];
@@ -63,7 +64,8 @@ export class Graph {
       await this.take(url);
       return url;
     }
-    if (!HARMLESS.has(url)) throw new Refused(`--all can't show what agents keep in ${url}, which ${basename(parent)} imports`);
+    const name = basename(parent);
+    if (!HARMLESS.has(url)) throw new Refused(`--all can't show what agents keep in ${url}, which ${name} imports`);
     this.nodes[url] ??= await import(url);
     return this.nodes[url];
   }
@@ -79,16 +81,22 @@ export class Graph {
     for (const { url, make, imports } of this.modules) {
       const own = /** @type {Record<string, any>} */ (exports.get(url));
       const others = imports.map((one) => (typeof one === "string" ? exports.get(one) : one));
-      make(calls, { imports: others, exported: (/** @type {any} */ getters, /** @type {number[]} */ stars) => fill(own, getters, stars.map((at) => others[at])) });
+      /** @type {(getters: Getters, stars: number[]) => void} */
+      const exported = (getters, stars) => fill(own, getters, stars.map((at) => others[at]));
+      make(calls, { imports: others, exported });
     }
     return exports;
   }
 }
 
-/** @param {object} own what a module exports @param {Record<string, () => unknown>} getters @param {any[]} stars */
+/** @typedef {Record<string, () => unknown>} Getters what a module exports itself, by names */
+
+/** @param {object} own what a module exports @param {Getters} getters @param {any[]} stars of what it exports all */
 function fill(own, getters, stars) {
-  const passed = stars.flatMap((other) => Object.keys(other).filter((name) => name !== "default" && !Object.hasOwn(getters, name))
+  const passed = stars.flatMap((other) => Object.keys(other).filter((name) => name !== "default")
     .map((name) => /** @type {[string, () => unknown]} */ ([name, () => other[name]])));
-  for (const [name, get] of [...passed, ...Object.entries(getters)]) Object.defineProperty(own, name, { get, enumerable: true, configurable: true });
+  for (const [name, get] of [...passed, ...Object.entries(getters)]) {
+    Object.defineProperty(own, name, { get, enumerable: true, configurable: true });
+  }
   Object.defineProperty(own, Symbol.toStringTag, { value: "Module" });
 }

@@ -1,5 +1,5 @@
-// Learns the agents of a module and searches all their schedules. It runs in a thread of its own, since the agents' code
-// may never come back.
+// Learns the agents of a module and searches all their schedules. It runs in a thread of its own, since the agents'
+// code may never come back.
 
 import { Refused } from "../../options/refused.mjs";
 import { planOf } from "../../options/plan.mjs";
@@ -57,7 +57,8 @@ export class Learned {
     const { asker, code, isShared, plan, wanted } = this;
     const key = wanted.isUnmerged ? undefined : code.key.bind(code);
     const agents = { count: plan.agents, args: wanted.args, canBlock: plan.canBlock, isShared };
-    return new Learner(asker, agents, { onCall: (isBegun) => this.onCall(isBegun), agentNow: () => code.agentNow(), line: () => code.line(), key });
+    const onCall = (/** @type {boolean} */ isBegun) => this.onCall(isBegun);
+    return new Learner(asker, agents, { onCall, agentNow: () => code.agentNow(), line: () => code.line(), key });
   }
 
   /**

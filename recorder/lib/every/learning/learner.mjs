@@ -1,11 +1,11 @@
-// Learns agents as automata. An edge is learned by calling the agent's function alone, with the answers of a history that
-// leads to its node. Two histories are one node only if all that the agent keeps is the same.
+// Learns agents as automata. An edge is learned by calling the agent's function alone, with the answers of a history
+// that leads to its node. Two histories are one node only if all that the agent keeps is the same.
 
 import { leftOpen } from "../../agent/answer.mjs";
 import { described } from "../../agent/described.mjs";
 import { CantShow } from "../state/walk.mjs";
 import { DONE, DOES, isCall, nodeOf } from "../search/nodes.mjs";
-import { answerText, nodeText } from "../search/text.mjs";
+import { nodeText } from "../search/text.mjs";
 import { CantLearn, askedEnd, isSame, keyOf } from "./asked.mjs";
 import { accessed } from "./asking.mjs";
 
@@ -235,7 +235,7 @@ class Growing {
   #grow(asked) {
     const isOfCall = isCall(/** @type {Node} */ (asked));
     this.accesses = isOfCall ? 0 : this.accesses + 1;
-    if (this.accesses > MOST_ACCESSES) throw this.#cant("it makes 100,000 ordinary accesses between two calls of Atomics");
+    if (this.accesses > MOST_ACCESSES) throw this.#cant("it makes 100,000 ordinary accesses without a call of Atomics");
     const isLong = !isOfCall && this.accesses > READS_BEFORE_COMPARING;
     const isCompared = isOfCall || (asked.does === DOES.READ && (this.isHead || isLong));
     const key = isCompared ? this.#usefulKey(asked, isLong && !this.isHead) : undefined;
@@ -250,8 +250,8 @@ class Growing {
 
   /**
    * @param {Asked} asked
-   * @param {boolean} isInLoop whether it is a read behind others, which may only come back to one of this call's, or to one
-   * that is an act of its own
+   * @param {boolean} isInLoop whether it is a read behind others, which may only come back to one of this call's, or to
+   * one that is an act of its own
    */
   #usefulKey(asked, isInLoop) {
     const { learner, made } = this;
@@ -260,7 +260,11 @@ class Growing {
     return known === undefined || known.isAlone || made.has(known) ? key : undefined;
   }
 
-  /** @param {Node} node that is new @param {boolean} isOfCall @returns {Answer | undefined} its answer, if it is known */
+  /**
+   * @param {Node} node that is new
+   * @param {boolean} isOfCall
+   * @returns {Answer | undefined} its answer, if it is known
+   */
   #further(node, isOfCall) {
     let answer;
     if (isOfCall && node.does === DOES.STORE && node.error === undefined) {
@@ -308,7 +312,8 @@ class Growing {
 export class NotTheSame extends Error {}
 
 /** @param {number} at @param {Node} node @param {Asked} asked */
-const differenceText = (at, node, asked) => `at step ${at} ${nodeText(node)} was learned, and now it is ${nodeText(/** @type {Node} */ (asked))}`;
+const differenceText = (at, node, asked) =>
+  `at step ${at} ${nodeText(node)} was learned, and now it is ${nodeText(/** @type {Node} */ (asked))}`;
 
 /** @param {unknown} thrown @returns {string} without its stack */
 function titleOf(thrown) {
@@ -319,6 +324,3 @@ function titleOf(thrown) {
     return "an error that can't be shown";
   }
 }
-
-/** @param {History} history @returns {string} for messages */
-export const historyText = (history) => history.map(([node, answer]) => `${nodeText(node)} is answered ${answerText(node, answer)}`).join("; ");

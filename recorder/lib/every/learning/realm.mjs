@@ -1,4 +1,5 @@
-// The world of an agent that is learned: `Atomics` and arrays that ask, clocks and chance that are refused, and no output.
+// The world of an agent that is learned: `Atomics` and arrays that ask, clocks and chance that are refused, and no
+// output.
 
 import { syncBuiltinESMExports } from "node:module";
 import { types } from "node:util";

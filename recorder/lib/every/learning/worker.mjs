@@ -1,4 +1,5 @@
-// The thread that learns the agents of a module and searches all their schedules. Its work is one: it reports, and ends.
+// The thread that learns the agents of a module and searches all their schedules. Its work is one: it reports, and
+// ends.
 
 import { workerData } from "node:worker_threads";
 import { REFUSED, Refused } from "../../options/refused.mjs";
@@ -53,8 +54,10 @@ async function reported(given) {
 
 /** @param {any} problem @returns {object} what is said about it */
 function answerOf(problem) {
-  if (problem instanceof Refused || problem?.name === REFUSED) return { refused: problem.message };
-  if (problem instanceof CantLearn) return problem.isRefused ? { refused: problem.message } : { unlearned: problem.message };
+  if (problem instanceof Refused) return { refused: problem.message };
+  if (problem?.name === REFUSED) return { refused: `--all needs of node what whole programs need: ${problem.message}` };
+  if (problem instanceof CantLearn && problem.isRefused) return { refused: problem.message };
+  if (problem instanceof CantLearn) return { unlearned: problem.message };
   if (problem instanceof NotTheSame) return { differs: problem.message };
   return { failed: problem?.stack ?? String(problem) };
 }

@@ -1,5 +1,5 @@
-// Goes over a module's tree: which scopes and functions there are, and what each name means. A module in which something
-// can't be shown is refused, with its line.
+// Goes over a module's tree: which scopes and functions there are, and what each name means. A module in which
+// something can't be shown is refused, with its line.
 
 import { Refused } from "../../options/refused.mjs";
 import { GLOBALS, NOT_CALLED, HIDDEN_MEMBERS, isAllowedUse } from "./allowed.mjs";
@@ -104,7 +104,12 @@ export class Analysis {
     if (within !== null) within.isHidden = true;
   }
 
-  /** @param {Tree} tree @param {Scope | null} outer @param {Info | null} within @param {import("./scopes.mjs").ScopeKind} kind */
+  /**
+   * @param {Tree} tree
+   * @param {Scope | null} outer
+   * @param {Info | null} within
+   * @param {import("./scopes.mjs").ScopeKind} kind
+   */
   newScope(tree, outer, within, kind) {
     const scope = new Scope(tree, outer, within, kind);
     this.scopes.push(scope);
@@ -118,7 +123,10 @@ export class Analysis {
     this.byPlace.set(`${tree.start}.${tree.end}`, reference);
   }
 
-  /** @param {Tree} tree an identifier or its like @returns {import("./scopes.mjs").Binding | undefined} what it means */
+  /**
+   * @param {Tree} tree an identifier or its like
+   * @returns {import("./scopes.mjs").Binding | undefined} what it means
+   */
   bindingOf(tree) {
     return this.byPlace.get(`${tree.start}.${tree.end}`)?.binding;
   }
@@ -146,7 +154,8 @@ export class Analysis {
     this.own.set(tree, own);
     this.functions.push(info);
     info.isHidden = tree.generator || tree.async || tree.params.some(runsCode);
-    if (tree.type !== "ArrowFunctionExpression") for (const name of ["this", "arguments", "new.target"]) own.declare(name, "pseudo");
+    const named = tree.type === "ArrowFunctionExpression" ? [] : ["this", "arguments", "new.target"];
+    for (const name of named) own.declare(name, "pseudo");
     if (tree.type === "FunctionExpression" && tree.id) own.declare(tree.id.name, "self");
     for (const parameter of tree.params) own.declareAll(parameter, "param");
     const here = { scope: own, within: info };
@@ -161,7 +170,7 @@ export class Analysis {
   /** @param {Tree} tree @param {Here} here */
   visitClass(tree, here) {
     this.visit(tree.superClass, here);
-    if (tree.type === "ClassExpression" && tree.id) this.refuse(tree, "an expression of a class with a name of its own");
+    if (tree.type === "ClassExpression" && tree.id) this.refuse(tree, "a class expression with a name of its own");
     // What its fields begin with is evaluated by a function that nobody wrote.
     const info = new Info(newId(), tree.body, here.within);
     info.isHidden = true;
@@ -291,7 +300,11 @@ export class Analysis {
     if (reference !== undefined) this.references.push({ ...reference, reads: false });
   }
 
-  /** @param {Tree | null} pattern @param {Here} here @param {boolean} isDeclared whether its names are declared by it */
+  /**
+   * @param {Tree | null} pattern
+   * @param {Here} here
+   * @param {boolean} isDeclared whether its names are declared by it
+   */
   visitPattern(pattern, here, isDeclared) {
     if (pattern === null) return;
     switch (pattern.type) {
@@ -333,24 +346,26 @@ export class Analysis {
       if (binding.scope.within === null && reference.within !== null) {
         this.refuse(reference.scope.tree, `\`${reference.name}\`, a name of a block at the top level, in a function`);
       }
-      for (let at = reference.within; at !== null && at !== binding.scope.within; at = at.outer) at.captured.add(binding);
+      const { within: owner } = binding.scope;
+      for (let at = reference.within; at !== null && at !== owner; at = at.outer) at.captured.add(binding);
     }
-    for (const { id } of this.#selfs()) if (id !== undefined) this.refuse(id, "a name that is also what a function expression calls itself");
+    for (const id of this.#selfs()) this.refuse(id, "a name that is also what a function expression calls itself");
   }
 
   /** @param {Reference} reference to what the module doesn't bind */
   #needsAllowed({ name, start, end }) {
-    if (!GLOBALS.has(name)) this.refuse({ start }, `\`${name}\`, which isn't among the names that agents may use with it`);
-    if (NOT_CALLED.has(name) && !isAllowedUse(this.source, name, start, end)) this.refuse({ start }, `\`${name}\` used in this way`);
+    if (!GLOBALS.has(name)) this.refuse({ start }, `\`${name}\`, which isn't among the names that agents may use`);
+    if (!NOT_CALLED.has(name) || isAllowedUse(this.source, name, start, end)) return;
+    this.refuse({ start }, `\`${name}\` used in this way`);
   }
 
-  /** @returns {{ id: Tree | undefined }[]} names of function expressions that something else in them shares */
+  /** @returns {Tree[]} names of function expressions that something else in them shares */
   #selfs() {
     return [...this.own.values()].flatMap((scope) => {
       const { tree } = scope;
       if (scope.kind !== "function" || tree.type !== "FunctionExpression" || !tree.id) return [];
       const isShared = tree.params.some((/** @type {Tree} */ one) => namesIn(one).includes(tree.id.name));
-      return isShared ? [{ id: tree.id }] : [];
+      return isShared ? [tree.id] : [];
     });
   }
 }

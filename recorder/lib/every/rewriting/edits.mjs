@@ -6,6 +6,9 @@ const AFTER = 0;
 const BEFORE = 1;
 const INSTEAD = 2;
 
+/** @param {Edit} one @param {Edit} other */
+const inOrder = (one, other) => one.at - other.at || one.side - other.side || one.order - other.order;
+
 export class Edits {
   /** @param {string} source */
   constructor(source) {
@@ -31,7 +34,7 @@ export class Edits {
 
   /** @returns {{ code: string, original: (place: number) => number }} `original` says where a place was before */
   made() {
-    const sorted = [...this.all].sort((one, other) => one.at - other.at || one.side - other.side || one.order - other.order);
+    const sorted = [...this.all].sort(inOrder);
     let code = "";
     let from = 0;
     /** @type {{ begins: number, ends: number, at: number, behind: number }[]} */

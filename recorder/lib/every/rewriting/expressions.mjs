@@ -14,6 +14,9 @@ const operands = (operandsOf) => (writer, tree, info) => {
   writer.writeAll(trees, info);
 };
 
+/** @param {Writer} writer @param {number} from @param {number} to a place with values that aren't shown */
+const hide = ({ analysis }, from, to) => void analysis.hidden.push([from, to]);
+
 /** @type {Record<string, Write>} by the types of trees */
 export const EXPRESSIONS = {
   BinaryExpression: operands(({ left, right }) => (left.type === "PrivateIdentifier" ? [right] : [left, right])),
@@ -21,7 +24,7 @@ export const EXPRESSIONS = {
   TemplateLiteral: operands(({ expressions }) => expressions),
   TaggedTemplateExpression: operands(({ tag, quasi }) => [tag, ...quasi.expressions]),
   NewExpression: (writer, tree, info) => {
-    if (!["Identifier", "MemberExpression"].includes(tree.callee.type)) writer.analysis.hidden.push([tree.start, tree.end]);
+    if (!["Identifier", "MemberExpression"].includes(tree.callee.type)) hide(writer, tree.start, tree.end);
     operands(({ callee, arguments: given }) => [callee, ...given])(writer, tree, info);
   },
   MemberExpression: operands(({ object, property, computed }) => (computed ? [object, property] : [object])),
@@ -41,14 +44,16 @@ function writeObject(writer, tree, info) {
     return [...(one.computed ? [one.key] : []), ...(isMethod(one) ? [] : [one.value])];
   });
   const last = values.map(runsCode).lastIndexOf(true);
-  const shorthand = new Set(properties.filter((/** @type {Tree} */ one) => one.shorthand).map((/** @type {Tree} */ one) => one.value));
+  /** @type {Set<Tree>} */
+  const shorthand = new Set(properties.flatMap((/** @type {Tree} */ one) => (one.shorthand ? [one.value] : [])));
   values.forEach((/** @type {Tree} */ one, /** @type {number} */ at) => {
     if (at >= last || !writer.isKept(one)) return;
     if (one.type === "SpreadElement") {
-      writer.analysis.hidden.push([tree.start, tree.end]);
+      hide(writer, tree.start, tree.end);
       return;
     }
-    if (shorthand.has(one) && writer.analysis.bindingOf(one)?.kind !== "import") writer.edits.before(one.start, `${one.name}: `);
+    const isImported = writer.analysis.bindingOf(one)?.kind === "import";
+    if (shorthand.has(one) && !isImported) writer.edits.before(one.start, `${one.name}: `);
     writer.keep(info, one, tree.end);
   });
   for (const one of properties) {
@@ -61,7 +66,7 @@ function writeObject(writer, tree, info) {
 /** @type {Write} */
 function writeCall(writer, tree, info) {
   const { callee, arguments: given } = tree;
-  if (!["Identifier", "MemberExpression", "Super"].includes(callee.type)) writer.analysis.hidden.push([tree.start, tree.end]);
+  if (!["Identifier", "MemberExpression", "Super"].includes(callee.type)) hide(writer, tree.start, tree.end);
   if (!given.some(runsCode)) {
     writer.writeAll([callee, ...given], info);
     return;
@@ -69,7 +74,7 @@ function writeCall(writer, tree, info) {
   const object = callee.type === "MemberExpression" ? callee.object : undefined;
   if (object?.type === "Identifier" && writer.isGlobal(object)) writer.keepOperands(info, given, tree.end);
   else if (callee.type === "Super" || object?.type === "Super" || tree.optional || callee.optional) {
-    writer.analysis.hidden.push([tree.start, tree.end]);
+    hide(writer, tree.start, tree.end);
   } else if (object !== undefined && isPrivateMethod(writer, callee)) {
     // What a private method is can't change.
     writer.keep(info, object, tree.end);
@@ -111,7 +116,7 @@ const LOGICAL = new Set(["||=", "&&=", "??="]);
 function writeAssignment(writer, tree, info) {
   const { left, right, operator } = tree;
   // While a setter runs, the engine has what the whole is worth.
-  if (left.type === "MemberExpression" && !writer.analysis.unused.has(tree)) writer.analysis.hidden.push([tree.start, right.start]);
+  if (left.type === "MemberExpression" && !writer.analysis.unused.has(tree)) hide(writer, tree.start, right.start);
   const binary = operator === "=" || LOGICAL.has(operator) ? undefined : operator.slice(0, -1);
   if (isPattern(left)) writer.write(right, info);
   else if (left.type === "Identifier") {
@@ -124,7 +129,11 @@ function writeAssignment(writer, tree, info) {
   else writeMemberAssignment(writer, tree, info);
 }
 
-/** @param {Writer} writer @param {Tree} tree an assignment @param {string} text up to the value; a parenthesis closes it */
+/**
+ * @param {Writer} writer
+ * @param {Tree} tree an assignment
+ * @param {string} text up to the value; a parenthesis closes it
+ */
 function replaceOperator({ edits, source }, { left, operator, end }, text) {
   edits.replace(source.indexOf(operator, left.end), operator.length, text);
   edits.after(end, ")");
@@ -157,8 +166,10 @@ function writeChange(writer, tree, info, binary) {
  */
 function keepMember(writer, { object, property, computed, end: behind }, info, end) {
   const kept = object.type === "Super" ? "super" : writer.keep(info, object, end);
-  let key = writer.source.slice(object.end, behind);
-  if (computed) key = isConstant(property) ? `[${writer.source.slice(property.start, property.end)}]` : `[${writer.keep(info, property, end)}]`;
+  const { source } = writer;
+  let key = source.slice(object.end, behind);
+  if (computed && isConstant(property)) key = `[${source.slice(property.start, property.end)}]`;
+  else if (computed) key = `[${writer.keep(info, property, end)}]`;
   writer.write(object, info);
   if (computed) writer.write(property, info);
   return `${kept}${key}`;
@@ -168,8 +179,8 @@ function keepMember(writer, { object, property, computed, end: behind }, info, e
 function writeMemberAssignment(writer, tree, info) {
   const { left, right } = tree;
   const needs = runsCode(right) || (left.computed && runsCode(left.property));
-  if (left.object.type === "Super") writer.analysis.hidden.push([tree.start, tree.end]);
-  else if (needs && !(left.object.type === "Identifier" && writer.isFixed(left.object))) writer.keep(info, left.object, tree.end);
+  if (left.object.type === "Super") hide(writer, tree.start, tree.end);
+  else if (needs && writer.isKept(left.object)) writer.keep(info, left.object, tree.end);
   if (needs && left.computed && !isConstant(left.property)) writer.keep(info, left.property, tree.end);
   writer.write(left.object, info);
   if (left.computed) writer.write(left.property, info);
@@ -182,6 +193,6 @@ function writeMemberAssignment(writer, tree, info) {
  */
 function writeUpdate(writer, tree, info) {
   if (tree.argument.type !== "MemberExpression") return;
-  if (!writer.analysis.unused.has(tree)) writer.analysis.hidden.push([tree.start, tree.end]);
+  if (!writer.analysis.unused.has(tree)) hide(writer, tree.start, tree.end);
   keepMember(writer, tree.argument, info, tree.end);
 }

@@ -34,13 +34,16 @@ function without(alive, bindings) {
   return less.size === alive.size ? alive : less;
 }
 
-/** @type {Record<string, (live: Liveness, tree: Tree, out: Alive) => Alive>} what is alive before trees of some types */
+/**
+ * @type {Record<string, (live: Liveness, tree: Tree, out: Alive) => Alive>} what is alive before trees of some types
+ */
 const BEFORE = {
   Identifier: (live, tree, out) => live.read(tree, out),
   ThisExpression: (live, tree, out) => live.read(tree, out),
   Super: (live, tree, out) => live.read(tree, out),
   MetaProperty: (live, tree, out) => live.read(tree, out),
-  MemberExpression: (live, { object, property, computed }, out) => live.all(computed ? [object, property] : [object], out),
+  MemberExpression: (live, { object, property, computed }, out) =>
+    live.all(computed ? [object, property] : [object], out),
   Property: (live, { key, value, computed }, out) => live.all(computed ? [key, value] : [value], out),
   AssignmentExpression: (live, tree, out) => live.assignment(tree, out),
   UpdateExpression: (live, { argument }, out) => live.before(argument, out),
@@ -90,7 +93,11 @@ class Liveness {
     this.caught = NONE;
   }
 
-  /** @param {Tree | null | undefined} tree @param {Alive} out what is alive after it @returns {Alive} what is before it */
+  /**
+   * @param {Tree | null | undefined} tree
+   * @param {Alive} out what is alive after it
+   * @returns {Alive} what is before it
+   */
   before(tree, out) {
     if (tree === null || tree === undefined || tree.type === "FunctionDeclaration") return out;
     if (isFunction(tree)) return union(out, this.#captured(tree));
@@ -164,7 +171,9 @@ class Liveness {
   pattern(pattern, out) {
     if (pattern === null || pattern.type === "Identifier") return out;
     if (pattern.type === "MemberExpression") return this.before(pattern, out);
-    if (pattern.type === "AssignmentPattern") return this.pattern(pattern.left, union(out, this.before(pattern.right, out)));
+    if (pattern.type === "AssignmentPattern") {
+      return this.pattern(pattern.left, union(out, this.before(pattern.right, out)));
+    }
     if (pattern.type === "RestElement") return this.pattern(pattern.argument, out);
     let alive = out;
     for (const one of [...(pattern.elements ?? pattern.properties)].reverse()) {
@@ -185,7 +194,10 @@ class Liveness {
     }, out);
   }
 
-  /** @param {Tree} pattern @returns {Binding[]} the names that it declares, if each is declared once in this function */
+  /**
+   * @param {Tree} pattern
+   * @returns {Binding[]} the names that it declares, if each is declared once in this function
+   */
   #declared(pattern) {
     const scopes = this.analysis.scopes.filter(({ within, start, end }) =>
       within === this.info && start <= pattern.start && pattern.end <= end);
@@ -219,7 +231,8 @@ class Liveness {
   /** @param {Tree} tree @param {("loop" | "switch")[]} kinds @returns {Target} */
   targetOf({ label }, kinds) {
     const targets = [...this.targets].reverse();
-    const found = targets.find(({ labels, kind }) => (label ? labels.includes(label.name) : kinds.some((one) => one === kind)));
+    const found = targets.find(({ labels, kind }) =>
+      (label ? labels.includes(label.name) : kinds.some((one) => one === kind)));
     return /** @type {Target} */ (found);
   }
 

@@ -67,8 +67,8 @@ class Linker {
   takeNamed(statement) {
     const { declaration, specifiers, source } = statement;
     if (declaration) {
-      const names = declaration.id ? [declaration.id.name] : declaration.declarations.flatMap((/** @type {Tree} */ { id }) => namesIn(id));
-      for (const name of names) this.exports.push([name, name]);
+      const ids = declaration.id ? [declaration.id] : declaration.declarations.map((/** @type {Tree} */ { id }) => id);
+      for (const name of ids.flatMap(namesIn)) this.exports.push([name, name]);
       this.remove(statement, declaration.start);
       return;
     }

@@ -1,5 +1,5 @@
-// What a function can still read at a place of its text at which it has called something: names, and values that are kept
-// in its frame. A place of which that isn't known says why.
+// What a function can still read at a place of its text at which it has called something: names, and values that are
+// kept in its frame. A place of which that isn't known says why.
 
 import { aliveIn } from "./live.mjs";
 
@@ -45,7 +45,8 @@ export class Places {
     const info = this.#functionAt(offset);
     if (info === undefined) return unknown("code at the top level of a module");
     if (info.isHidden) return unknown("a generator, an async function, a constructor of a derived class or the like");
-    if (this.analysis.hidden.some(([from, to]) => from <= offset && offset < to)) return unknown("a place with values that aren't shown");
+    const isHidden = this.analysis.hidden.some(([from, to]) => from <= offset && offset < to);
+    if (isHidden) return unknown("a place with values that aren't shown");
     const alive = this.#aliveAt(info, offset);
     if (typeof alive === "string") return unknown(`a call by ${alive}`);
     if (info.made !== undefined) alive.add(info.made);
@@ -53,7 +54,7 @@ export class Places {
     const kept = info.temporaries.filter(({ from, to }) => from <= offset && offset < to);
     return {
       fn: info.id, makes: info.made !== undefined, kept: kept.map(({ id }) => id),
-      alive: shown.map(({ scope, index }) => /** @type {[number, number]} */ ([scope.id, index])).sort(([a, b], [c, d]) => a - c || b - d),
+      alive: shown.map(placeOf).sort(([a, b], [c, d]) => a - c || b - d),
     };
   }
 
@@ -89,7 +90,11 @@ export class Places {
   }
 }
 
-/** @param {Tree} tree @param {number} offset @returns {boolean} whether what it calls may be going on at a place in it */
+/**
+ * @param {Tree} tree
+ * @param {number} offset
+ * @returns {boolean} whether what it calls may be going on at a place in it
+ */
 function canCallAt(tree, offset) {
   switch (tree.type) {
     case "CallExpression": case "NewExpression": return offset <= tree.callee.end;
@@ -99,6 +104,9 @@ function canCallAt(tree, offset) {
     default: return false;
   }
 }
+
+/** @param {Binding} binding @returns {[number, number]} */
+const placeOf = ({ scope, index }) => [scope.id, index];
 
 /** @param {string} why @returns {Place} */
 const unknown = (why) => ({ unknown: why, fn: 0, makes: false, alive: [], kept: [] });

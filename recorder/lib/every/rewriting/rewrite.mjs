@@ -15,6 +15,9 @@ import { Writer } from "./writer.mjs";
  * @property {(place: number) => string} lineOf the line and the column, in the module's text, of a place of the code
  */
 
+/** The names that rewritten code has. */
+const OWN_NAMES = /\$(?:R|m|f|i|o|x|e\d+|default)\b/;
+
 /**
  * Rewrites a module.
  * @param {Tree} tree
@@ -25,17 +28,22 @@ import { Writer } from "./writer.mjs";
  */
 export function rewritten(tree, source, { file, isEntry }) {
   const analysis = new Analysis(tree, source, file);
-  if (/\$(?:R|m|f|i|o|x|e\d+|default)\b/.test(source)) analysis.refuse({ start: source.search(/\$(?:R|m|f|i|o|x|e\d+|default)\b/) }, "a name that the recorder uses here");
+  const start = source.search(OWN_NAMES);
+  if (start >= 0) analysis.refuse({ start }, "a name that the recorder uses here");
   const writer = new Writer(analysis);
   const { edits } = writer;
   if (source.startsWith("#!")) edits.replace(0, 2, "//");
   const { imports, begins, exported } = linked(analysis, edits);
-  edits.before(0, `(function ($R, $m) { "use strict"; ${shownModule(analysis, isEntry ? new Set() : exported)} ${begins} `);
+  const shows = shownModule(analysis, isEntry ? new Set() : exported);
+  edits.before(0, `(function ($R, $m) { "use strict"; ${shows} ${begins} `);
   writer.registerDeclared(0, tree.body);
   writer.writeAll(tree.body, null);
   const { code, original } = edits.made();
   const places = new Places(analysis);
-  return { code: `${code}\n})`, imports, lineOf: (place) => lineAt(source, original(place)), at: (place) => places.at(original(place)) };
+  return {
+    code: `${code}\n})`, imports, at: (place) => places.at(original(place)),
+    lineOf: (place) => lineAt(source, original(place)),
+  };
 }
 
 /**

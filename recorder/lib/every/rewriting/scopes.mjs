@@ -6,7 +6,8 @@ import { childrenOf, isClass, isFunction, namesIn } from "./tree.mjs";
 
 /**
  * @typedef {"module" | "function" | "block" | "catch" | "for" | "each"} ScopeKind
- * @typedef {"let" | "const" | "var" | "function" | "class" | "import" | "param" | "catch" | "self" | "pseudo"} BindingKind
+ * @typedef {"let" | "const" | "var" | "function" | "class" | "import" | "param" | "catch" | "self" | "pseudo"}
+ * BindingKind
  */
 
 /**

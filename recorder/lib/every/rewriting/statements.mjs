@@ -68,7 +68,8 @@ function writeFor(writer, tree, info) {
 function writeEach(writer, tree, info) {
   const { analysis, edits } = writer;
   const own = analysis.own.get(tree);
-  if (tree.left.type !== "VariableDeclaration" && runsCode(tree.left)) analysis.refuse(tree.left, "a loop into what a call returns");
+  const isSimple = tree.left.type === "VariableDeclaration" || !runsCode(tree.left);
+  if (!isSimple) analysis.refuse(tree.left, "a loop into what a call returns");
   if (own !== undefined && own.shown().length > 0) {
     if (tree.body.type === "BlockStatement") showNames(writer, tree, tree.body.start + 1);
     else {
@@ -124,7 +125,8 @@ function noteLeaving(writer, tree, whole, how, what) {
       edits.after(end - (source[end - 1] === ";" ? 1 : 0), ` (${how} = "returns", ${what} = undefined)`);
     }
     const isJump = type === "BreakStatement" || type === "ContinueStatement";
-    if (isJump || (type === "TryStatement" && one.finalizer)) analysis.hidden.push([whole.finalizer.start, whole.finalizer.end]);
+    const { start, end: behind } = whole.finalizer;
+    if (isJump || (type === "TryStatement" && one.finalizer)) analysis.hidden.push([start, behind]);
     else if (type !== "ReturnStatement") childrenOf(one).forEach(note);
   };
   note(tree);

@@ -65,7 +65,8 @@ export function namesIn(pattern) {
   switch (pattern.type) {
     case "Identifier": return [pattern.name];
     case "ObjectPattern":
-      return pattern.properties.flatMap((/** @type {Tree} */ one) => namesIn(one.type === "RestElement" ? one.argument : one.value));
+      return pattern.properties.flatMap((/** @type {Tree} */ one) =>
+        namesIn(one.type === "RestElement" ? one.argument : one.value));
     case "ArrayPattern": return pattern.elements.flatMap(namesIn);
     case "AssignmentPattern": return namesIn(pattern.left);
     case "RestElement": return namesIn(pattern.argument);

@@ -1,6 +1,6 @@
-// Rewrites a module so that all that its functions keep while they run can be shown. Each call of a function has a frame
-// with the cells of its names, and what the engine would keep on its stack is kept in the frame. The order in which
-// things are evaluated stays.
+// Rewrites a module so that all that its functions keep while they run can be shown. Each call of a function has a
+// frame with the cells of its names, and what the engine would keep on its stack is kept in the frame. The order in
+// which things are evaluated stays.
 
 import { Edits } from "./edits.mjs";
 import { EXPRESSIONS } from "./expressions.mjs";
@@ -126,7 +126,8 @@ export class Writer {
     const binding = this.analysis.bindingOf(tree);
     if (binding === undefined) return this.isGlobal(tree);
     const { kind, references, scope } = binding;
-    return scope.kind === "module" && ["const", "function", "class"].includes(kind) && references.every(({ reads }) => reads);
+    const isConstant = ["const", "function", "class"].includes(kind);
+    return scope.kind === "module" && isConstant && references.every(({ reads }) => reads);
   }
 
   /** @param {Scope} scope @returns {string} what makes its names visible */
@@ -185,7 +186,8 @@ export class Writer {
       return;
     }
     const own = /** @type {Scope} */ (analysis.own.get(tree));
-    const enters = `const $f = $R.enter(${info.id}, ${this.cells(info)}); try { const $e${own.id} = ${this.environment(own)};`;
+    const shows = `const $e${own.id} = ${this.environment(own)};`;
+    const enters = `const $f = $R.enter(${info.id}, ${this.cells(info)}); try { ${shows}`;
     if (tree.body.type === "BlockStatement") {
       edits.before(tree.body.start + 1, enters);
       this.registerDeclared(tree.body.start + 1, tree.body.body);
@@ -203,11 +205,8 @@ export class Writer {
   #writeClass(tree, info) {
     const { body: { body, start }, superClass } = tree;
     this.write(superClass, info);
-    const fields = body.filter((/** @type {Tree} */ one) => one.type === "PropertyDefinition" && one.key.type === "PrivateIdentifier");
-    const read = fields.map((/** @type {Tree} */ { key: { name } }) => `#${name} in $o, #${name} in $o ? $o.#${name} : 0`);
-    const own = fields.map((/** @type {Tree} */ { key: { name } }) => `#${name} in $o`).join(" || ");
-    const reader = own === "" ? "null" : `($o) => ${own} ? [${read.join(", ")}] : null`;
-    this.edits.before(start + 1, `static { $R.cls(${newId()}, this, ${reader}, {${this.#cellsOfMethods(tree, body, info)}}); }`);
+    const cells = this.#cellsOfMethods(tree, body, info);
+    this.edits.before(start + 1, `static { $R.cls(${newId()}, this, ${readerOf(body)}, {${cells}}); }`);
     for (const member of body) {
       if (member.computed) this.write(member.key, info);
       if (member.type === "MethodDefinition") this.write(member.value, info, true);
@@ -223,9 +222,11 @@ export class Writer {
   #cellsOfMethods(tree, members, info) {
     if (info === null) return "";
     const methods = members.filter((one) => one.type === "MethodDefinition" || isMethod(one));
-    const cells = methods.filter((one) => one.kind !== "constructor" && one.key.type !== "PrivateIdentifier").map((one) => {
+    const named = methods.filter((one) => one.kind !== "constructor" && one.key.type !== "PrivateIdentifier");
+    const cells = named.map((one) => {
       const own = this.infoOf(one.value);
-      if (one.computed && own.captured.size > 0) this.analysis.refuse(one, "a method with a computed name in a function");
+      const isLost = one.computed && own.captured.size > 0;
+      if (isLost) this.analysis.refuse(one, "a method with a computed name in a function");
       const kind = one.kind === "get" || one.kind === "set" ? one.kind : "value";
       const key = one.computed ? undefined : `${one.static ? "s" : "p"} ${kind} ${one.key.name ?? one.key.value}`;
       return key === undefined ? "" : `${JSON.stringify(key)}: ${this.cells(own)}, `;
@@ -249,4 +250,13 @@ export class Writer {
       }
     }
   }
+}
+
+/** @param {Tree[]} body of a class @returns {string} what shows the private fields of an object, if there are any */
+function readerOf(body) {
+  const fields = body.filter(({ type, key }) => type === "PropertyDefinition" && key.type === "PrivateIdentifier");
+  if (fields.length === 0) return "null";
+  const has = fields.map(({ key: { name } }) => `#${name} in $o`);
+  const read = fields.map(({ key: { name } }, at) => `${has[at]}, ${has[at]} ? $o.#${name} : 0`);
+  return `($o) => ${has.join(" || ")} ? [${read.join(", ")}] : null`;
 }

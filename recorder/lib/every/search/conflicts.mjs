@@ -94,8 +94,10 @@ export class Conflicts {
     const key = one * MANY + other;
     let found = this.pairs.get(key);
     if (found === undefined) {
-      found = this.opens[one].flatMap((each) =>
-        this.opens[other].filter((another) => mayConflict(each, another)).map((another) => /** @type {Pair} */ ([each, another])));
+      found = [];
+      for (const each of this.opens[one]) {
+        for (const another of this.opens[other]) if (mayConflict(each, another)) found.push([each, another]);
+      }
       this.pairs.set(key, found);
     }
     return found;

@@ -49,7 +49,8 @@ export function changed({ does, size, raw: [x, y] }, old) {
   if (does === DOES.LOAD) return old;
   if (does === DOES.STORE || does === DOES.EXCHANGE) return x;
   if (does === DOES.COMPARE_EXCHANGE) return old === x ? y : old;
-  return typeof old === "bigint" ? changedBig(does, old, /** @type {bigint} */ (x)) : changedNumber(does, size, old, Number(x));
+  if (typeof old === "bigint") return changedBig(does, old, /** @type {bigint} */ (x));
+  return changedNumber(does, size, old, Number(x));
 }
 
 /** @param {number} does @param {bigint} old @param {bigint} x */

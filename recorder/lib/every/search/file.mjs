@@ -20,7 +20,10 @@ import { Views, answerText, callData } from "./text.mjs";
 
 const ALIGNMENT = 8;
 
-/** @param {number[]} lengths of blocks @returns {{ bases: number[], length: number }} where each begins, and their end */
+/**
+ * @param {number[]} lengths of blocks
+ * @returns {{ bases: number[], length: number }} where each begins, and their end
+ */
 export function basesOf(lengths) {
   /** @type {number[]} */
   const bases = [];
@@ -88,7 +91,8 @@ function nodeData(node, views, positions) {
   const edges = [...node.edges].map(([answer, next]) => [answerText(node, answer), positions.of(next)[1]]);
   if (isCall(node)) return { call: callData(node, views), edges };
   const { block, byte, size, written, isAlone } = node;
-  const range = written === undefined ? { read: [block, byte, size] } : { write: [block, byte, hexOf(written, 0, size)] };
+  const isRead = written === undefined;
+  const range = isRead ? { read: [block, byte, size] } : { write: [block, byte, hexOf(written, 0, size)] };
   return { ...range, ...(isAlone ? { alone: true } : {}), edges };
 }
 
@@ -105,7 +109,8 @@ export function programOf({ blocks: lengths, initial, views, automata, agents })
   const nodes = [];
   const byName = new Map(views.map((view) => [view.name, view]));
   const lists = automata.map((automaton, at) => automaton.nodes.map((each) => {
-    const node = nodeOf({ id: nodes.length, automaton: at, does: DOES.FINISHED, ...readNode(each, byName, bases, lengths) });
+    const read = readNode(each, byName, bases, lengths);
+    const node = nodeOf({ id: nodes.length, automaton: at, does: DOES.FINISHED, ...read });
     nodes.push(node);
     return node;
   }));
@@ -118,11 +123,18 @@ export function programOf({ blocks: lengths, initial, views, automata, agents })
     lengths, bases, initial: bytes, nodes, mayLack: true, learn: () => undefined,
     agents: agents.map(({ automaton, block }) => ({ canBlock: block, root: lists[names.indexOf(automaton)][0] })),
   };
-  const places = new Map(lists.flatMap((list, at) => list.map((node, position) => /** @type {[Node, [number, number]]} */ ([node, [at, position]]))));
+  /** @type {Map<Node, [number, number]>} */
+  const places = new Map();
+  lists.forEach((list, at) => list.forEach((node, position) => places.set(node, [at, position])));
   return { ...program, positions: Object.assign(new Positions(program), { places, nodes: lists }) };
 }
 
-/** @param {any} data @param {Map<string, import("./text.mjs").ViewData>} views @param {number[]} bases @param {number[]} lengths */
+/**
+ * @param {any} data
+ * @param {Map<string, import("./text.mjs").ViewData>} views
+ * @param {number[]} bases
+ * @param {number[]} lengths
+ */
 function readNode(data, views, bases, lengths) {
   if (data.finished) return {};
   if (data.threw !== undefined) return { does: DOES.THREW, text: data.threw };
@@ -135,7 +147,12 @@ function readNode(data, views, bases, lengths) {
   };
 }
 
-/** @param {any[]} call @param {Map<string, import("./text.mjs").ViewData>} views @param {number[]} bases @param {number[]} lengths */
+/**
+ * @param {any[]} call
+ * @param {Map<string, import("./text.mjs").ViewData>} views
+ * @param {number[]} bases
+ * @param {number[]} lengths
+ */
 function readCall([name, view, index, ...rest], views, bases, lengths) {
   const { kind: kindName, block, offset, length } = /** @type {import("./text.mjs").ViewData} */ (views.get(view));
   const kind = SCRIPT_KINDS.indexOf(kindName);
@@ -154,7 +171,13 @@ function readCall([name, view, index, ...rest], views, bases, lengths) {
   };
 }
 
-/** @param {number} does @param {string} kind @param {(number | bigint)[]} operands @param {boolean} isBig @param {boolean} isWithin */
+/**
+ * @param {number} does
+ * @param {string} kind
+ * @param {(number | bigint)[]} operands
+ * @param {boolean} isBig
+ * @param {boolean} isWithin
+ */
 function errorOf(does, kind, operands, isBig, isWithin) {
   const waits = does === DOES.WAIT || does === DOES.NOTIFY;
   if (/^Float|Clamped$/.test(kind) || (waits && kind !== "Int32" && kind !== "BigInt64")) return "TypeError";

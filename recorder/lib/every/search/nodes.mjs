@@ -1,5 +1,5 @@
-// The nodes of automata. A node is what an agent asks for next: a call of Atomics, an ordinary read or write, or its end.
-// Edges lead on by what it is answered.
+// The nodes of automata. A node is what an agent asks for next: a call of Atomics, an ordinary read or write, or its
+// end. Edges lead on by what it is answered.
 
 import { CALLS, CALL_NUMBERS } from "../../../script/kinds.mjs";
 

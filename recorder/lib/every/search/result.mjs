@@ -48,9 +48,8 @@ export class Kinds {
       world.load(state);
       this.#look(state);
     }
-    for (let state = 0; world.program.mayLack && state < search.count && search.depths.items[state] <= depth; state += 1) {
-      this.#lookForUnknown(state);
-    }
+    const last = world.program.mayLack ? search.count : 0;
+    for (let state = 0; state < last && search.depths.items[state] <= depth; state += 1) this.#lookForUnknown(state);
     if (search.isClosed && search.lost === undefined) this.#findNoWayOut();
     return this;
   }
@@ -73,7 +72,8 @@ export class Kinds {
     /** @type {Map<string, import("./world.mjs").Unknown>} */
     const here = new Map();
     for (const unknown of this.search.unknownAt(state)) here.set(unknownName(unknown), unknown);
-    const sorted = [...here.values()].sort((one, other) => one.node.id - other.node.id || inBytes(textOf(one), textOf(other)));
+    const sorted = [...here.values()].sort((one, other) =>
+      one.node.id - other.node.id || inBytes(textOf(one), textOf(other)));
     for (const unknown of sorted) count(this.unknown, unknownName(unknown), state, { unknown });
   }
 
@@ -112,7 +112,8 @@ export class Kinds {
 }
 
 /**
- * What kinds the loaded state has besides: texts that were thrown, whether all have ended, and whether it is a deadlock.
+ * What kinds the loaded state has besides: texts that were thrown, whether all have ended, and whether it is a
+ * deadlock.
  * @param {Search} search
  * @returns {{ texts: Set<string>, isFinal: boolean, isDeadlock: boolean }}
  */
@@ -132,7 +133,11 @@ export function endingHere({ world, timeouts }) {
 }
 
 /** @param {string} one @param {string} other @returns {number} their order by their bytes in UTF-8 */
-const inBytes = (one, other) => Buffer.compare(Buffer.from(one), Buffer.from(other));
+function inBytes(one, other) {
+  const [bytes, others] = [one, other].map((text) => hexOf(Buffer.from(text), 0, Buffer.byteLength(text)));
+  if (bytes === others) return 0;
+  return bytes < others ? -1 : 1;
+}
 
 /** @param {import("./world.mjs").Unknown} unknown */
 const textOf = ({ node, answer }) => answerText(node, answer);
@@ -267,7 +272,8 @@ export function resultOf(search, kinds, { position, blocksOf }) {
 /** @param {import("./world.mjs").World} world @param {number} memory @returns {string[]} the bytes of each block */
 export function blocksIn({ memories, program: { bases, lengths } }, memory) {
   const from = memory * memories.width;
-  return lengths.map((length, block) => hexOf(/** @type {Uint8Array} */ (memories.items), from + bases[block], from + bases[block] + length));
+  const bytes = /** @type {Uint8Array} */ (memories.items);
+  return lengths.map((length, block) => hexOf(bytes, from + bases[block], from + bases[block] + length));
 }
 
 /** @typedef {ReturnType<typeof resultOf>} Result */

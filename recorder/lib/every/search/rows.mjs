@@ -120,7 +120,11 @@ export class Lists {
     return found;
   }
 
-  /** @param {number} number of a list @param {(member: number) => boolean} stays @returns {number} of those that stay */
+  /**
+   * @param {number} number of a list
+   * @param {(member: number) => boolean} stays
+   * @returns {number} of those that stay
+   */
   kept(number, stays) {
     let kept = 0;
     const { members } = this.all[number];

@@ -1,5 +1,5 @@
-// Of each kind of state the schedule to it with the fewest changes of agents, then with the fewest acts; one in which no
-// timed wait ends while something else can move comes before all others.
+// Of each kind of state the schedule to it with the fewest changes of agents, then with the fewest acts; one in which
+// no timed wait ends while something else can move comes before all others.
 
 /** @typedef {import("./search.mjs").Search} Search */
 
@@ -84,8 +84,8 @@ class Ways {
 
   /**
    * Goes through the states, the nearest first.
-   * @param {(state: number, way: () => Schedule) => boolean} visit gets each state with the best way to it, when that is
-   * known; it says whether more states are wanted
+   * @param {(state: number, way: () => Schedule) => boolean} visit gets each state with the best way to it, when that
+   * is known; it says whether more states are wanted
    */
   go(visit) {
     const first = this.#place(0, this.agents);

@@ -5,8 +5,8 @@ import { types } from "node:util";
 import { isObject } from "../../primordials.mjs";
 
 const LANGUAGE = [
-  "Object", "Function", "Array", "String", "Number", "Boolean", "Symbol", "BigInt", "Math", "JSON", "Reflect", "Map", "Set",
-  "WeakMap", "WeakSet", "Error", "RangeError", "TypeError", "SyntaxError", "Date", "RegExp", "ArrayBuffer",
+  "Object", "Function", "Array", "String", "Number", "Boolean", "Symbol", "BigInt", "Math", "JSON", "Reflect", "Map",
+  "Set", "WeakMap", "WeakSet", "Error", "RangeError", "TypeError", "SyntaxError", "Date", "RegExp", "ArrayBuffer",
   "SharedArrayBuffer", "Atomics", "Promise", "DataView", "Proxy",
 ];
 
@@ -65,7 +65,8 @@ export class Builtins {
     for (const key of Reflect.ownKeys(object)) {
       const descriptor = /** @type {any} */ (Reflect.getOwnPropertyDescriptor(object, key));
       for (const kind of KINDS) {
-        if (kind in descriptor) this.add(descriptor[kind], `${name}.${String(key)}${kind === "value" ? "" : `.${kind}`}`);
+        const part = kind === "value" ? "" : `.${kind}`;
+        if (kind in descriptor) this.add(descriptor[kind], `${name}.${String(key)}${part}`);
       }
     }
   }
@@ -97,7 +98,8 @@ export class Builtins {
       const { value, get, set } = /** @type {PropertyDescriptor} */ (Reflect.getOwnPropertyDescriptor(owner, key));
       return [owner, key, value, get, set];
     }));
-    const globals = Reflect.ownKeys(globalThis).flatMap((key) => [key, Reflect.getOwnPropertyDescriptor(globalThis, key)?.value]);
+    const globals = Reflect.ownKeys(globalThis).flatMap((key) =>
+      [key, Reflect.getOwnPropertyDescriptor(globalThis, key)?.value]);
     return [...members, ...globals];
   }
 }

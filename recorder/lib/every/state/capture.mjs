@@ -1,5 +1,5 @@
-// The state of an agent as a text, at a call or a read that it makes: where each of its functions is, what they can still
-// read, and all that can be reached from there.
+// The state of an agent as a text, at a call or a read that it makes: where each of its functions is, what they can
+// still read, and all that can be reached from there.
 
 import { framesHere } from "../../agent/frames.mjs";
 import { CantShow, Walk } from "./walk.mjs";
@@ -84,12 +84,14 @@ export class Capture {
   #putFrame(walk, site, frame) {
     const name = site?.getFunctionName() ?? "";
     const text = this.texts.get(site?.getFileName() ?? "");
-    if (site === undefined || text === undefined) throw new CantShow(`a function of the engine, ${name}, that calls others`);
-    if (CALLED_BY_ENGINE.has(site.getMethodName() ?? "") || name.includes("[Symbol")) throw new CantShow(`${name}, which the engine calls`);
+    if (site === undefined || text === undefined) throw new CantShow(`a function of the engine that calls ${name}`);
+    const isCalledByEngine = CALLED_BY_ENGINE.has(site.getMethodName() ?? "") || name.includes("[Symbol");
+    if (isCalledByEngine) throw new CantShow(`${name}, which the engine calls`);
     const position = site.getPosition();
     const place = text.at(position);
     if (place.unknown !== undefined) throw new CantShow(place.unknown);
-    if (frame.id !== place.fn || site.isConstructor() !== place.makes) throw new CantShow("another function than was seen");
+    const isSame = frame.id === place.fn && site.isConstructor() === place.makes;
+    if (!isSame) throw new CantShow("another function than was seen");
     walk.put(`|${place.fn}:${position}`);
     for (const [scope, index] of place.alive) walk.cell([frame.e[scope], index]);
     if (this.flaw.hides !== "temporaries") {
@@ -117,6 +119,7 @@ function needsDirect(frames) {
   const isCall = file === ATOMICS;
   const isElement = file === ELEMENTS && /\bget$/.test(first.getFunctionName() ?? "");
   if (own.length !== 1 || !(isCall || isElement)) {
-    throw new CantShow(`${first?.getFunctionName() ?? "a function"} of ${file.replace(LIBRARY, "")}, which may have more to do`);
+    const name = first?.getFunctionName() ?? "a function";
+    throw new CantShow(`${name} of ${file.replace(LIBRARY, "")}, which may have more to do`);
   }
 }

@@ -7,7 +7,9 @@ import { watchedOf } from "../../agent/ordinary/watched.mjs";
 
 /** @typedef {[Environment, number]} Cell a name: what it is among, and its position there */
 
-/** @typedef {{ id: string, cells: Cell[] | null }} Made a function of the modules: which one it is, and what it captures */
+/**
+ * @typedef {{ id: string, cells: Cell[] | null }} Made a function of the modules: which one it is, and what it captures
+ */
 
 /** Names that can be read. */
 export class Environment {
@@ -65,7 +67,9 @@ export class Runtime {
     this.functions = new WeakMap();
     /** @type {{ environment: Environment, indexes: number[] }[]} the names of the modules */
     this.modules = [];
-    /** @type {{ cls: Function, read: (object: object) => unknown[] | null }[]} what shows the private fields of classes */
+    /**
+     * @type {{ cls: Function, read: (object: object) => unknown[] | null }[]} what shows the private fields of classes
+     */
     this.readers = [];
     /** How many of these are of the modules themselves. */
     this.lasting = 0;
@@ -139,7 +143,12 @@ export class Runtime {
         this.#register(fn, `f${id}`, cells);
         return fn;
       },
-      /** @param {number} id @param {any} cls @param {((object: object) => unknown[] | null) | null} read @param {Record<string, any>} cells */
+      /**
+       * @param {number} id
+       * @param {any} cls
+       * @param {((object: object) => unknown[] | null) | null} read
+       * @param {Record<string, any>} cells
+       */
       cls: (id, cls, read, cells) => {
         this.#registerMethods(cls, `c${id}`, "s", cells);
         this.#registerMethods(cls.prototype, `c${id}`, "p", cells);

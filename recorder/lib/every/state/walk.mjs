@@ -6,7 +6,10 @@ import { blockNumber } from "../../agent/ordinary/context.mjs";
 import { ShownIterator, UNKNOWN } from "./runtime.mjs";
 
 /** @typedef {import("./runtime.mjs").Cell} Cell */
-/** @typedef {{ object: any, seen: Set<unknown>, hasValues: boolean }} Weak a WeakMap or a WeakSet, and which keys were found */
+/**
+ * @typedef {{ object: any, seen: Set<unknown>, hasValues: boolean }} Weak a WeakMap or a WeakSet, and which keys were
+ * found
+ */
 
 /** Something that can't be shown. */
 export class CantShow extends Error {}
@@ -130,8 +133,8 @@ export class Walk {
     for (const weak of this.weak) {
       const { object, seen, hasValues } = weak;
       for (const key of [...this.seen.keys(), ...this.builtins.names.keys()]) {
-        const isIn = typeof key !== "symbol" && !seen.has(key) && (hasValues ? weakMapHas : weakSetHas).call(object, /** @type {object} */ (key));
-        if (!isIn) continue;
+        const has = hasValues ? weakMapHas : weakSetHas;
+        if (typeof key === "symbol" || seen.has(key) || !has.call(object, /** @type {object} */ (key))) continue;
         seen.add(key);
         this.out.push(`w${this.seen.get(object)}`);
         this.value(key);
@@ -182,7 +185,8 @@ export class Walk {
   #isBarePrototype(prototype) {
     if (typeof prototype !== "object" || prototype === null) return false;
     const parent = Reflect.getPrototypeOf(prototype);
-    return Reflect.ownKeys(prototype).every((key) => key === "constructor") && parent !== null && this.builtins.nameOf(parent) !== undefined;
+    const isOwn = parent === null || this.builtins.nameOf(parent) === undefined;
+    return !isOwn && Reflect.ownKeys(prototype).every((key) => key === "constructor");
   }
 
   /** @param {any} object @returns {boolean} whether it may have a prototype and properties besides */
@@ -217,7 +221,8 @@ export class Walk {
       const length = types.isTypedArray(object) ? /** @type {any} */ (object).length : object.byteLength;
       this.out.push(/** @type {any} */ (object)[Symbol.toStringTag] ?? "DataView", object.byteOffset, length);
       this.value(object.buffer);
-      if (Reflect.ownKeys(object).length !== (types.isTypedArray(object) ? length : 0)) throw new CantShow("a typed array with properties");
+      const own = types.isTypedArray(object) ? length : 0;
+      if (Reflect.ownKeys(object).length !== own) throw new CantShow("a typed array with properties");
     } else if (types.isSharedArrayBuffer(object)) {
       const block = blockNumber(object);
       if (block < 0) throw new CantShow("shared memory of its own");
@@ -235,7 +240,8 @@ export class Walk {
     const prototype = Reflect.getPrototypeOf(object);
     const name = prototype === null ? undefined : this.builtins.nameOf(prototype);
     const isTyped = anyWatchedOf(object) !== undefined || ArrayBuffer.isView(object);
-    const isPlain = name === undefined || isTyped || this.builtins.plain.has(/** @type {any} */ (prototype)) || types.isAnyArrayBuffer(object);
+    const isOfPlain = this.builtins.plain.has(/** @type {any} */ (prototype));
+    const isPlain = name === undefined || isTyped || isOfPlain || types.isAnyArrayBuffer(object);
     if (!isPlain && typeof object !== "function") throw new CantShow(`an object of ${name}`);
     this.value(prototype);
   }
