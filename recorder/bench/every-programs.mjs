@@ -22,6 +22,7 @@ class Draw {
 
 const LOADS = [
   "ld(0)", "ld(1)", "Atomics.load(words, 0)", "Atomics.exchange(words, 1, 0)", "box.get()", "box.is", "o.m(0)", "parity()",
+  "words[0]", "words[1]", "bytes[4]",
 ];
 
 /** @typedef {(one: Writer, depth: number) => string} Form writes an expression or a statement */
@@ -71,6 +72,8 @@ const STATEMENTS = [
   (one) => `other.n = ${one.name()};`, (one) => `{ const [p, r] = [${one.expression(1)}, ${one.expression(1)}]; a = p; c = r % 5; }`,
   (one) => `do { ${one.name()} = ${one.expression(1)} % 2; if (++turns > 4) break; } while (${one.load()} > 2);`,
   (one) => `k = ${one.name()} > 1 ? null : ${one.name()};`, (one) => `map.set(${one.name()} % 2, ${one.name()});`,
+  (one) => `words[3] += ${one.name()};`, (one) => `bytes[13] = ${one.name()};`, () => "words[3]++;",
+  (one) => `${one.name()} += words[0];`, (one) => `bytes[12 + (${one.name()} & 1)] += ${one.name()};`,
   () => "b = map.get(0) ?? 7;", (one) => `a = made(${one.name()}).get() + ${one.load()};`,
 ];
 
@@ -111,6 +114,7 @@ class Writer {
 
 const BEGINS = `export const setup = { agents: 2, buffers: [16] };
 let words;
+let bytes;
 let count = 0;
 const ld = (i) => Atomics.load(words, i);
 const parity = () => Atomics.load(words, 0) % 2;
@@ -129,6 +133,7 @@ export function programOf(seed) {
   const body = Array.from({ length: 5 }, () => `  ${writer.statement(2)}`).join("\n");
   return `${BEGINS}export default function agent({ buffers, agent: self }) {
   words = new Int32Array(buffers[0]);
+  bytes = new Uint8Array(buffers[0]);
   count = 0;
   if (self === 1) { Atomics.store(words, 0, 1); Atomics.store(words, 1, 2); Atomics.store(words, 0, ${last}); return; }
   let [a, b, c] = [0, 0, 1];
@@ -145,7 +150,7 @@ export function programOf(seed) {
   const box = new Box();
 ${body}
   Atomics.store(words, 2, three(a, b, c) * 100 + three(o.n, other.n, count) * 10 + list[0] + list[1] + 1000 * box.peek() + 10000 * kept());
-  Atomics.store(words, 3, ((a | 0) & 15) + 16 * ((b | 0) & 15) + 256 * ((c | 0) & 15));
+  Atomics.add(words, 3, ((a | 0) & 15) + 16 * ((b | 0) & 15) + 256 * ((c | 0) & 15));
 }
 `;
 }

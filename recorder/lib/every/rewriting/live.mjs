@@ -158,6 +158,8 @@ class Liveness {
     }
     if (left.type !== "MemberExpression") return this.before(right, this.pattern(left, out));
     this.note(left, out);
+    // `o.x += v` reads o.x before v.
+    if (operator !== "=") this.note(left, this.before(right, out));
     const skipped = LOGICAL.has(operator) ? this.before(right, out) : NONE;
     return this.all([left.object, left.computed ? left.property : null, right], union(out, skipped));
   }
