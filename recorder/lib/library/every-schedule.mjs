@@ -1,7 +1,5 @@
 // `everySchedule` of the library: every schedule of a module of agents.
 
-import { dataOf } from "../every/data.mjs";
-import { Every } from "../every/every.mjs";
 import { needFittingAll } from "../options/of-all.mjs";
 import { Refused } from "../options/refused.mjs";
 import { OPTIONS } from "../options/table.mjs";
@@ -56,5 +54,7 @@ export function everyOptions(options, callersFolder) {
  */
 export async function everySchedule(options) {
   const { signal, ...taken } = everyOptions(options, () => folderOfCaller(everySchedule));
+  // Whoever makes runs alone needn't load it.
+  const [{ dataOf }, { Every }] = await Promise.all([import("../every/data.mjs"), import("../every/every.mjs")]);
   return dataOf(await new Every(taken, { signal }).run());
 }

@@ -14,7 +14,6 @@ import { comesBefore } from "../run/order.mjs";
 import { counted, digits } from "../run/words.mjs";
 import { rememberingText } from "../seeds/first-again.mjs";
 import { simulatorAt } from "../simulator/chosen.mjs";
-import { everyTried } from "./every-trial.mjs";
 import { failureText } from "./failure.mjs";
 import { keptFolder } from "./kept-folder.mjs";
 import { RunFailed, stackOf } from "./run-failed.cjs";
@@ -84,7 +83,10 @@ export async function tried(given, caller) {
 /** @param {AnyTrialOptions} given @param {Caller} caller @returns {Promise<string>} as above */
 async function passedOf(given, caller) {
   const { all, out, shorten = true, ...options } = checkedOwn(given);
-  if (all === true) return everyTried(/** @type {any} */ (options), caller);
+  if (all === true) {
+    const { everyTried } = await import("./every-trial.mjs");
+    return everyTried(/** @type {any} */ (options), caller);
+  }
   needFittingAll(options, (name) => `\`${name}\``, false);
   const passed = new Passed();
   /** @type {{ outcome: Outcome, before: number } | undefined} the first failing run, and how many passed before it */
