@@ -32,7 +32,7 @@ async function tried(path) {
   const wanted = { module, args: [], place: {}, timeouts: /** @type {"early"} */ ("early"), limit: LIMIT, within: Number(values.within) };
   try {
     const { edges, findings, isClosed, isShared, counts, nodes, plan, result: { states } } = await learnApart(wanted, { seconds: SECONDS });
-    const differs = isClosed ? await learnAgain({ module, args: [], plan, isShared, nodes, edges }) : undefined;
+    const differs = isClosed ? await learnAgain({ module, args: [], plan, isShared, isFresh: false, nodes, edges }) : undefined;
     const found = [...new Set(findings.map(({ kind }) => kind))].sort();
     return {
       states: isClosed ? `${states}` : `>${states}`, nodes: counts.nodes.join("+"), seconds: worked() - begun, found, isClosed,

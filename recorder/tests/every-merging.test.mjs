@@ -32,6 +32,18 @@ const learned = (urls, more = {}) => new Promise((done, fail) => {
   worker.on("error", fail);
 });
 
+test("what agents are given can be shown", async () => {
+  const text = `export const setup = { agents: 2, buffers: [8] };
+export default function agent(given) {
+  const words = new Int32Array(given.buffers[0]);
+  for (let round = 0; round < given.agents; round += 1) while (Atomics.compareExchange(words, 0, 0, 1) !== 0);
+  Atomics.store(words, 0, 0);
+}`;
+  const [{ problem, merged }] = await learned([written("given", text)], { isUnmergedToo: false });
+  assert.equal(problem, undefined);
+  assert.deepEqual(merged.hidden, []);
+});
+
 test("what can't be read any more doesn't keep moments apart", async () => {
   const [{ merged, unmerged }] = await learned([written("dead", moduleOf("let a = ld(0); ld(1); a = 5; ld(1); out(a);"))]);
   assert.deepEqual(left(merged), left(unmerged));

@@ -123,6 +123,12 @@ test("agents that keep something from run to run aren't as they were learned", a
   assert.match(done.problems, /^record: .*does something else than was learned/);
 });
 
+test("with new workers for each run they are as they were learned", async () => {
+  const { closed, found, realRuns } = await everySchedule({ module: agentsPath("remembers"), fresh: true, seeds: 5 });
+  assert.deepEqual({ closed, realRuns }, { closed: true, realRuns: 5 });
+  assert.deepEqual(found.map(({ kind }) => kind), ["race"]);
+});
+
 test("a real run that isn't a way through the automata is noticed", async (context) => {
   const out = temporaryFolder(context);
   const module = join(EXAMPLES, "mutex-three-state.agents.mjs");

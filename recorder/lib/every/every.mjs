@@ -96,8 +96,8 @@ export class Every {
 
   /** @param {Report} report */
   async #learnAgain({ edges, isShared, nodes, plan }) {
-    const { args, module } = this.options;
-    const differs = await learnAgain({ module, args, plan, isShared, nodes, edges });
+    const { args, fresh, module } = this.options;
+    const differs = await learnAgain({ module, args, plan, isShared, isFresh: fresh === true, nodes, edges });
     if (differs === undefined) return;
     throw new NotAsLearned(`the code as it is written, loaded anew, does something else than was learned. ${differs}. `
       + "It may keep something from run to run, or go by chance or by a clock");

@@ -125,6 +125,7 @@ export const BODIES = Object.freeze({
   "a read's ++": "const a = ld(0); bytes[12]++; out(a);",
   "a read in a template": "const a = ld(0); out(Number(`${a}${bytes[4]}${a}`));",
   "which array is read": "const a = ld(0) === 0 ? bytes : new Uint8Array(words.buffer, 0, 8); const b = a[4]; out(a.length * 10 + b);",
+  "name of a function": "const f = () => 1; if (ld(0) === 1) Object.defineProperty(f, 'name', { value: 'g' }); ld(1); out(f.name === 'g' ? 1 : 2);",
   "name of itself": "const f = function g(n) { return n === 0 ? ld(1) : g(n - 1) + 1; }; out(f(ld(0)));",
   "methods in a literal": "const make = (a) => ({ get() { return a; } }); const o = make(ld(0)); ld(1); out(o.get());",
   "class in a function": "const make = (a) => class { get() { return a; } }; const C = make(ld(0)); ld(1); out(new C().get());",

@@ -6,6 +6,7 @@ import { basesOf } from "../search/file.mjs";
 import { nodeText } from "../search/text.mjs";
 import { CantLearn, isSame } from "./asked.mjs";
 import { Asker } from "./asking.mjs";
+import { Graph } from "./graph.mjs";
 import { Learner } from "./learner.mjs";
 import { installRealm } from "./realm.mjs";
 
@@ -18,15 +19,15 @@ import { installRealm } from "./realm.mjs";
  * @property {string[]} args
  * @property {import("../../options/plan.mjs").Plan} plan
  * @property {boolean} isShared
+ * @property {boolean} isFresh whether real runs have new workers each time
  * @property {(Asked & { id: number })[]} nodes
  * @property {EdgeData[]} edges
  */
 
 class Again {
-  /** @param {Learner} learner @param {Function} agent @param {Given} given */
-  constructor(learner, agent, { nodes, edges }) {
+  /** @param {Learner} learner @param {Given} given */
+  constructor(learner, { nodes, edges }) {
     this.learner = learner;
-    this.agent = agent;
     this.edges = edges;
     this.nodes = new Map(nodes.map((node) => [node.id, node]));
   }
@@ -59,7 +60,7 @@ class Again {
       at += 1;
       return isSame(this.#node(id), asked) ? /** @type {any} */ (given) : undefined;
     };
-    const ended = this.learner.call(automaton, { answer }, this.agent);
+    const ended = this.learner.call(automaton, { answer });
     const [got, count] = ended === undefined ? [last, at] : [ended, at + 1];
     if (got !== undefined && count === path.length && isSame(wanted, got)) return undefined;
     const was = count < path.length ? this.#node(path[count - 1][0]) : wanted;
@@ -89,9 +90,27 @@ async function differing(given, load) {
   const { module, args, isShared, plan } = given;
   const asker = new Asker();
   installRealm(asker);
-  const { default: agent } = await load(module);
+  const agentNow = given.isFresh ? await madeAnew(module) : await asItIs(module, load);
   asker.begin(plan.buffers, basesOf(plan.buffers).bases);
   const agents = { count: plan.agents, args, canBlock: plan.canBlock, isShared };
-  const learner = new Learner(asker, agents, { agentNow: () => agent, line: () => "" });
-  return new Again(learner, agent, given).run();
+  const learner = new Learner(asker, agents, { agentNow, line: () => "" });
+  return new Again(learner, given).run();
+}
+
+/**
+ * The agent's function of the module as it is written, which is loaded once: it keeps what it keeps from run to run.
+ * @param {string} module
+ * @param {(url: string) => Promise<any>} load
+ * @returns {Promise<() => Function>}
+ */
+async function asItIs(module, load) {
+  const { default: agent } = await load(module);
+  return () => agent;
+}
+
+/** @param {string} module @returns {Promise<() => Function>} its agent's function, each time of modules that begin anew */
+async function madeAnew(module) {
+  const graph = new Graph(true);
+  await graph.take(module, true);
+  return () => graph.made({}).get(module)?.default;
 }

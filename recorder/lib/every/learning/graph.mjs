@@ -30,7 +30,9 @@ function parsed(url, source) {
 }
 
 export class Graph {
-  constructor() {
+  /** @param {boolean} [isPlain] whether nothing is to show what the modules keep */
+  constructor(isPlain = false) {
+    this.isPlain = isPlain;
     /** @type {Map<string, Rewritten>} by the modules' URLs */
     this.texts = new Map();
     /** @type {Module[]} each after all that it imports */
@@ -49,7 +51,7 @@ export class Graph {
     const name = basename(fileURLToPath(url));
     if (!/\.m?js$/.test(url)) throw new Refused(`--all can't read ${name}: it takes modules in .mjs or .js files`);
     const source = readFileSync(fileURLToPath(url), "utf8").replace(/^\uFEFF/, "");
-    const text = rewritten(parsed(url, source), source, { file: name, isEntry });
+    const text = rewritten(parsed(url, source), source, { file: name, isEntry, isPlain: this.isPlain });
     this.texts.set(url, text);
     /** @type {(string | object)[]} */
     const imports = [];

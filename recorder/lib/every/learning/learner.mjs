@@ -65,6 +65,13 @@ export class Learner {
     this.hidden = new Map();
     this.runs = 0;
     this.looksAtNumber = false;
+    /** Which agent runs now. */
+    this.agent = 0;
+    /** What agents get in place of their number. */
+    this.number = () => {
+      this.looksAtNumber = true;
+      return this.agent;
+    };
     /** @type {(Node | undefined)[]} by automaton */
     this.roots = [];
   }
@@ -136,18 +143,15 @@ export class Learner {
    * Calls the agent's function.
    * @param {number} agent
    * @param {import("./asking.mjs").Run} run
-   * @param {Function} [fn]
    * @returns {Asked | undefined} how it ended, unless it was broken off
    */
-  call(agent, run, fn = this.agentNow()) {
+  call(agent, run) {
     const { agents, asker } = this;
+    const fn = this.agentNow();
     this.runs += 1;
-    const number = () => {
-      this.looksAtNumber = true;
-      return agent;
-    };
+    this.agent = agent;
     const given = { buffers: [...asker.buffers], agents: agents.count, args: [...agents.args] };
-    Object.defineProperty(given, "agent", { get: number, enumerable: true, configurable: true });
+    Object.defineProperty(given, "agent", { get: this.number, enumerable: true, configurable: true });
     this.onCall(true);
     const { isBroken, result, hasThrown, thrown } = asker.call(run, () => fn(given));
     this.onCall(false);

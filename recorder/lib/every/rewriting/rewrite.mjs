@@ -22,11 +22,12 @@ const OWN_NAMES = /\$(?:R|m|f|i|o|x|e\d+|default)\b/;
  * Rewrites a module.
  * @param {Tree} tree
  * @param {string} source
- * @param {{ file: string, isEntry: boolean }} of the module: its name for messages, and whether it is the agents' own
+ * @param {{ file: string, isEntry: boolean, isPlain?: boolean }} of the module: its name for messages, whether it is the
+ * agents' own, and whether it only becomes a function, with nothing that shows what it keeps
  * @returns {Rewritten}
  * @throws {import("../../options/refused.mjs").Refused}
  */
-export function rewritten(tree, source, { file, isEntry }) {
+export function rewritten(tree, source, { file, isEntry, isPlain = false }) {
   const analysis = new Analysis(tree, source, file);
   const start = source.search(OWN_NAMES);
   if (start >= 0) analysis.refuse({ start }, "a name that the recorder uses here");
@@ -34,10 +35,12 @@ export function rewritten(tree, source, { file, isEntry }) {
   const { edits } = writer;
   if (source.startsWith("#!")) edits.replace(0, 2, "//");
   const { imports, begins, exported } = linked(analysis, edits);
-  const shows = shownModule(analysis, isEntry ? new Set() : exported);
+  const shows = isPlain ? "" : shownModule(analysis, isEntry ? new Set() : exported);
   edits.before(0, `(function ($R, $m) { "use strict"; ${shows} ${begins} `);
-  writer.registerDeclared(0, tree.body);
-  writer.writeAll(tree.body, null);
+  if (!isPlain) {
+    writer.registerDeclared(0, tree.body);
+    writer.writeAll(tree.body, null);
+  }
   const { code, original } = edits.made();
   const places = new Places(analysis);
   return {

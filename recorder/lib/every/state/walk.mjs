@@ -173,7 +173,6 @@ export class Walk {
     this.out.push(made.id);
     if (made.cells !== null && this.hides !== "closures") for (const cell of made.cells) this.cell(cell);
     for (const key of Reflect.ownKeys(fn)) {
-      if (key === "length" || key === "name") continue;
       const { value } = /** @type {PropertyDescriptor} */ (Reflect.getOwnPropertyDescriptor(fn, key));
       if (typeof value === "function" && this.runtime.functions.get(value)?.id.startsWith(`${made.id} s `)) continue;
       if (key === "prototype" && this.#isBarePrototype(value)) continue;
