@@ -1,4 +1,5 @@
 // The types of the package. `tests/types` compares them with the code's own. They don't need node's types.
+export * from "./every-schedule.cjs";
 
 /** A URL, if the types of the user's project know one: node's, or those of browsers. */
 type ModuleUrl = typeof globalThis extends { URL: new (...given: never[]) => infer Url } ? Url : never;
@@ -37,10 +38,7 @@ export class KeepsGlobals extends Error {}
 /** The process of a job has ended by itself, or by others. */
 export class LostJob extends Error {}
 
-/**
- * What the code saw isn't what the simulator says, or the simulator has failed: a defect of one of them. The message
- * has both sides.
- */
+/** What the code saw isn't what the simulator says, or the simulator has failed: a defect. The message has both sides. */
 export class Difference extends Error {
   constructor(message: string, outcome: Difference["outcome"], replayed: string, judged?: string);
   /** It has its trace if sabsim's verdict on it is what differs. */

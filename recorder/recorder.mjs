@@ -1,6 +1,8 @@
 // The recorder as a library: `import { explore, record } from "./recorder.mjs"`.
 
 export { Difference } from "./lib/check/difference.mjs";
+export { NotAsLearned } from "./lib/every/not-as-learned.mjs";
+export { everySchedule } from "./lib/library/every-schedule.mjs";
 export { explore } from "./lib/library/explore.mjs";
 export { record } from "./lib/library/recorder.mjs";
 export { Refused } from "./lib/options/refused.mjs";

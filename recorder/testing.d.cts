@@ -8,6 +8,15 @@ export interface OfTrial {
   out?: string;
   /** False: a failing run is shown and kept as it was found, and not the shortest that fails in the same way. */
   shorten?: boolean;
+  /**
+   * Whether every schedule of a module of agents is tried, as by `everySchedule`. It fails if something is found, and if
+   * not every schedule could be tried; else false.
+   */
+  all?: boolean;
+  /** With `all`: for how many seconds it searches, above 0 and 3,600 at most; else 60. */
+  within?: number;
+  /** With `all`: how many states it finds at most; else 1,000,000. */
+  states?: number;
 }
 
 /** The runs of a trial: they have the options of `explore` except `failFast`, since the first failing one is the last. */

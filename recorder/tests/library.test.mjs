@@ -12,9 +12,16 @@ import { simulated } from "./helpers/simulate.mjs";
 
 const module = agentsPath("cases");
 
+/** @param {string} name of a file of types @returns {string} its text, with that of the files of which it exports all */
+function typesOf(name) {
+  const text = readFileSync(new URL(`../${name}`, import.meta.url), "utf8");
+  const others = [...text.matchAll(/^export \* from "\.\/([\w-]+)\.cjs";$/gm)];
+  return [text, ...others.map(([, other]) => typesOf(`${other}.d.cts`))].join("\n");
+}
+
 test("each entry of the package exports the functions and classes that its types declare, and no others", async () => {
   for (const entry of ["recorder.mjs", "testing.mjs", "testing.cjs"]) {
-    const types = readFileSync(new URL(`../${entry.replace(/mjs|cjs/, "d.cts")}`, import.meta.url), "utf8");
+    const types = typesOf(entry.replace(/mjs|cjs/, "d.cts"));
     const declared = [...types.matchAll(/^export (?:declare )?(?:function|class|const) (\w+)/gm)].map(([, name]) => name);
     assert.ok(declared.length > 1);
     const { default: all, ...named } = await import(`../${entry}`);

@@ -21,7 +21,8 @@ declare module "node:vm" {
   }
   export function compileFunction(code: string, names: string[], options: CompileOptions): Function;
   export class Script {
-    constructor(code: string);
+    constructor(code: string, options?: { filename: string });
+    runInThisContext(): any;
     runInContext(context: object): any;
   }
   export function createContext(...given: unknown[]): object;

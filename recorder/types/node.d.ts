@@ -19,6 +19,9 @@ declare namespace NodeJS {
     getFunctionName(): string | null;
     getLineNumber(): number | null;
     getColumnNumber(): number | null;
+    getMethodName(): string | null;
+    getPosition(): number;
+    isConstructor(): boolean;
   }
 
   interface Listened {
@@ -146,6 +149,7 @@ declare namespace WebAssembly {
 }
 declare function setTimeout(call: (...given: any[]) => void, milliseconds: number, ...given: unknown[]): NodeJS.Timer;
 declare function clearTimeout(timer: NodeJS.Timer | undefined): void;
+declare function clearInterval(timer: NodeJS.Timer): void;
 declare function setInterval(call: () => void, milliseconds: number): NodeJS.Timer;
 declare function structuredClone<T>(value: T, options?: { transfer?: unknown[] }): T;
 
@@ -355,6 +359,7 @@ declare module "node:url" {
 }
 
 declare module "node:util" {
+  export function isDeepStrictEqual(one: unknown, other: unknown): boolean;
   interface Option {
     type: "string" | "boolean";
     multiple?: boolean;

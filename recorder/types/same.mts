@@ -3,6 +3,7 @@
 import * as declared from "../recorder.mjs";
 import * as difference from "../lib/check/difference.mjs";
 import * as exploring from "../lib/library/explore.mjs";
+import * as every from "../lib/library/every-schedule.mjs";
 import * as recording from "../lib/library/recorder.mjs";
 import * as refused from "../lib/options/refused.mjs";
 import * as remote from "../lib/seeds/remote-job.mjs";
@@ -27,6 +28,8 @@ type Holds<T extends true> = T;
 export type Held = [
   Holds<Same<Flat<declared.RecordOptions>, Flat<recording.RecordOptions>>>,
   Holds<Same<Flat<declared.ExploreOptions>, Flat<ExploreOptions>>>,
+  Holds<Same<Flat<declared.EveryOptions>, Flat<every.EveryOptions>>>,
+  Holds<Same<Flat<declared.EverySchedule>, Flat<every.EveryData>>>,
   Holds<Same<Flat<declaredTesting.TrialOptions>, Flat<TrialOptions>>>,
   Holds<Same<Flat<declaredTesting.ProgramTrialOptions>, Flat<ProgramTrialOptions>>>,
   Holds<Same<keyof typeof declaredTesting, keyof typeof writtenTesting>>,
@@ -44,11 +47,13 @@ export type Held = [
   Holds<Same<keyof declared.NoSabsim, keyof native.NoSabsim>>,
   Holds<Same<ConstructorParameters<typeof declared.LostJob>, ConstructorParameters<typeof remote.LostJob>>>,
   Holds<Same<ConstructorParameters<typeof declared.KeepsGlobals>, ConstructorParameters<typeof again.KeepsGlobals>>>,
-  Holds<Same<keyof typeof declared, "Difference" | "KeepsGlobals" | "LostJob" | "NoSabsim" | "Refused" | "explore" | "record">>,
+  Holds<Same<keyof typeof declared, "Difference" | "KeepsGlobals" | "LostJob" | "NoSabsim" | "NotAsLearned" | "Refused" | "everySchedule" | "explore" | "record">>,
 ];
 
 export const record: typeof declared.record = recording.record;
 export const explore: typeof declared.explore = exploring.explore;
+export const everySchedule: typeof declared.everySchedule = every.everySchedule;
+export const sameEverySchedule: typeof every.everySchedule = declared.everySchedule;
 export const sameExplore: typeof exploring.explore = declared.explore;
 export const testAgents: typeof declaredTesting.testAgents = writtenTesting.testAgents;
 export const sameTestAgents: typeof writtenTesting.testAgents = declaredTesting.testAgents;

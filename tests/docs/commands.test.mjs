@@ -37,6 +37,9 @@ const INSTALLS = "tests/install/install.test.mjs";
  */
 const COMMANDS = [
   ["node recorder/record.mjs recorder/examples/mutex-naive.agents.mjs --seeds 1..200 --out found", { status: 1 }],
+  ["node recorder/record.mjs recorder/examples/mutex-three-state.agents.mjs --all", { status: 0 }],
+  ["node recorder/record.mjs recorder/examples/late-notify.agents.mjs --all", { status: 1 }],
+  ["node recorder/record.mjs recorder/examples/late-notify-mended.agents.mjs --all", { status: 0 }],
   ["node recorder/record.mjs counter.agents.mjs --seeds 1..50", { status: 1 }],
   ["node recorder/sabsim.mjs replay --format explained --acts found/seed-13.json", { status: 0 }],
   ["node recorder/sabsim.mjs replay --format explained --acts script.json", { status: 0 }],

@@ -46,6 +46,10 @@ async function run(words, job) {
       return await new ProgramReplay(asked, replay).run();
     }
     const module = existing(/** @type {any} */ (asked));
+    if (asked.all) {
+      const { EverySession } = await import("./every.mjs");
+      return await new EverySession(asked, module).run();
+    }
     if (replay === undefined) return await new Session(asked, module, job).run();
     const { Replay } = await import("./replay.mjs");
     return await new Replay(asked, module, replay).run();

@@ -54,13 +54,16 @@ Status:
   0  no run failed
   1  some runs failed
   2  the command line or the module was refused
-  3  the code and the simulator differ, or with --replay the code and the script; the chosen native program isn't there;
-     a file or standard output can't be written; a program keeps something in globals; or a job's process ended
+  3  the code and the simulator differ, or with --replay the code and the script, or with --all the code and what was
+     learned of it; the chosen native program isn't there; a file or standard output can't be written; a program keeps something in globals; or a job's process ended
 `;
 
 /** @type {Record<string, { type: "string" | "boolean", multiple?: boolean, short?: string }>} */
 const SHAPE = Object.fromEntries(ROWS.map(([name, { kind: { text, multiple = false }, letter }]) =>
   [wordOf(name), { type: text === undefined ? "boolean" : "string", multiple, ...(letter && { short: letter }) }]));
+
+/** The runs that are compared with what was learned of agents. */
+const SEEDS_OF_ALL = Object.freeze({ first: 1, last: 300 });
 
 const SEEDS_UNTIL_COVERED = Object.freeze({ first: 1, last: 1_000_000 });
 
@@ -142,6 +145,10 @@ function replayOf(given) {
  * @property {string} [out]
  * @property {boolean} shorten
  * @property {{ file: string, seed: number | undefined, given: Record<string, any> }} [replay]
+ * @property {boolean} all whether every schedule is to be tried
+ * @property {number} [within] for how many seconds
+ * @property {number} [states] how many states at most
+ * @property {import("../every/data.mjs").EveryData} [every] how far that came, if it isn't closed
  */
 
 /**
@@ -149,6 +156,16 @@ function replayOf(given) {
  * & { ordinary: "watch" | "store" | "refuse", races: "fail" | "allow",
  * unrecorded: "fail" | "allow" }} Options
  */
+
+/**
+ * @param {Record<string, any>} all options
+ * @param {import("../seeds/ranges.mjs").Range} seeds that serve as a rule
+ * @returns {import("../seeds/ranges.mjs").Range} the seeds, if none are given
+ */
+function unlessGiven(all, seeds) {
+  if (all.untilCovered) return SEEDS_UNTIL_COVERED;
+  return all.all ? SEEDS_OF_ALL : seeds;
+}
 
 /**
  * @param {string[]} words after the program's name
@@ -163,7 +180,7 @@ export function optionsOf(words) {
   /** @type {Record<string, any>} */
   const chosen = { ...defaultsOf("command"), ...given };
   const { seeds, shard, noShorten, help: _help, version: _version, ...all } = chosen;
-  const asked = given.seeds === undefined && all.untilCovered ? SEEDS_UNTIL_COVERED : seeds;
+  const asked = given.seeds ?? unlessGiven(all, seeds);
   return /** @type {Options} */ ({
     ...all, ...runFrom(given, positionals), args: end < 0 ? [] : words.slice(end + 1),
     ...shardFrom(asked, shard), shorten: !noShorten, replay: replayOf(given),

@@ -1,6 +1,7 @@
 // What went wrong, as it is printed.
 
 import { Difference } from "../check/difference.mjs";
+import { NotAsLearned } from "../every/not-as-learned.mjs";
 import { NotKept } from "../keeping/keep.mjs";
 import { Refused } from "../options/refused.mjs";
 import { KeepsGlobals } from "../seeds/first-again.mjs";
@@ -10,7 +11,9 @@ import { NoSabsim } from "../simulator/native.mjs";
 import { NotPrinted } from "./print.mjs";
 
 /** What can go wrong without a defect of the recorder: a sentence says all of it. */
-const EXPECTED = [Refused, Difference, NoSabsim, LostJob, KeepsGlobals, NoLongerTheSame, NotKept, NotPrinted];
+const EXPECTED = [
+  Refused, Difference, NoSabsim, LostJob, KeepsGlobals, NoLongerTheSame, NotAsLearned, NotKept, NotPrinted,
+];
 
 /** @param {unknown} problem @returns {boolean} whether its message says all of it */
 export const isExpected = (problem) => EXPECTED.some((kind) => problem instanceof kind);

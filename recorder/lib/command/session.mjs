@@ -218,6 +218,7 @@ export class Session {
       notKept: this.leftOut,
       problems: problems.filter((problem) => !(problem instanceof Interrupted)).map(messageOf),
     });
-    return { summary: FORM, asked: this.asked, seeds: [{ first, last }], ...data };
+    const { every } = this.options;
+    return { summary: FORM, asked: this.asked, seeds: [{ first, last }], ...(every && { every }), ...data };
   }
 }

@@ -1,9 +1,13 @@
 // What the command line runs: a module of agents, or a whole program.
 
 import { PROGRAM_ENDING } from "../keeping/keep.mjs";
+import { needFittingAll } from "../options/of-all.mjs";
 import { needFitting } from "../options/of-programs.mjs";
 import { Refused } from "../options/refused.mjs";
 import { wordOf } from "../options/table.mjs";
+
+/** @param {string} name @returns {string} an option as its user writes it */
+const spelled = (name) => `--${wordOf(name)}`;
 
 /**
  * The file that is run, and whether it is a program.
@@ -19,7 +23,8 @@ export function runFrom(given, positionals) {
       + "arguments for the program follow --");
   }
   const isKept = positionals.length === 0 && given.replay?.endsWith(`.${PROGRAM_ENDING}`) === true;
-  needFitting(isKept ? { program: given.replay, ...given } : given, (name) => `--${wordOf(name)}`);
+  needFitting(isKept ? { program: given.replay, ...given } : given, spelled);
+  needFittingAll(given, spelled);
   if (program !== undefined || isKept) return { module: program, isProgram: true };
   if (positionals.length === 1) return { module: positionals[0], isProgram: false };
   const why = positionals.length === 0 ? "the agents' module is missing" : "there may be one module of agents only";

@@ -80,7 +80,7 @@ import { moduleUrlOf } from "./module-url.mjs";
  * @property {AbortSignal} [signal] ends all runs when it is aborted
  */
 
-/** @typedef {{ out?: string, shorten?: boolean }} OfTrial */
+/** @typedef {{ out?: string, shorten?: boolean, all?: boolean, within?: number, states?: number }} OfTrial */
 /** @typedef {RunOptions & Omit<ManyRuns, "failFast"> & OfTrial} TrialRuns */
 
 /** @typedef {RunOptions & OneRun & (OfModule | OfProgram)} RecordOptions */
@@ -164,7 +164,7 @@ export function exploreOptions(options, callersFolder) {
 }
 
 /**
- * The options of a trial. Only the two that are its own were looked at.
+ * The options of a trial. Only those that are its own were looked at.
  * @template {OfTrial} Options
  * @param {Options} options
  * @returns {Options}
@@ -172,5 +172,6 @@ export function exploreOptions(options, callersFolder) {
 export function checkedOwn(options) {
   if (options?.out !== undefined) named("the path of a folder").value(options.out, "`out`");
   if (options?.shorten !== undefined) FLAG.value(options.shorten, "`shorten`");
+  if (options?.all !== undefined) FLAG.value(options.all, "`all`");
   return options ?? /** @type {any} */ ({});
 }

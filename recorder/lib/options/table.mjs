@@ -8,7 +8,7 @@ import {
   STRATEGY, WORDS, above0, choice, named, upTo, whole,
 } from "./kinds.mjs";
 
-/** @typedef {"record" | "explore" | "command"} Taker the library's two functions, and the command line */
+/** @typedef {"record" | "explore" | "every" | "command"} Taker the library's three functions, and the command line */
 
 /**
  * @typedef {object} Option
@@ -36,6 +36,10 @@ const ALL = [...LIBRARY, "command"];
 const OF_MANY = ["explore", "command"];
 /** @type {Taker[]} */
 const COMMAND = ["command"];
+/** @type {Taker[]} */
+const OF_EVERY = ["every", "command"];
+
+const MOST_STATES = 20_000_000;
 
 /** @type {(kind: import("./kinds.mjs").Kind, ifNone: unknown, help: string[]) => Option} of each run */
 const rule = (kind, ifNone, help) => ({ kind, of: ALL, ifNone, isShared: true, help });
@@ -65,6 +69,11 @@ export const OPTIONS = Object.freeze({
     help: ["A..B", "the seeds, or one seed"] },
   shard: { kind: SHARD, of: COMMAND, help: ["K/N", "only the K-th of N parts of these seeds, as for one of N machines: "
     + "merge.mjs joins their summaries"] },
+  all: { kind: FLAG, of: COMMAND, ifNone: false, help: ["", "tries every schedule of a module of agents. The seeds' runs "
+    + "are compared with what was learned; if not every schedule can be tried, it goes on with the seeds"] },
+  within: { kind: above0(MOST_SECONDS), of: OF_EVERY, help: ["S", "for how many seconds --all searches"], orElse: "60" },
+  states: { kind: whole(1, MOST_STATES), of: OF_EVERY, help: ["N", "how many states --all finds at most"],
+    orElse: "1000000" },
   strategy: rule(STRATEGY, "mixed",
     ["HOW", "who moves next: uniform (all agents that can move are equally likely), switch:P (another agent moves "
     + "next with likelihood P, from 0 to 1), partial-order (by random priorities) or mixed (the seed chooses "

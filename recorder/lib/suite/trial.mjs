@@ -9,6 +9,7 @@ import { keepProgram } from "../keeping/kept-program.mjs";
 import { keepPictures, notesOn } from "../keeping/pictures.mjs";
 import { runsOf } from "../library/explore.mjs";
 import { checkedOwn } from "../library/library-options.mjs";
+import { needFittingAll } from "../options/of-all.mjs";
 import { comesBefore } from "../run/order.mjs";
 import { counted, digits } from "../run/words.mjs";
 import { rememberingText } from "../seeds/first-again.mjs";
@@ -81,7 +82,12 @@ export async function tried(given, caller) {
 
 /** @param {AnyTrialOptions} given @param {Caller} caller @returns {Promise<string>} as above */
 async function passedOf(given, caller) {
-  const { out, shorten = true, ...options } = checkedOwn(given);
+  const { all, out, shorten = true, ...options } = checkedOwn(given);
+  if (all === true) {
+    const { everyTried } = await import("./every-trial.mjs");
+    return everyTried(/** @type {any} */ (options), caller);
+  }
+  needFittingAll(options, (name) => `\`${name}\``, false);
   const passed = new Passed();
   /** @type {{ outcome: Outcome, before: number } | undefined} the first failing run, and how many passed before it */
   let first;

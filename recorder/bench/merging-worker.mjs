@@ -1,0 +1,41 @@
+// Learns modules with merged moments and without, in one thread, and reports what is left in both cases.
+
+import { parentPort, workerData } from "node:worker_threads";
+import { Asker } from "../lib/every/learning/asking.mjs";
+import { loadCode } from "../lib/every/learning/code.mjs";
+import { Learned } from "../lib/every/learning/learned.mjs";
+import { installRealm } from "../lib/every/learning/realm.mjs";
+import { Kinds, blocksIn } from "../lib/every/search/result.mjs";
+
+const { urls, flaw, limit, isUnmergedToo = true } = workerData;
+const asker = new Asker();
+installRealm(asker);
+
+/** @param {string} url @param {boolean} isUnmerged */
+async function learned(url, isUnmerged) {
+  const code = await loadCode(url, flaw);
+  const one = new Learned(code, asker, { args: [], place: {}, timeouts: "early", limit, isUnmerged });
+  const search = one.search();
+  const kinds = new Kinds(search).find();
+  return {
+    isClosed: search.isClosed, states: search.count, nodes: one.learner.nodes.length,
+    finals: [...kinds.finals.keys()].map((memory) => blocksIn(search.world, memory).join()).sort(),
+    failed: [...kinds.failed.keys()].sort(), deadlocks: kinds.deadlock !== undefined,
+    hidden: [...one.learner.hidden.keys()],
+  };
+}
+
+/** @param {string} url */
+async function both(url) {
+  try {
+    const merged = await learned(url, false);
+    return isUnmergedToo ? { merged, unmerged: await learned(url, true) } : { merged };
+  } catch (problem) {
+    asker.refused = undefined;
+    return { problem: `${problem.constructor.name}: ${problem.message}` };
+  }
+}
+
+const results = [];
+for (const url of urls) results.push(await both(url));
+parentPort?.postMessage(results);

@@ -1,0 +1,76 @@
+// The types of `everySchedule` of the library. `tests/types` compares them with the code's own.
+
+import type { ExploreOptions } from "./recorder.cjs";
+
+/**
+ * Tries every schedule of the agents of a module. Their code is learned, each agent alone, and all states are searched.
+ * Then each step is learned again in the code as it is written, and the runs of the seeds are compared with what was
+ * learned. Fails with `Refused` for options or a module that can't be, and with `NotAsLearned`.
+ */
+export function everySchedule(options: EveryOptions): Promise<EverySchedule>;
+
+/** What was learned of agents isn't what they do: the message says how that is seen. */
+export class NotAsLearned extends Error {}
+
+/** What `everySchedule` takes: the options of `explore`, for a module of agents, and how far it searches. */
+export type EveryOptions = ExploreOptions & OfEvery;
+
+/** How far every schedule is tried. */
+export interface OfEvery {
+  /** For how many seconds it searches, above 0 and 3,600 at most; else 60. */
+  within?: number;
+  /** How many states it finds at most; else 1,000,000. */
+  states?: number;
+}
+
+/** Something that was found in every schedule. */
+export interface FoundBySchedule {
+  kind: "deadlock" | "threw" | "check" | "race" | "no way out";
+  /** What was thrown, what `check` found, or which lines race; empty if the kind says all. */
+  text: string;
+  /** In how many states it is. */
+  states: number;
+  /** Of the schedule that is shown. */
+  acts: number;
+  /** Of agents, in that schedule. */
+  changes: number;
+  /** Whether a timed wait ends in it while something else can move. */
+  isEarly: boolean;
+  /** How the real run by that schedule ended; null: it isn't shown. */
+  detail: string[] | null;
+  /** What time must pass in that run. */
+  onlyIf: string | null;
+}
+
+/** What is reported about every schedule of a module of agents. */
+export interface EverySchedule {
+  /** Whether every schedule was tried. */
+  closed: boolean;
+  /** Why not. */
+  open: string | null;
+  agents: number;
+  states: number;
+  acts: number;
+  /** All schedules up to so many acts were tried; null: every one was. */
+  depth: number | null;
+  /** The bytes of each buffer at the end, in hexadecimal digits, and as a summary has them. */
+  finals: { states: number; blocks: string[]; text: string }[];
+  /** How many different bytes there are at the end. */
+  finalCount: number;
+  found: FoundBySchedule[];
+  /** How many moments of an agent there are: calls, and reads that are acts of their own. */
+  moments: number;
+  /** How many steps were learned; each twice. */
+  edges: number;
+  /** How many of these were learned both times by the same history. */
+  edgesByOne: number;
+  /** Moments that were compared with no others, and why. */
+  hidden: { why: string; nodes: number }[];
+  /** How many real runs agree with what was learned. */
+  realRuns: number;
+  /** Whether the proved search has found the same. */
+  searchProved: boolean;
+  /** The automaton with the most nodes, and the line whose answers are the most. */
+  widest: { automaton: number; nodes: number; line: string | null; answers: number } | null;
+  milliseconds: number;
+}

@@ -1,0 +1,73 @@
+// What is reported about every schedule of a module of agents, as an object of JSON.
+
+import { FinalStates } from "../run/final-state.mjs";
+
+/** @typedef {import("./every.mjs").Tried} Tried */
+/** @typedef {import("./learning/report.mjs").Report} Report */
+
+/**
+ * @typedef {object} FoundData
+ * @property {"deadlock" | "threw" | "check" | "race" | "no way out"} kind
+ * @property {string} text what was thrown, what `check` found, or which lines race; empty if the kind says all
+ * @property {number} states in how many states it is
+ * @property {number} acts of the schedule that is shown
+ * @property {number} changes of agents in it
+ * @property {boolean} isEarly whether a timed wait ends in it while something else can move
+ * @property {string[] | null} detail how the real run by that schedule ended; null: it isn't shown
+ * @property {string | null} onlyIf what time must pass in that run
+ */
+
+/**
+ * @typedef {object} EveryData
+ * @property {boolean} closed whether every schedule was tried
+ * @property {string | null} open why not
+ * @property {number} agents
+ * @property {number} states
+ * @property {number} acts
+ * @property {number | null} depth all schedules up to so many acts were tried; null: every one was
+ * @property {{ states: number, blocks: string[], text: string }[]} finals the bytes of each buffer at the end, in
+ * hexadecimal digits, and as a summary has them
+ * @property {number} finalCount of these
+ * @property {FoundData[]} found
+ * @property {number} moments of an agent: calls, and reads that are acts of their own
+ * @property {number} edges each was learned twice
+ * @property {number} edgesByOne of these, both times by the same history
+ * @property {{ why: string, nodes: number }[]} hidden moments that were compared with no others, and why
+ * @property {number} realRuns that agree with what was learned
+ * @property {boolean} searchProved whether the proved search has found the same
+ * @property {{ automaton: number, nodes: number, line: string | null, answers: number } | null} widest the automaton
+ * with the most nodes, and the line whose answers are the most
+ * @property {number} milliseconds
+ */
+
+/** What stands where nothing could be learned. */
+const NOTHING = Object.freeze({
+  states: 0, acts: 0, depth: 0, finals: [], finalCount: 0, found: [], moments: 0, edges: 0, edgesByOne: 0, hidden: [],
+  widest: null,
+});
+
+/** @param {Tried} tried @returns {EveryData} */
+export function dataOf({ report, open, realRuns, isSecond, shown, milliseconds }) {
+  const common = { closed: open === undefined, open: open ?? null, realRuns, searchProved: isSecond, milliseconds };
+  if (report === undefined) return { ...NOTHING, agents: 0, ...common };
+  const { counts, depth = null, edges, findings, hidden, plan, result, widest } = report;
+  const found = findings.map(({ row: _row, goesOn: _goesOn, ...finding }) => {
+    const { outcome } = shown.find((each) => each.finding.row === _row) ?? {};
+    return { ...finding, detail: outcome?.detail.split("\n") ?? null, onlyIf: outcome?.onlyIf ?? null };
+  });
+  return {
+    ...common, agents: plan.agents, states: result.states, acts: result.acts, depth, finals: finalsOf(report),
+    finalCount: result.final.count, found, moments: counts.moments, edges: counts.edges,
+    edgesByOne: edges.filter(({ isOther }) => !isOther).length, hidden,
+    widest: { ...widest, line: widest.line ?? null },
+  };
+}
+
+/** @param {Report} report @returns {EveryData["finals"]} */
+function finalsOf({ plan, result: { final } }) {
+  const named = new FinalStates(plan.names);
+  return final.listed.map(({ blocks, states }) => {
+    const { named: text, shown } = named.of("finished", blocks);
+    return { states, blocks, text: text ?? shown.join(" | ") };
+  });
+}

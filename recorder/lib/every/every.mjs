@@ -1,0 +1,131 @@
+// Tries every schedule of a module of agents: learns the agents, searches, checks what was learned, and shows what was
+// found.
+
+import { Runs } from "../seeds/runs.mjs";
+import { Agreement } from "./agreement.mjs";
+import { DoesOtherwise, Unlearned, learnAgain, learnApart } from "./learning/apart.mjs";
+import { NotAsLearned } from "./not-as-learned.mjs";
+import { programOf } from "./search/file.mjs";
+import { comparedBySecond } from "./second.mjs";
+import { shown } from "./showing.mjs";
+
+/** @typedef {import("./learning/report.mjs").Report} Report */
+/** @typedef {import("./showing.mjs").Shown} Shown */
+
+/**
+ * @typedef {import("../seeds/runs.mjs").RunsOptions & { within: number, states: number, agents?: number,
+ * buffers?: number[], noBlock?: number[] }} EveryOptions `within` how many seconds, and `states` how many states
+ */
+
+/**
+ * @typedef {object} Tried what came of it
+ * @property {Report | undefined} report undefined: nothing could be learned
+ * @property {string | undefined} open why not every schedule was tried; undefined: every one was
+ * @property {number} realRuns how many real runs agree with what was learned
+ * @property {boolean} isSecond whether a second search found the same
+ * @property {Shown[]} shown
+ * @property {number} milliseconds
+ */
+
+const CHANGES_BUILTINS = "an agent changes the language's own objects, so what was learned may be wrong";
+
+export class Every {
+  /**
+   * @param {EveryOptions} options
+   * @param {{ signal?: AbortSignal, onProgress?: (states: number) => void }} how
+   */
+  constructor(options, { signal, onProgress }) {
+    this.options = options;
+    this.signal = signal;
+    this.onProgress = onProgress;
+    /** @type {import("../seeds/job.mjs").Checked[]} of the real runs */
+    this.outcomes = [];
+  }
+
+  /** @returns {Promise<Tried>} */
+  async run() {
+    const begun = performance.now();
+    const tried = await this.#tried();
+    return { ...tried, milliseconds: performance.now() - begun };
+  }
+
+  /** @returns {Promise<Omit<Tried, "milliseconds">>} */
+  async #tried() {
+    const real = new Runs({ ...this.#ofRuns(), wanted: { needsTrace: true } }, { signal: this.signal });
+    const running = this.#take(real);
+    // If something else fails, nobody waits for the runs.
+    running.catch(() => {});
+    try {
+      const report = await this.#report();
+      const nothing = { realRuns: 0, isSecond: false, shown: [] };
+      if (typeof report === "string") return { report: undefined, open: report, ...nothing };
+      if (!report.isClosed) return { report, open: openText(report), ...nothing };
+      if (report.changesBuiltins) throw new NotAsLearned(CHANGES_BUILTINS);
+      const isSecond = await comparedBySecond(report.file, report.result);
+      await Promise.all([this.#learnAgain(report), running]);
+      const realRuns = this.#agreeing(report);
+      return { report, open: undefined, realRuns, isSecond, shown: await this.#shown(report) };
+    } finally {
+      await real.close();
+    }
+  }
+
+  #ofRuns() {
+    return { ...this.options, isBrief: false, trace: true, checkEvery: 1, sabsim: /** @type {false} */ (false) };
+  }
+
+  /** @param {Runs} runs */
+  async #take(runs) {
+    for await (const outcome of runs.outcomes()) this.outcomes.push(outcome);
+  }
+
+  /** @returns {Promise<Report | string>} a text: why nothing could be learned */
+  async #report() {
+    const { agents, args, buffers, module, noBlock, seconds, states, timeouts, within } = this.options;
+    /** @type {"early" | "never"} */
+    const choice = timeouts === "never" ? "never" : "early";
+    const wanted = { module, args, place: { agents, buffers, noBlock }, timeouts: choice, limit: states, within };
+    try {
+      return await learnApart(wanted, { seconds, onProgress: this.onProgress, signal: this.signal });
+    } catch (problem) {
+      if (problem instanceof DoesOtherwise) throw new NotAsLearned(problem.message);
+      if (problem instanceof Unlearned) return problem.message;
+      throw problem;
+    }
+  }
+
+  /** @param {Report} report */
+  async #learnAgain({ edges, isShared, nodes, plan }) {
+    const { args, fresh, module } = this.options;
+    const differs = await learnAgain({ module, args, plan, isShared, isFresh: fresh === true, nodes, edges });
+    if (differs === undefined) return;
+    throw new NotAsLearned(`the code as it is written, loaded anew, does something else than was learned. ${differs}. `
+      + "It may keep something from run to run, or go by chance or by a clock");
+  }
+
+  /** @param {Report} report @returns {number} how many real runs are ways through the automata */
+  #agreeing({ file }) {
+    const agreement = new Agreement(programOf(file));
+    for (const outcome of this.outcomes) agreement.needs(outcome);
+    return agreement.compared;
+  }
+
+  /** @param {Report} report */
+  async #shown({ findings }) {
+    const found = await shown(findings, this.options);
+    const races = findings.some(({ kind }) => kind === "race");
+    // Behind a race, real runs may differ from a search that makes all accesses of a segment at once.
+    const other = races ? undefined : found.find(({ isSame }) => !isSame);
+    if (other === undefined) return found.filter(({ isSame }) => isSame);
+    const { finding: { kind, text }, outcome: { ending, detail } } = other;
+    const what = text === "" ? kind : `${kind} (${text})`;
+    const how = detail === "" ? ending : `${ending}, ${detail.split("\n")[0]}`;
+    throw new NotAsLearned(`the search has found ${what}, but the run by its schedule ends so: ${how}`);
+  }
+}
+
+/** @param {Report} report that isn't closed @returns {string} */
+function openText({ bound, depth, result: { states } }) {
+  const why = bound === "time" ? "its time was over" : "there are more";
+  return `all of up to ${depth ?? 0} acts were, ${states.toLocaleString("en-US")} states; ${why}`;
+}

@@ -1,0 +1,116 @@
+// The thread that learns each edge once more, in the code as it is written: its module was loaded anew, and the edges
+// come in reverse order.
+
+import { workerData } from "node:worker_threads";
+import { basesOf } from "../search/file.mjs";
+import { nodeText } from "../search/text.mjs";
+import { CantLearn, isSame } from "./asked.mjs";
+import { Asker } from "./asking.mjs";
+import { Graph } from "./graph.mjs";
+import { Learner } from "./learner.mjs";
+import { installRealm } from "./realm.mjs";
+
+/** @typedef {import("./report.mjs").EdgeData} EdgeData */
+/** @typedef {import("./asked.mjs").Asked} Asked */
+
+/**
+ * @typedef {object} Given
+ * @property {string} module
+ * @property {string[]} args
+ * @property {import("../../options/plan.mjs").Plan} plan
+ * @property {boolean} isShared
+ * @property {boolean} isFresh whether real runs have new workers each time
+ * @property {(Asked & { id: number })[]} nodes
+ * @property {EdgeData[]} edges
+ */
+
+class Again {
+  /** @param {Learner} learner @param {Given} given */
+  constructor(learner, { nodes, edges }) {
+    this.learner = learner;
+    this.edges = edges;
+    this.nodes = new Map(nodes.map((node) => [node.id, node]));
+  }
+
+  /** @returns {string | undefined} what is different */
+  run() {
+    for (const edge of [...this.edges].reverse()) {
+      const differs = this.#differs(edge);
+      if (differs !== undefined) return differs;
+    }
+    return undefined;
+  }
+
+  /** @param {unknown} id @returns {Asked} */
+  #node(id) {
+    return /** @type {Asked} */ (this.nodes.get(/** @type {number} */ (id)));
+  }
+
+  /** @param {EdgeData} edge @returns {string | undefined} */
+  #differs({ automaton, history, to }) {
+    const wanted = this.#node(to);
+    const path = [...history, [to, undefined]];
+    let at = 0;
+    /** @type {Asked | undefined} */
+    let last;
+    /** @param {Asked} asked */
+    const answer = (asked) => {
+      last = asked;
+      const [id, given] = path[at];
+      at += 1;
+      return isSame(this.#node(id), asked) ? /** @type {any} */ (given) : undefined;
+    };
+    const ended = this.learner.call(automaton, { answer });
+    const [got, count] = ended === undefined ? [last, at] : [ended, at + 1];
+    if (got !== undefined && count === path.length && isSame(wanted, got)) return undefined;
+    const was = count < path.length ? this.#node(path[count - 1][0]) : wanted;
+    const now = got === undefined ? "nothing" : said(got);
+    return `With the same ${count - 1} answers an agent was learned to do this: ${said(was)}; and now it does: ${now}`;
+  }
+}
+
+/** @param {Asked} asked */
+const said = (asked) => nodeText(/** @type {any} */ (asked));
+
+/** @param {(url: string) => Promise<any>} load imports a module */
+export async function main(load) {
+  const given = /** @type {Given & { port: import("node:worker_threads").MessagePort }} */ (workerData);
+  const { port } = given;
+  try {
+    port.postMessage({ differs: await differing(given, load) });
+  } catch (problem) {
+    const { stack = String(problem) } = /** @type {any} */ (problem);
+    port.postMessage(problem instanceof CantLearn ? { differs: problem.message } : { failed: stack });
+  }
+  port.close();
+}
+
+/** @param {Given} given @param {(url: string) => Promise<any>} load */
+async function differing(given, load) {
+  const { module, args, isShared, plan } = given;
+  const asker = new Asker();
+  installRealm(asker);
+  const agentNow = given.isFresh ? await madeAnew(module) : await asItIs(module, load);
+  asker.begin(plan.buffers, basesOf(plan.buffers).bases);
+  const agents = { count: plan.agents, args, canBlock: plan.canBlock, isShared };
+  const learner = new Learner(asker, agents, { agentNow, line: () => "" });
+  return new Again(learner, given).run();
+}
+
+/**
+ * The agent's function of the module as it is written, which is loaded once: it keeps what it keeps from run to run.
+ * @param {string} module
+ * @param {(url: string) => Promise<any>} load
+ * @returns {Promise<() => Function>}
+ */
+async function asItIs(module, load) {
+  const { default: agent } = await load(module);
+  return () => agent;
+}
+
+/** @param {string} module @returns {Promise<() => Function>} its agent's function, each time of modules that begin anew */
+async function madeAnew(module) {
+  const graph = new Graph(true);
+  await graph.take(module, true);
+  return () => graph.made({}).get(module)?.default;
+}

@@ -1,0 +1,171 @@
+// Answers what an agent asks for while its function is called alone: by its history, as far as that goes. What it asks
+// for next is handed on, and then it is broken off, or gets a further answer.
+
+import { answerOfRead, bytesOfRead } from "../search/elements.mjs";
+import { DONE } from "../search/nodes.mjs";
+import { CantLearn, askedAccess, askedCall, returned } from "./asked.mjs";
+
+/** @typedef {import("../search/nodes.mjs").Node} Node */
+/** @typedef {import("../search/nodes.mjs").Answer} Answer */
+/** @typedef {import("./asked.mjs").Asked} Asked */
+
+/**
+ * One call of an agent's function.
+ * @typedef {object} Run
+ * @property {(asked: Asked) => Answer | undefined} answer what the agent is answered; undefined: it is broken off
+ */
+
+// These are watched when the agents' code is there.
+const { DataView: EngineView, Uint8Array: EngineBytes } = globalThis;
+
+/** What breaks an agent off. */
+const BROKEN = Object.freeze({ isBrokenOff: true });
+
+/** So often an agent may catch that. */
+const MOST_CAUGHT = 10_000;
+
+export class Asker {
+  constructor() {
+    /** @type {number[]} of each buffer where it begins in the bytes of all */
+    this.bases = [];
+    /** @type {SharedArrayBuffer[]} what stands for the agents' buffers: their bytes are only scratch */
+    this.buffers = [];
+    /** @type {DataView[]} */
+    this.views = [];
+    /** @type {Uint8Array[]} */
+    this.bytes = [];
+    /** @type {Run | undefined} */
+    this.run = undefined;
+    this.isBroken = false;
+    this.caught = 0;
+    /** @type {{ block: number, from: number, to: number } | undefined} a write that is being made */
+    this.writing = undefined;
+    /** @type {() => string} where the agent that runs now is */
+    this.lineHere = () => "a place that isn't known";
+    /** @type {CantLearn | undefined} why the agent can't be learned */
+    this.refused = undefined;
+  }
+
+  /** @param {number[]} lengths of the buffers @param {number[]} bases */
+  begin(lengths, bases) {
+    this.bases = bases;
+    this.views = lengths.map((length) => new EngineView(new SharedArrayBuffer(length)));
+    this.buffers = this.views.map(({ buffer }) => /** @type {any} */ (buffer));
+    this.bytes = this.buffers.map((buffer) => new EngineBytes(buffer));
+  }
+
+  /**
+   * Calls a function.
+   * @param {Run} run
+   * @param {() => unknown} body
+   * @returns {{ isBroken: boolean, result?: unknown, thrown?: unknown, hasThrown: boolean }}
+   * @throws {CantLearn}
+   */
+  call(run, body) {
+    this.isBroken = false;
+    this.caught = 0;
+    this.writing = undefined;
+    this.run = run;
+    try {
+      const result = body();
+      if (!this.isBroken) this.#endWrite();
+      return { isBroken: this.isBroken, result, hasThrown: false };
+    } catch (thrown) {
+      if (!this.isBroken) this.#afterThrow();
+      return { isBroken: this.isBroken, thrown, hasThrown: true };
+    } finally {
+      this.run = undefined;
+      if (this.refused !== undefined) throw this.refused;
+    }
+  }
+
+  /** A write that was being made when the agent threw was made. */
+  #afterThrow() {
+    try {
+      this.#endWrite();
+    } catch (thrown) {
+      if (thrown !== BROKEN) throw thrown;
+    }
+  }
+
+  /** @param {string} why @returns {never} */
+  refuse(why) {
+    this.refused ??= new CantLearn(`--all can't learn what the agents do: ${why}, at ${this.lineHere()}`, true);
+    return this.#breakOff();
+  }
+
+  /** @returns {never} */
+  #breakOff() {
+    this.isBroken = true;
+    throw BROKEN;
+  }
+
+  /** Goes on only if the agent wasn't broken off before. */
+  #enter() {
+    if (!this.isBroken) return;
+    this.caught += 1;
+    if (this.caught > MOST_CAUGHT) throw this.refused ??= new CantLearn("it catches everything, and goes on for ever");
+    throw BROKEN;
+  }
+
+  /** @param {Asked} asked @returns {Answer} */
+  #ask(asked) {
+    const answer = /** @type {Run} */ (this.run).answer(asked);
+    return answer ?? this.#breakOff();
+  }
+
+  /** A write is noted before it is made. What it has written is known when the agent asks for something else. */
+  #endWrite() {
+    if (this.writing === undefined) return;
+    const { block, from, to } = this.writing;
+    this.writing = undefined;
+    this.#ask(askedAccess(block, from, to - from, this.bases[block], this.bytes[block].slice(from, to)));
+  }
+
+  /**
+   * Makes a call of Atomics.
+   * @param {import("../../memory/records.mjs").Call} call
+   * @param {object} view
+   * @returns {unknown}
+   */
+  make(call, view) {
+    this.#enter();
+    this.#endWrite();
+    const { asked, thrown } = askedCall(call, view, this.bases[call.block]);
+    const answer = this.#ask(asked);
+    if (thrown !== undefined) throw thrown;
+    if (answer === "TypeError") throw new TypeError("Atomics.wait cannot be called in this context");
+    return returned(call, view, answer, this.views[call.block]);
+  }
+
+  /**
+   * An ordinary access is about to be made.
+   * @param {number} block
+   * @param {number} from
+   * @param {number} to
+   * @param {boolean} writes
+   */
+  seen(block, from, to, writes) {
+    this.#enter();
+    this.#endWrite();
+    if (from >= to) return;
+    if (writes) {
+      this.writing = { block, from, to };
+      return;
+    }
+    const answer = this.#ask(askedAccess(block, from, to - from, this.bases[block]));
+    this.bytes[block].set(bytesOfRead(/** @type {number | string} */ (answer), to - from), from);
+  }
+}
+
+/**
+ * What an ordinary access finds in some bytes, which it may change.
+ * @param {Asked} asked
+ * @param {Uint8Array} bytes of all blocks
+ * @returns {Answer}
+ */
+export function accessed({ at, size, written }, bytes) {
+  if (written === undefined) return answerOfRead(bytes, at, size);
+  bytes.set(written, at);
+  return DONE;
+}

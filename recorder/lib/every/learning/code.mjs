@@ -1,0 +1,110 @@
+// The agents' code, rewritten so that its state can be shown, and begun anew whenever its modules keep something else
+// than at first.
+
+import { Refused } from "../../options/refused.mjs";
+import { Builtins } from "../state/builtins.mjs";
+import { Capture } from "../state/capture.mjs";
+import { Runtime } from "../state/runtime.mjs";
+import { CantShow } from "../state/walk.mjs";
+import { keyOf } from "./asked.mjs";
+import { Graph } from "./graph.mjs";
+
+const PRELUDE = new URL("../state/prelude.mjs", import.meta.url).href;
+
+/** @typedef {import("./asked.mjs").Asked} Asked */
+
+export class Code {
+  /** @type {Map<string, Record<string, any>> | undefined} what the modules export */
+  #exports;
+
+  /** @type {string | undefined} what the modules keep at first; undefined: that can't be shown */
+  #first;
+
+  /**
+   * @param {string} url of the agents' module
+   * @param {Graph} graph
+   * @param {Runtime} runtime
+   * @param {Builtins} builtins
+   * @param {Capture} capture
+   */
+  constructor(url, graph, runtime, builtins, capture) {
+    this.url = url;
+    this.graph = graph;
+    this.runtime = runtime;
+    this.builtins = builtins;
+    this.capture = capture;
+    /** How often the modules were made anew. */
+    this.renewals = -1;
+    this.#renew();
+    this.#first = this.#kept();
+  }
+
+  /** What the agents' module exports. @returns {{ agent: any, init: any, check: any, setup: any }} */
+  get exports() {
+    const { default: agent, ...own } = /** @type {Record<string, any>} */ (this.#exports?.get(this.url));
+    if (typeof agent !== "function") throw new Refused("the module has no function as its default export");
+    const { init = agent.init, check = agent.check, setup = agent.setup } = own;
+    return { agent, init, check, setup };
+  }
+
+  /** @returns {Function} the agent's function, of modules that keep what they keep at first */
+  agentNow() {
+    if (this.#first === undefined || this.#kept() !== this.#first) this.#renew();
+    this.runtime.beginAgent();
+    return this.exports.agent;
+  }
+
+  /** @param {Asked} asked @returns {string} the state of the agent that asks for it */
+  key(asked) {
+    return this.capture.here(keyOf(asked));
+  }
+
+  /** @returns {string} the file, line and column at which an agent asks for something now */
+  line() {
+    return this.capture.line();
+  }
+
+  #renew() {
+    this.renewals += 1;
+    this.runtime.beginModules();
+    this.#exports = this.graph.made(this.runtime.calls);
+    this.runtime.endModules();
+  }
+
+  #kept() {
+    try {
+      return this.capture.modules();
+    } catch (why) {
+      if (!(why instanceof CantShow)) throw why;
+      return undefined;
+    }
+  }
+}
+
+/**
+ * Loads the agents' code.
+ * @param {string} url
+ * @param {{ hides?: string }} [flaw] what is left out of its state on purpose, for tests
+ * @returns {Promise<Code>}
+ * @throws {Refused} if a module of it can't be shown
+ */
+export async function loadCode(url, flaw) {
+  const runtime = new Runtime();
+  const own = new Graph();
+  await own.take(PRELUDE);
+  installLoops(own.made(runtime.calls).get(PRELUDE)?.loops);
+  const graph = new Graph();
+  await graph.take(url, true);
+  const builtins = new Builtins();
+  builtins.take(graph.nodes);
+  builtins.close();
+  const texts = new Map([...own.texts, ...graph.texts]);
+  return new Code(url, graph, runtime, builtins, new Capture(runtime, builtins, texts, flaw));
+}
+
+/** @param {Record<string, Function>} loops over arrays, which stand for the engine's */
+function installLoops(loops) {
+  for (const [name, value] of Object.entries(loops)) {
+    Object.defineProperty(Array.prototype, name, { value, writable: true, configurable: true });
+  }
+}

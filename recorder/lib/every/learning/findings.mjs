@@ -1,0 +1,177 @@
+// What is found in the states of agents, and how each is shown: by the schedule with the fewest changes of agents.
+// Things that have the same message, without its numbers, are one finding.
+
+import { leftOpen, foundBy } from "../../agent/answer.mjs";
+import { DOES } from "../search/nodes.mjs";
+import { endingHere } from "../search/result.mjs";
+import { shortestTo } from "../search/shortest.mjs";
+
+/** @typedef {import("../search/nodes.mjs").Node} Node */
+/** @typedef {import("../search/search.mjs").Search} Search */
+/** @typedef {import("../search/result.mjs").Kinds} Kinds */
+
+/** @typedef {"deadlock" | "threw" | "check" | "race" | "no way out"} FindingKind */
+
+/**
+ * @typedef {object} Finding
+ * @property {FindingKind} kind
+ * @property {string} text what was thrown, or what `check` found, or which lines race
+ * @property {number} states how many have it
+ * @property {number[]} row the agents in the order in which they move, as a run goes by it
+ * @property {number} changes of agents
+ * @property {number} acts
+ * @property {boolean} isEarly whether a timed wait ends while something else can move
+ * @property {boolean} goesOn whether agents go on behind the row
+ */
+
+/**
+ * @typedef {{ key: string, kind: FindingKind, text: string, next?: number[] }} Here something in a state; who acts next
+ * to show it
+ */
+
+const MOST_LINES = 400;
+
+/** @param {Finding} one @param {Finding} other @returns {number} which is shown first */
+const byLength = (one, other) =>
+  Number(one.isEarly) - Number(other.isEarly) || one.changes - other.changes || one.acts - other.acts;
+
+/** @param {string} text @returns {string} without its numbers */
+const plain = (text) => text.replace(/-?\d+/g, "#");
+
+export class Findings {
+  /**
+   * @param {import("./learned.mjs").Learned} learned
+   * @param {Search} search
+   * @param {Kinds} kinds
+   */
+  constructor(learned, search, kinds) {
+    this.learned = learned;
+    this.search = search;
+    this.kinds = kinds;
+    /** @type {Map<number, string>} what `check` found, by the numbers of bytes */
+    this.problems = new Map();
+    /** @type {Map<Node, string>} where nodes are asked for */
+    this.lines = new Map();
+  }
+
+  /** @returns {Finding[]} those without an early end first, then those with the fewest changes of agents */
+  all() {
+    this.#check();
+    this.#findLines();
+    const { search } = this;
+    /** @type {Map<string, Here & { states: number }>} */
+    const found = new Map();
+    const depth = search.isClosed ? Infinity : search.depths.items[search.expanded];
+    if (!this.#hasAny()) return [];
+    for (let state = 0; state < search.count && search.depths.items[state] <= depth; state += 1) {
+      for (const here of this.#at(state)) {
+        const known = found.get(here.key);
+        if (known === undefined) found.set(here.key, { ...here, states: 1 });
+        else known.states += 1;
+      }
+    }
+    const ways = shortestTo(search, found.size, (state) => this.#at(state).map(({ key }) => key));
+    const all = [...ways].map(([key, way]) => this.#finding(/** @type {any} */ (found.get(key)), way));
+    return all.sort(byLength);
+  }
+
+  #hasAny() {
+    const { kinds, problems } = this;
+    const named = kinds.failed.size + kinds.conflicts.size + problems.size;
+    return named > 0 || kinds.deadlock !== undefined || kinds.noWayOut !== undefined;
+  }
+
+  /** Calls `check` once for each different list of bytes at the end. */
+  #check() {
+    const { learned: { exports: { check }, plan, bases, wanted: { args } }, search: { world } } = this;
+    if (check === undefined) return;
+    for (const memory of this.kinds.finals.keys()) {
+      const from = memory * world.memories.width;
+      const bytes = /** @type {Uint8Array} */ (world.memories.items);
+      const buffers = plan.buffers.map((length, block) => {
+        const buffer = new SharedArrayBuffer(length);
+        new Uint8Array(buffer).set(bytes.subarray(from + bases[block], from + bases[block] + length));
+        return buffer;
+      });
+      const problem = problemOf(() => check(buffers, { agents: plan.agents, args: [...args] }));
+      if (problem !== undefined) this.problems.set(memory, problem);
+    }
+  }
+
+  /** Finds the lines of what conflicts, as far as there aren't too many. */
+  #findLines() {
+    const nodes = new Set([...this.kinds.conflicts.values()].flatMap(({ one, other }) => [one, other]));
+    for (const node of [...nodes].slice(0, MOST_LINES)) this.lines.set(node, this.learned.learner.lineOf(node));
+  }
+
+  /** @param {number} state @returns {Here[]} what it has, each once */
+  #at(state) {
+    const { kinds, search, search: { world } } = this;
+    world.load(state);
+    const { texts, isDeadlock, isFinal } = endingHere(search);
+    /** @type {Here[]} */
+    const here = [...texts].map((text) => ({ key: `threw ${plain(text)}`, kind: "threw", text }));
+    if (isDeadlock) here.push(this.#deadlock());
+    const problem = isFinal ? this.problems.get(world.memory) : undefined;
+    if (problem !== undefined) here.push({ key: `check ${plain(problem)}`, kind: "check", text: problem });
+    if (kinds.conflicts.size > 0) here.push(...this.#races());
+    if (kinds.hasNoWayOut(state)) here.push({ key: "no way out", kind: "no way out", text: "" });
+    return here;
+  }
+
+  /** @returns {Here} */
+  #deadlock() {
+    const { world } = this.search;
+    const waits = world.nodes.filter(({ does }) => does === DOES.WAIT);
+    const places = waits.map(({ block, byte }) => `${block}:${byte}`).sort();
+    return { key: `deadlock ${places.join(" ")}`, kind: "deadlock", text: "" };
+  }
+
+  /** @returns {Here[]} */
+  #races() {
+    /** @type {Map<string, Here>} */
+    const found = new Map();
+    const { nodes } = this.search.world;
+    for (const { one, other, agents } of this.kinds.pairsHere().values()) {
+      const lines = [one, other].map((node) => this.lines.get(node) ?? "further lines").sort().join(" and ");
+      // Those accesses that come next are made at once.
+      const next = agents.filter((agent) => nodes[agent] === one || nodes[agent] === other).sort();
+      found.set(lines, { key: `race ${lines}`, kind: "race", text: lines, next });
+    }
+    return [...found.values()];
+  }
+
+  /**
+   * @param {Here & { states: number }} here
+   * @param {import("../search/shortest.mjs").Schedule} way
+   * @returns {Finding}
+   */
+  #finding({ key, kind, text, states }, { state, agents, changes, isEarly }) {
+    const row = this.#rowOf(agents);
+    const next = this.#at(state).find((one) => one.key === key)?.next ?? [];
+    const goesOn = kind === "race" || kind === "no way out";
+    return { kind, text, states, row: [...row, ...next], changes, acts: agents.length, isEarly, goesOn };
+  }
+
+  /** @param {number[]} agents in the order of their acts @returns {number[]} those of acts that are calls */
+  #rowOf(agents) {
+    const { world } = this.search;
+    world.load(0);
+    return agents.filter((agent) => {
+      const isOfCall = world.nodes[agent].does < DOES.READ;
+      if (world.waits(agent)) world.timeOut(agent);
+      else world.act(agent);
+      return isOfCall;
+    });
+  }
+}
+
+/** @param {() => unknown} check @returns {string | undefined} what it finds */
+function problemOf(check) {
+  try {
+    const answer = check();
+    return leftOpen(answer, "it") ?? foundBy(answer);
+  } catch (thrown) {
+    return `threw ${thrown instanceof Error ? String(thrown) : JSON.stringify(thrown)}`;
+  }
+}

@@ -1,0 +1,97 @@
+// Learns the agents of a module and searches all their schedules. It runs in a thread of its own, since the agents'
+// code may never come back.
+
+import { Refused } from "../../options/refused.mjs";
+import { planOf } from "../../options/plan.mjs";
+import { basesOf } from "../search/file.mjs";
+import { Search } from "../search/search.mjs";
+import { Learner, LooksAtNumber } from "./learner.mjs";
+
+/** @typedef {import("../search/world.mjs").Program} Program */
+/** @typedef {import("./code.mjs").Code} Code */
+
+/**
+ * @typedef {object} Wanted
+ * @property {string[]} args
+ * @property {{ agents?: number, buffers?: number[], noBlock?: number[] }} place what the options say of the agents
+ * @property {import("../search/search.mjs").Choice} timeouts
+ * @property {number} limit how many states at most
+ * @property {boolean} [isUnmerged] whether no two histories become one node
+ */
+
+export class Learned {
+  /** @param {Code} code @param {import("./asking.mjs").Asker} asker @param {Wanted} wanted */
+  constructor(code, asker, wanted) {
+    /** @type {(isBegun: boolean) => void} is called before and after each call of the agents' function */
+    this.onCall = () => {};
+    this.code = code;
+    this.asker = asker;
+    this.wanted = wanted;
+    this.exports = code.exports;
+    this.plan = planOf(wanted.place, this.exports.setup);
+    const { bases, length } = basesOf(this.plan.buffers);
+    this.bases = bases;
+    asker.begin(this.plan.buffers, bases);
+    this.initial = this.#initial(length);
+    this.isShared = this.plan.canBlock.every((can) => can);
+    /** @type {Learner} */
+    this.learner = this.#newLearner();
+    /** @type {Program | undefined} */
+    this.program = undefined;
+  }
+
+  /** @param {number} length @returns {Uint8Array} the bytes of all buffers as `init` leaves them */
+  #initial(length) {
+    const { asker, bases, exports: { init }, plan: { agents, buffers }, wanted: { args } } = this;
+    const bytes = new Uint8Array(length);
+    if (init === undefined) return bytes;
+    const given = buffers.map((each) => new SharedArrayBuffer(each));
+    const answer = init(given, { agents, args: [...args] });
+    if (typeof answer?.then === "function") throw new Refused("`init` returned a promise, but it must be synchronous");
+    if (asker.refused !== undefined) throw asker.refused;
+    given.forEach((buffer, block) => bytes.set(new Uint8Array(buffer), bases[block]));
+    return bytes;
+  }
+
+  #newLearner() {
+    const { asker, code, isShared, plan, wanted } = this;
+    const key = wanted.isUnmerged ? undefined : code.key.bind(code);
+    const agents = { count: plan.agents, args: wanted.args, canBlock: plan.canBlock, isShared };
+    const onCall = (/** @type {boolean} */ isBegun) => this.onCall(isBegun);
+    const learner = new Learner(asker, agents, { onCall, agentNow: () => code.agentNow(), line: () => code.line(), key });
+    // Each automaton has its own, so it need not be gone through.
+    code.builtins.names.set(learner.number, "number");
+    return learner;
+  }
+
+  /**
+   * Learns and searches, from the beginning again if the agents look at their numbers.
+   * @param {(states: number) => boolean} [isLate]
+   * @returns {Search}
+   */
+  search(isLate) {
+    try {
+      return this.#search(isLate);
+    } catch (why) {
+      if (!(why instanceof LooksAtNumber)) throw why;
+      this.isShared = false;
+      this.learner = this.#newLearner();
+      return this.#search(isLate);
+    }
+  }
+
+  /** @param {(states: number) => boolean} [isLate] */
+  #search(isLate) {
+    const { bases, initial, learner, plan, wanted: { limit, timeouts } } = this;
+    // What an agent writes before its first call is seen by later ones.
+    const bytes = Uint8Array.from(initial);
+    const agents = plan.canBlock.map((canBlock, agent) => ({ canBlock, root: learner.root(agent, bytes) }));
+    this.program = {
+      lengths: plan.buffers, bases, initial, agents, nodes: learner.nodes, mayLack: false,
+      learn: (node, answer, found) => learner.learn(node, answer, found),
+    };
+    const search = new Search(this.program, { timeouts, limit, isLate });
+    search.run();
+    return search;
+  }
+}

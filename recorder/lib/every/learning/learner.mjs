@@ -1,0 +1,330 @@
+// Learns agents as automata. An edge is learned by calling the agent's function alone, with the answers of a history
+// that leads to its node. Two histories are one node only if all that the agent keeps is the same.
+
+import { leftOpen } from "../../agent/answer.mjs";
+import { described } from "../../agent/described.mjs";
+import { CantShow } from "../state/walk.mjs";
+import { DONE, DOES, isCall, nodeOf } from "../search/nodes.mjs";
+import { nodeText } from "../search/text.mjs";
+import { CantLearn, askedEnd, isSame, keyOf } from "./asked.mjs";
+import { accessed } from "./asking.mjs";
+
+/** @typedef {import("../search/nodes.mjs").Node} Node */
+/** @typedef {import("../search/nodes.mjs").Answer} Answer */
+/** @typedef {import("./asked.mjs").Asked} Asked */
+/** @typedef {[Node, Answer][]} History nodes on a way, and what each was answered */
+
+/** The agents look at their numbers, so each has an automaton of its own. */
+export class LooksAtNumber extends Error {}
+
+/** After so many accesses between two calls each read is compared with the ones before. */
+const READS_BEFORE_COMPARING = 32;
+const MOST_ACCESSES = 100_000;
+
+/**
+ * @typedef {object} Agents
+ * @property {number} count
+ * @property {string[]} args
+ * @property {boolean[]} canBlock
+ * @property {boolean} isShared whether all have one automaton
+ */
+
+/**
+ * @typedef {object} AgentCode
+ * @property {() => Function} agentNow the agent's function, from modules that keep what they keep at first
+ * @property {() => string} line where the agent that runs now asks for something
+ * @property {(asked: Asked) => string} [key] shows the state of the agent that asks, and throws CantShow if it can't;
+ * without, no two histories are one node
+ * @property {(isBegun: boolean) => void} [onCall] is called before and after each call of the agent's function
+ */
+
+/** @typedef {{ node: Node, answer: Answer } | undefined} Origin of a node: the first edge that has led there */
+
+export class Learner {
+  /**
+   * @param {import("./asking.mjs").Asker} asker
+   * @param {Agents} agents
+   * @param {AgentCode} code
+   */
+  constructor(asker, agents, { agentNow, line, key, onCall = () => {} }) {
+    this.onCall = onCall;
+    this.asker = asker;
+    this.agents = agents;
+    this.agentNow = agentNow;
+    this.line = line;
+    this.key = key;
+    /** @type {Node[]} of all automata */
+    this.nodes = [];
+    /** @type {Map<Node, Origin>} */
+    this.origins = new Map();
+    /** @type {Map<string, Node>} by what is asked for and the agent's state */
+    this.states = new Map();
+    /** @type {Map<string, Node>} */
+    this.ends = new Map();
+    /** @type {Map<string, number>} how many nodes can't be compared with others, by the reason */
+    this.hidden = new Map();
+    this.runs = 0;
+    this.looksAtNumber = false;
+    /** Which agent runs now. */
+    this.agent = 0;
+    /** What agents get in place of their number. */
+    this.number = () => {
+      this.looksAtNumber = true;
+      return this.agent;
+    };
+    /** @type {(Node | undefined)[]} by automaton */
+    this.roots = [];
+  }
+
+  /** @param {number} agent @returns {number} its automaton */
+  automatonOf(agent) {
+    return this.agents.isShared ? 0 : agent;
+  }
+
+  /** @param {number} agent @param {Uint8Array} bytes @returns {Node} the first node of its automaton */
+  root(agent, bytes) {
+    const automaton = this.automatonOf(agent);
+    this.roots[automaton] ??= this.#grow(agent, undefined, bytes);
+    return /** @type {Node} */ (this.roots[automaton]);
+  }
+
+  /**
+   * Learns an edge.
+   * @param {Node} node
+   * @param {Answer} answer of it
+   * @param {Uint8Array} bytes what ordinary reads behind it find
+   * @returns {Node} to which it leads
+   */
+  learn(node, answer, bytes) {
+    return this.#grow(node.automaton, { node, answer }, bytes);
+  }
+
+  /** @param {Node} node @returns {History} that leads to it */
+  historyOf(node) {
+    /** @type {History} */
+    const history = [];
+    for (let origin = this.origins.get(node); origin !== undefined; origin = this.origins.get(origin.node)) {
+      history.push([origin.node, origin.answer]);
+    }
+    return history.reverse();
+  }
+
+  /** @param {Node} node that is no end @returns {string} the line at which agents ask for it */
+  lineOf(node) {
+    const history = this.historyOf(node);
+    let at = 0;
+    let line = "a place that isn't known";
+    const answer = () => {
+      if (at === history.length) line = this.line();
+      at += 1;
+      return history[at - 1]?.[1];
+    };
+    this.call(node.automaton, { answer });
+    return line;
+  }
+
+  /**
+   * @param {number} agent
+   * @param {Origin} origin the edge, or undefined for the agent's beginning
+   * @param {Uint8Array} bytes
+   * @returns {Node}
+   */
+  #grow(agent, origin, bytes) {
+    /** @type {History} */
+    const history = origin === undefined ? [] : [...this.historyOf(origin.node), [origin.node, origin.answer]];
+    const growing = new Growing(this, history, agent, origin, bytes.slice());
+    const ended = this.call(agent, growing);
+    growing.needsWhole();
+    if (ended !== undefined) growing.end(ended);
+    return /** @type {Node} */ (growing.first);
+  }
+
+  /**
+   * Calls the agent's function.
+   * @param {number} agent
+   * @param {import("./asking.mjs").Run} run
+   * @returns {Asked | undefined} how it ended, unless it was broken off
+   */
+  call(agent, run) {
+    const { agents, asker } = this;
+    const fn = this.agentNow();
+    this.runs += 1;
+    this.agent = agent;
+    const given = { buffers: [...asker.buffers], agents: agents.count, args: [...agents.args] };
+    Object.defineProperty(given, "agent", { get: this.number, enumerable: true, configurable: true });
+    this.onCall(true);
+    const { isBroken, result, hasThrown, thrown } = asker.call(run, () => fn(given));
+    this.onCall(false);
+    if (agents.isShared && this.looksAtNumber) throw new LooksAtNumber();
+    if (isBroken) return undefined;
+    if (hasThrown) return askedEnd(titleOf(thrown));
+    const open = leftOpen(result, "an agent");
+    if (open !== undefined) throw new CantLearn(`it ${open}`);
+    return askedEnd();
+  }
+
+  /**
+   * A node, which may be a known one.
+   * @param {number} automaton
+   * @param {Asked} asked
+   * @param {string | undefined} key
+   * @param {Origin} origin
+   * @returns {{ node: Node, isNew: boolean }}
+   */
+  node(automaton, asked, key, origin) {
+    const known = key === undefined ? undefined : this.states.get(key);
+    if (known !== undefined) return { node: known, isNew: false };
+    const node = nodeOf({ ...asked, id: this.nodes.length, automaton });
+    this.nodes.push(node);
+    this.origins.set(node, origin);
+    if (key !== undefined) this.states.set(key, node);
+    return { node, isNew: true };
+  }
+
+  /**
+   * @param {number} automaton
+   * @param {Asked} asked by the agent that runs now
+   * @returns {string | undefined} what is the same only for the same state; undefined if that can't be shown
+   */
+  keyOf(automaton, asked) {
+    if (this.key === undefined) return undefined;
+    try {
+      return `${automaton} ${this.key(asked)}`;
+    } catch (why) {
+      if (!(why instanceof CantShow)) throw why;
+      this.hidden.set(why.message, (this.hidden.get(why.message) ?? 0) + 1);
+      return undefined;
+    }
+  }
+}
+
+/** A call of an agent's function that learns an edge. */
+class Growing {
+  /**
+   * @param {Learner} learner
+   * @param {History} history
+   * @param {number} agent
+   * @param {Origin} origin
+   * @param {Uint8Array} bytes
+   */
+  constructor(learner, history, agent, origin, bytes) {
+    this.learner = learner;
+    this.history = history;
+    this.at = 0;
+    this.automaton = learner.automatonOf(agent);
+    this.origin = origin;
+    /** @type {Uint8Array | undefined} undefined: it isn't known what reads find */
+    this.bytes = bytes;
+    /** @type {Node | undefined} the first one that was found */
+    this.first = undefined;
+    this.accesses = 0;
+    /** @type {Set<Node>} accesses that this call has shown */
+    this.made = new Set();
+    this.isHead = true;
+    /** @type {string | undefined} what it did that it hadn't done before */
+    this.differs = undefined;
+  }
+
+  /** @param {Asked} asked @returns {Answer | undefined} */
+  answer(asked) {
+    if (this.at === this.history.length) return this.#grow(asked);
+    const [node, answer] = this.history[this.at];
+    this.at += 1;
+    if (isSame(node, asked)) return answer;
+    this.differs = differenceText(this.at, node, asked);
+    return undefined;
+  }
+
+  /** @param {Asked} asked */
+  #grow(asked) {
+    const isOfCall = isCall(/** @type {Node} */ (asked));
+    this.accesses = isOfCall ? 0 : this.accesses + 1;
+    if (this.accesses > MOST_ACCESSES) throw this.#cant("it makes 100,000 ordinary accesses without a call of Atomics");
+    const isLong = !isOfCall && this.accesses > READS_BEFORE_COMPARING;
+    const isCompared = isOfCall || (asked.does === DOES.READ && (this.isHead || isLong));
+    const key = isCompared ? this.#usefulKey(asked, isLong && !this.isHead) : undefined;
+    const { node, isNew } = this.learner.node(this.automaton, asked, key, this.origin);
+    this.link(node);
+    // A loop of reads that has come back to itself stops there.
+    if (!isNew && this.made.has(node)) node.isAlone = true;
+    if (isNew && !isOfCall) this.made.add(node);
+    this.isHead = false;
+    return isNew ? this.#further(node, isOfCall) : undefined;
+  }
+
+  /**
+   * @param {Asked} asked
+   * @param {boolean} isInLoop whether it is a read behind others, which may only come back to one of this call's, or to
+   * one that is an act of its own
+   */
+  #usefulKey(asked, isInLoop) {
+    const { learner, made } = this;
+    const key = learner.keyOf(this.automaton, asked);
+    const known = isInLoop && key !== undefined ? learner.states.get(key) : undefined;
+    return known === undefined || known.isAlone || made.has(known) ? key : undefined;
+  }
+
+  /**
+   * @param {Node} node that is new
+   * @param {boolean} isOfCall
+   * @returns {Answer | undefined} its answer, if it is known
+   */
+  #further(node, isOfCall) {
+    let answer;
+    if (isOfCall && node.does === DOES.STORE && node.error === undefined) {
+      // What memory holds when it goes on isn't known.
+      this.bytes = undefined;
+      this.isHead = true;
+      answer = DONE;
+    } else if (!isOfCall && this.bytes !== undefined) answer = accessed(node, this.bytes);
+    else if (node.does === DOES.WRITE) answer = DONE;
+    if (answer !== undefined) this.origin = { node, answer };
+    return answer;
+  }
+
+  /** @param {Node} node to which the last edge leads */
+  link(node) {
+    this.first ??= node;
+    this.origin?.node.edges.set(this.origin.answer, node);
+  }
+
+  /** @param {Asked} asked the agent's end */
+  end(asked) {
+    const { automaton, learner } = this;
+    const key = `${automaton} ${keyOf(asked)}`;
+    const known = learner.ends.get(key);
+    const node = known ?? learner.node(automaton, asked, undefined, this.origin).node;
+    learner.ends.set(key, node);
+    this.link(node);
+  }
+
+  /** The agent must have come to the end of its history. */
+  needsWhole() {
+    const isShort = this.differs === undefined && this.at < this.history.length;
+    const why = isShort ? `it ended before its answer ${this.at + 1}` : this.differs;
+    if (why !== undefined) throw new NotTheSame(`with the same answers agents do something else: ${why}`);
+  }
+
+  /** @param {string} why */
+  #cant(why) {
+    this.learner.asker.refused ??= new CantLearn(why);
+    return this.learner.asker.refused;
+  }
+}
+
+/** An agent that did something else with the same answers. */
+export class NotTheSame extends Error {}
+
+/** @param {number} at @param {Node} node @param {Asked} asked */
+const differenceText = (at, node, asked) =>
+  `at step ${at} ${nodeText(node)} was learned, and now it is ${nodeText(/** @type {Node} */ (asked))}`;
+
+/** @param {unknown} thrown @returns {string} without its stack */
+function titleOf(thrown) {
+  if (!(thrown instanceof Error)) return described(thrown);
+  try {
+    return `${thrown}`;
+  } catch {
+    return "an error that can't be shown";
+  }
+}

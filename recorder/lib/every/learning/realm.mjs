@@ -1,0 +1,79 @@
+// The world of an agent that is learned: `Atomics` and arrays that ask, clocks and chance that are refused, and no
+// output.
+
+import { syncBuiltinESMExports } from "node:module";
+import { types } from "node:util";
+import { recordedAtomics } from "../../agent/atomics.mjs";
+import { blockNumber } from "../../agent/ordinary/context.mjs";
+import { watchOrdinary } from "../../agent/ordinary/watch.mjs";
+import { simulateChance, simulateTime } from "../../agent/time.mjs";
+
+const SAYS = /** @type {const} */ (["log", "error", "warn", "info", "debug"]);
+
+/**
+ * Replaces what shows an agent the world. It is called once, before any of the agents' code is loaded.
+ * @param {import("./asking.mjs").Asker} asker
+ */
+export function installRealm(asker) {
+  const isRecording = () => asker.run !== undefined;
+  /** @param {string} what @returns {never} */
+  const refuse = (what) => asker.refuse(what);
+  simulateTime(() => (isRecording() ? refuse("it looks at a clock") : 0));
+  simulateChance(/** @type {any} */ (new NoChance(() => refuse("it asks for a random number"))));
+  watchOrdinary({
+    blockOf: (buffer) => asker.buffers.indexOf(/** @type {any} */ (buffer)),
+    seen: (place, from, to, writes) => {
+      if (isRecording()) asker.seen(place.block, from, to, writes);
+    },
+    isOther: () => false,
+    seenOther: () => {},
+    copied: () => {},
+    isCalledByAgents: () => true,
+    given: (what) => refuse(what),
+    refuse: (why) => refuse(why),
+  });
+  globalThis.Atomics = recordedAtomics(Atomics, /** @type {any} */ ({
+    blockOf: blockNumber,
+    isRecording,
+    make: asker.make.bind(asker),
+    simulatesTime: true,
+    sleep: () => refuse("it waits on memory that isn't recorded"),
+    refuse,
+    unseen: new Others(),
+    endUnseen: () => refuse("it uses shared memory that isn't recorded"),
+  }));
+  for (const name of SAYS) /** @type {any} */ (console)[name] = () => {};
+  syncBuiltinESMExports();
+}
+
+/** Stands for a row of random numbers. */
+class NoChance {
+  /** @param {() => never} refuse */
+  constructor(refuse) {
+    this.fraction = refuse;
+    this.fill = refuse;
+    this.random = { next: refuse };
+  }
+}
+
+/** Shared memory that isn't recorded: none may be used. */
+class Others {
+  isAllowed = false;
+  /** @type {never[]} */
+  lasting = [];
+
+  /** @param {unknown} buffer */
+  isTheirs(buffer) {
+    return types.isSharedArrayBuffer(buffer);
+  }
+
+  use() {
+    return true;
+  }
+
+  isUsed() {
+    return true;
+  }
+
+  wait() {}
+}

@@ -1,0 +1,63 @@
+// The thread that learns the agents of a module and searches all their schedules. Its work is one: it reports, and
+// ends.
+
+import { workerData } from "node:worker_threads";
+import { REFUSED, Refused } from "../../options/refused.mjs";
+import { CantLearn } from "./asked.mjs";
+import { Asker } from "./asking.mjs";
+import { loadCode } from "./code.mjs";
+import { Learned } from "./learned.mjs";
+import { NotTheSame } from "./learner.mjs";
+import { PROGRESS } from "./progress.mjs";
+import { installRealm } from "./realm.mjs";
+import { reportOf } from "./report.mjs";
+
+/**
+ * @typedef {import("./learned.mjs").Wanted & { module: string, within: number, flaw?: { hides?: string },
+ * progress: SharedArrayBuffer }} Given `within` is for how many seconds it searches
+ */
+
+// The agents get other clocks.
+const now = performance.now.bind(performance);
+
+/** Waits for its work, and does it. */
+export async function main() {
+  const given = /** @type {Given & { port: import("node:worker_threads").MessagePort }} */ (workerData);
+  const { port } = given;
+  try {
+    port.postMessage({ report: await reported(given) });
+  } catch (problem) {
+    port.postMessage(answerOf(problem));
+  }
+  port.close();
+}
+
+/** @param {Given} given */
+async function reported(given) {
+  const asker = new Asker();
+  installRealm(asker);
+  const code = await loadCode(given.module, given.flaw);
+  asker.lineHere = () => code.line();
+  const learned = new Learned(code, asker, given);
+  const words = new Int32Array(given.progress);
+  const until = now() + 1_000 * given.within;
+  learned.onCall = (isBegun) => {
+    words[PROGRESS.CALLS] += 1;
+    words[PROGRESS.RUNS] = isBegun ? 1 : 0;
+  };
+  const search = learned.search((states) => {
+    words[PROGRESS.STATES] = states;
+    return now() > until;
+  });
+  return reportOf(learned, search);
+}
+
+/** @param {any} problem @returns {object} what is said about it */
+function answerOf(problem) {
+  if (problem instanceof Refused) return { refused: problem.message };
+  if (problem?.name === REFUSED) return { refused: `--all needs of node what whole programs need: ${problem.message}` };
+  if (problem instanceof CantLearn && problem.isRefused) return { refused: problem.message };
+  if (problem instanceof CantLearn) return { unlearned: problem.message };
+  if (problem instanceof NotTheSame) return { differs: problem.message };
+  return { failed: problem?.stack ?? String(problem) };
+}

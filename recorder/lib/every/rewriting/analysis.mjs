@@ -1,0 +1,371 @@
+// Goes over a module's tree: which scopes and functions there are, and what each name means. A module in which
+// something can't be shown is refused, with its line.
+
+import { Refused } from "../../options/refused.mjs";
+import { GLOBALS, NOT_CALLED, HIDDEN_MEMBERS, isAllowedUse } from "./allowed.mjs";
+import { Info, Scope, newId } from "./scopes.mjs";
+import { childrenOf, functionIn, isClass, isFunction, isLoop, namesIn, runsCode } from "./tree.mjs";
+
+/** @typedef {import("./tree.mjs").Tree} Tree */
+/** @typedef {import("./scopes.mjs").Reference} Reference */
+
+/** @typedef {{ scope: Scope, within: Info | null }} Here where something is */
+
+/** @type {Record<string, (one: Analysis, tree: Tree, here: Here) => void>} what is done with trees of some types */
+const VISITS = {
+  Identifier: (one, tree, here) => one.refer(tree.name, tree, here, true),
+  ThisExpression: (one, tree, here) => one.refer("this", tree, here, true),
+  Super: (one, tree, here) => one.refer("this", tree, here, true),
+  MetaProperty: (one, tree, here) => {
+    if (tree.meta.name !== "new") one.refuse(tree, "`import.meta`");
+    one.refer("new.target", tree, here, true);
+  },
+  WithStatement: (one, tree) => one.refuse(tree, "`with`"),
+  ImportExpression: (one, tree) => one.refuse(tree, "an import while it runs"),
+  AwaitExpression: (one, tree, { within }) => {
+    if (within === null) one.refuse(tree, "`await` at the top level");
+    one.hide(within);
+  },
+  MemberExpression: (one, tree, here) => one.visitMember(tree, here),
+  Property: (one, tree, here) => {
+    if (tree.shorthand) one.shorthand.add(tree.value.start);
+    one.visitAll([tree.computed ? tree.key : null, tree.value], here);
+  },
+  LabeledStatement: (one, tree, here) => one.visit(tree.body, here),
+  BreakStatement: () => {},
+  ContinueStatement: () => {},
+  ImportDeclaration: (one, tree, { scope }) => {
+    one.imports.push(tree);
+    for (const { local } of tree.specifiers) scope.declare(local.name, "import");
+  },
+  ExportAllDeclaration: (one, tree) => void one.imports.push(tree),
+  ExportNamedDeclaration: (one, tree, here) => one.visitExport(tree, here),
+  BlockStatement: (one, tree, here) => one.visitBlock(tree, here),
+  StaticBlock: (one, tree) => one.refuse(tree, "a static block"),
+  CatchClause: (one, tree, here) => one.visitCatch(tree, here),
+  SwitchStatement: (one, tree, here) => one.visitSwitch(tree, here),
+  VariableDeclarator: (one, tree, here) => one.visitDeclarator(tree, here),
+  AssignmentExpression: (one, tree, here) => one.visitAssignment(tree, here),
+  UpdateExpression: (one, tree, here) => one.visitUpdate(tree, here),
+  ExpressionStatement: (one, tree, here) => {
+    one.unused.add(tree.expression);
+    one.visit(tree.expression, here);
+  },
+};
+
+export class Analysis {
+  /** @param {Tree} tree of the module @param {string} source @param {string} file as messages name it */
+  constructor(tree, source, file) {
+    this.source = source;
+    this.file = file;
+    /** @type {Scope[]} */
+    this.scopes = [];
+    /** @type {Info[]} */
+    this.functions = [];
+    /** @type {Map<Tree, Info>} */
+    this.infos = new Map();
+    /** @type {Map<Tree, Scope>} the scope that a tree has of its own */
+    this.own = new Map();
+    /** @type {Reference[]} */
+    this.references = [];
+    /** @type {Map<string, Reference>} by their places */
+    this.byPlace = new Map();
+    /** @type {[number, number][]} places at which there is something that can't be shown */
+    this.hidden = [];
+    /** @type {Tree[]} */
+    this.imports = [];
+    /** @type {Set<number>} where members of objects begin that have but a name */
+    this.shorthand = new Set();
+    /** @type {Set<Tree>} expressions whose values nobody uses */
+    this.unused = new Set();
+    /** @type {Set<string>} the names of private methods: what they are can't change */
+    this.privateMethods = new Set();
+    this.tree = tree;
+    this.root = this.newScope(tree, null, null, "module");
+    this.root.declareLexical(tree.body);
+    this.root.declareVariables(tree);
+    this.visitAll(tree.body, { scope: this.root, within: null });
+    this.#resolve();
+  }
+
+  /**
+   * @param {Tree} tree
+   * @param {string} what it is
+   * @returns {never}
+   */
+  refuse(tree, what) {
+    const before = this.source.slice(0, tree.start).split("\n");
+    const place = `${this.file}:${before.length}:${before[before.length - 1].length + 1}`;
+    throw new Refused(`--all can't show what an agent keeps at ${place}: ${what}`);
+  }
+
+  /** @param {Info | null} within whose state can't be shown while it runs */
+  hide(within) {
+    if (within !== null) within.isHidden = true;
+  }
+
+  /**
+   * @param {Tree} tree
+   * @param {Scope | null} outer
+   * @param {Info | null} within
+   * @param {import("./scopes.mjs").ScopeKind} kind
+   */
+  newScope(tree, outer, within, kind) {
+    const scope = new Scope(tree, outer, within, kind);
+    this.scopes.push(scope);
+    return scope;
+  }
+
+  /** @param {string} name @param {Tree} tree @param {Here} here @param {boolean} reads */
+  refer(name, tree, { scope, within }, reads) {
+    const reference = { name, scope, start: tree.start, end: tree.end, within, reads };
+    this.references.push(reference);
+    this.byPlace.set(`${tree.start}.${tree.end}`, reference);
+  }
+
+  /**
+   * @param {Tree} tree an identifier or its like
+   * @returns {import("./scopes.mjs").Binding | undefined} what it means
+   */
+  bindingOf(tree) {
+    return this.byPlace.get(`${tree.start}.${tree.end}`)?.binding;
+  }
+
+  /** @param {(Tree | null)[]} trees @param {Here} here */
+  visitAll(trees, here) {
+    for (const tree of trees) this.visit(tree, here);
+  }
+
+  /** @param {Tree | null | undefined} tree @param {Here} here */
+  visit(tree, here) {
+    if (tree === null || tree === undefined) return;
+    if (isFunction(tree)) this.visitFunction(tree, here);
+    else if (isClass(tree)) this.visitClass(tree, here);
+    else if (isLoop(tree)) this.visitLoop(tree, here);
+    else if (Object.hasOwn(VISITS, tree.type)) VISITS[tree.type](this, tree, here);
+    else this.visitAll(childrenOf(tree), here);
+  }
+
+  /** @param {Tree} tree @param {Here} here */
+  visitFunction(tree, { scope, within }) {
+    const info = new Info(newId(), tree, within);
+    const own = this.newScope(tree, scope, info, "function");
+    this.infos.set(tree, info);
+    this.own.set(tree, own);
+    this.functions.push(info);
+    info.isHidden = tree.generator || tree.async || tree.params.some(runsCode);
+    const named = tree.type === "ArrowFunctionExpression" ? [] : ["this", "arguments", "new.target"];
+    for (const name of named) own.declare(name, "pseudo");
+    if (tree.type === "FunctionExpression" && tree.id) own.declare(tree.id.name, "self");
+    for (const parameter of tree.params) own.declareAll(parameter, "param");
+    const here = { scope: own, within: info };
+    for (const parameter of tree.params) this.visitPattern(parameter, here, true);
+    if (tree.body.type === "BlockStatement") {
+      own.declareLexical(tree.body.body);
+      own.declareVariables(tree.body);
+      this.visitAll(tree.body.body, here);
+    } else this.visit(tree.body, here);
+  }
+
+  /** @param {Tree} tree @param {Here} here */
+  visitClass(tree, here) {
+    this.visit(tree.superClass, here);
+    if (tree.type === "ClassExpression" && tree.id) this.refuse(tree, "a class expression with a name of its own");
+    // What its fields begin with is evaluated by a function that nobody wrote.
+    const info = new Info(newId(), tree.body, here.within);
+    info.isHidden = true;
+    this.infos.set(tree, info);
+    this.functions.push(info);
+    const own = this.newScope(tree.body, here.scope, info, "function");
+    own.declare("this", "pseudo");
+    for (const member of tree.body.body) this.#visitMemberOfClass(tree, member, here, { scope: own, within: info });
+  }
+
+  /** @param {Tree} tree @param {Tree} member @param {Here} here @param {Here} inside */
+  #visitMemberOfClass(tree, member, here, inside) {
+    if (member.computed) this.visit(member.key, here);
+    if (member.type === "StaticBlock") this.refuse(member, "a static block");
+    if (member.type === "MethodDefinition") {
+      if (member.key.type === "PrivateIdentifier" && member.kind === "method") this.privateMethods.add(member.key.name);
+      this.visitFunction(member.value, here);
+      if (member.kind === "constructor") this.#visitConstructor(member.value, tree.superClass !== null);
+    } else if (member.value) {
+      const inner = functionIn(member.value);
+      if (inner !== undefined) this.refuse(inner, "a function in what a field begins with");
+      this.visit(member.value, inside);
+    }
+  }
+
+  /** @param {Tree} tree @param {boolean} isDerived */
+  #visitConstructor(tree, isDerived) {
+    const info = /** @type {Info} */ (this.infos.get(tree));
+    // What it makes is returned, whether it reads it again or not. That of a derived class may not be there yet.
+    info.made = this.own.get(tree)?.names.get("this");
+    if (info.made !== undefined) info.made.isAlwaysShown = true;
+    if (isDerived) this.hide(info);
+  }
+
+  /** @param {Tree} tree @param {Here} here */
+  visitLoop(tree, here) {
+    if (tree.await) this.refuse(tree, "`for await`");
+    const head = tree.init ?? tree.left;
+    let inside = here;
+    if (head?.type === "VariableDeclaration" && head.kind !== "var") {
+      const own = this.newScope(tree, here.scope, here.within, tree.type === "ForStatement" ? "for" : "each");
+      for (const one of head.declarations) own.declareAll(one.id, head.kind);
+      this.own.set(tree, own);
+      inside = { scope: own, within: here.within };
+    }
+    if (tree.type === "ForStatement") this.visit(tree.init, inside);
+    else this.visit(tree.right, here);
+    if (tree.left) {
+      if (tree.left.type === "VariableDeclaration") this.visit(tree.left, inside);
+      else this.visitPattern(tree.left, inside, false);
+    }
+    if (tree.update) this.unused.add(tree.update);
+    this.visitAll([tree.test, tree.update, tree.body], inside);
+    if (tree.type === "ForInStatement") this.hidden.push([tree.right.end, tree.end]);
+  }
+
+  /** @param {Tree} tree @param {Here} here */
+  visitMember(tree, here) {
+    const { object, property, computed } = tree;
+    if (!computed && HIDDEN_MEMBERS.has(property.name)) this.refuse(tree, `.${property.name}`);
+    this.visit(object, here);
+    if (computed) this.visit(property, here);
+  }
+
+  /** @param {Tree} tree @param {Here} here */
+  visitExport(tree, here) {
+    if (tree.source) this.imports.push(tree);
+    else for (const { local } of tree.specifiers) this.refer(local.name, local, here, true);
+    this.visit(tree.declaration, here);
+  }
+
+  /** @param {Tree} tree @param {Here} here */
+  visitBlock(tree, { scope, within }) {
+    const own = this.newScope(tree, scope, within, "block");
+    own.declareLexical(tree.body);
+    this.own.set(tree, own);
+    this.visitAll(tree.body, { scope: own, within });
+  }
+
+  /** @param {Tree} tree @param {Here} here */
+  visitCatch(tree, { scope, within }) {
+    const own = this.newScope(tree, scope, within, "catch");
+    own.declareAll(tree.param, "catch");
+    this.own.set(tree, own);
+    const here = { scope: own, within };
+    this.visitPattern(tree.param, here, true);
+    own.declareLexical(tree.body.body);
+    this.visitAll(tree.body.body, here);
+  }
+
+  /** @param {Tree} tree @param {Here} here */
+  visitSwitch(tree, here) {
+    for (const { consequent } of tree.cases) {
+      for (const statement of consequent) {
+        const { type, kind } = statement;
+        const isDeclared = (type === "VariableDeclaration" && kind !== "var") || /^(?:Class|Function)Decl/.test(type);
+        if (isDeclared) this.refuse(statement, "a declaration in a case: put braces around the case");
+      }
+    }
+    this.visitAll(childrenOf(tree), here);
+  }
+
+  /** @param {Tree} tree @param {Here} here */
+  visitDeclarator(tree, here) {
+    this.visitPattern(tree.id, here, true);
+    if (tree.id.type !== "Identifier" && runsCode(tree.id)) this.hidden.push([tree.id.start, tree.id.end]);
+    this.visit(tree.init, here);
+  }
+
+  /** @param {Tree} tree @param {Here} here */
+  visitAssignment(tree, here) {
+    const { left, right, operator } = tree;
+    if (left.type === "Identifier") this.refer(left.name, left, here, operator !== "=");
+    else if (left.type === "MemberExpression") this.visit(left, here);
+    else {
+      this.visitPattern(left, here, false);
+      if (runsCode(left)) this.hidden.push([left.start, tree.end]);
+    }
+    this.visit(right, here);
+  }
+
+  /** @param {Tree} tree @param {Here} here */
+  visitUpdate(tree, here) {
+    this.visit(tree.argument, here);
+    if (tree.argument.type !== "Identifier") return;
+    const reference = this.byPlace.get(`${tree.argument.start}.${tree.argument.end}`);
+    if (reference !== undefined) this.references.push({ ...reference, reads: false });
+  }
+
+  /**
+   * @param {Tree | null} pattern
+   * @param {Here} here
+   * @param {boolean} isDeclared whether its names are declared by it
+   */
+  visitPattern(pattern, here, isDeclared) {
+    if (pattern === null) return;
+    switch (pattern.type) {
+      case "Identifier":
+        if (!isDeclared) this.refer(pattern.name, pattern, here, false);
+        return;
+      case "ObjectPattern":
+        for (const one of pattern.properties) {
+          if (one.computed) this.visit(one.key, here);
+          this.visitPattern(one.type === "RestElement" ? one.argument : one.value, here, isDeclared);
+        }
+        return;
+      case "ArrayPattern":
+        for (const one of pattern.elements) this.visitPattern(one, here, isDeclared);
+        return;
+      case "AssignmentPattern":
+        this.visitPattern(pattern.left, here, isDeclared);
+        this.visit(pattern.right, here);
+        return;
+      case "RestElement":
+        this.visitPattern(pattern.argument, here, isDeclared);
+        return;
+      default:
+        this.visit(pattern, here);
+    }
+  }
+
+  /** Finds what each name means, and what functions capture. */
+  #resolve() {
+    for (const reference of this.references) {
+      const binding = reference.scope.find(reference.name);
+      if (binding === undefined) {
+        this.#needsAllowed(reference);
+        continue;
+      }
+      reference.binding = binding;
+      binding.references.push(reference);
+      if (binding.scope.kind === "module") continue;
+      if (binding.scope.within === null && reference.within !== null) {
+        this.refuse(reference.scope.tree, `\`${reference.name}\`, a name of a block at the top level, in a function`);
+      }
+      const { within: owner } = binding.scope;
+      for (let at = reference.within; at !== null && at !== owner; at = at.outer) at.captured.add(binding);
+    }
+    for (const id of this.#selfs()) this.refuse(id, "a name that is also what a function expression calls itself");
+  }
+
+  /** @param {Reference} reference to what the module doesn't bind */
+  #needsAllowed({ name, start, end }) {
+    if (!GLOBALS.has(name)) this.refuse({ start }, `\`${name}\`, which isn't among the names that agents may use`);
+    if (!NOT_CALLED.has(name) || isAllowedUse(this.source, name, start, end)) return;
+    this.refuse({ start }, `\`${name}\` used in this way`);
+  }
+
+  /** @returns {Tree[]} names of function expressions that something else in them shares */
+  #selfs() {
+    return [...this.own.values()].flatMap((scope) => {
+      const { tree } = scope;
+      if (scope.kind !== "function" || tree.type !== "FunctionExpression" || !tree.id) return [];
+      const isShared = tree.params.some((/** @type {Tree} */ one) => namesIn(one).includes(tree.id.name));
+      return isShared ? [tree.id] : [];
+    });
+  }
+}

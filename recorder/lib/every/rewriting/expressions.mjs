@@ -1,0 +1,198 @@
+// How expressions are rewritten: what is evaluated first is kept in the frame while the rest is evaluated.
+
+import { isConstant, isMethod, isPattern, runsCode } from "./tree.mjs";
+
+/** @typedef {import("./tree.mjs").Tree} Tree */
+/** @typedef {import("./scopes.mjs").Info} Info */
+/** @typedef {import("./writer.mjs").Writer} Writer */
+/** @typedef {import("./writer.mjs").Write} Write */
+
+/** @param {(tree: Tree) => (Tree | null)[]} operandsOf in the order of evaluation @returns {Write} */
+const operands = (operandsOf) => (writer, tree, info) => {
+  const trees = operandsOf(tree);
+  writer.keepOperands(info, trees, tree.end);
+  writer.writeAll(trees, info);
+};
+
+/** @param {Writer} writer @param {number} from @param {number} to a place with values that aren't shown */
+const hide = ({ analysis }, from, to) => void analysis.hidden.push([from, to]);
+
+/** @type {Record<string, Write>} by the types of trees */
+export const EXPRESSIONS = {
+  BinaryExpression: operands(({ left, right }) => (left.type === "PrivateIdentifier" ? [right] : [left, right])),
+  ArrayExpression: operands(({ elements }) => elements),
+  TemplateLiteral: operands(({ expressions }) => expressions),
+  TaggedTemplateExpression: operands(({ tag, quasi }) => [tag, ...quasi.expressions]),
+  NewExpression: (writer, tree, info) => {
+    if (!["Identifier", "MemberExpression"].includes(tree.callee.type)) hide(writer, tree.start, tree.end);
+    operands(({ callee, arguments: given }) => [callee, ...given])(writer, tree, info);
+  },
+  MemberExpression: operands(({ object, property, computed }) => (computed ? [object, property] : [object])),
+  ChainExpression: (writer, tree) => writer.hide(tree),
+  ObjectExpression: writeObject,
+  CallExpression: writeCall,
+  AssignmentExpression: writeAssignment,
+  UpdateExpression: writeUpdate,
+  VariableDeclarator: (writer, { init }, info) => writer.write(init, info),
+};
+
+/** @type {Write} */
+function writeObject(writer, tree, info) {
+  const { properties } = tree;
+  const values = properties.flatMap((/** @type {Tree} */ one) => {
+    if (one.type === "SpreadElement") return [one];
+    return [...(one.computed ? [one.key] : []), ...(isMethod(one) ? [] : [one.value])];
+  });
+  const last = values.map(runsCode).lastIndexOf(true);
+  /** @type {Set<Tree>} */
+  const shorthand = new Set(properties.flatMap((/** @type {Tree} */ one) => (one.shorthand ? [one.value] : [])));
+  values.forEach((/** @type {Tree} */ one, /** @type {number} */ at) => {
+    if (at >= last || !writer.isKept(one)) return;
+    if (one.type === "SpreadElement") {
+      hide(writer, tree.start, tree.end);
+      return;
+    }
+    const isImported = writer.analysis.bindingOf(one)?.kind === "import";
+    if (shorthand.has(one) && !isImported) writer.edits.before(one.start, `${one.name}: `);
+    writer.keep(info, one, tree.end);
+  });
+  for (const one of properties) {
+    if (one.computed) writer.write(one.key, info);
+    if (isMethod(one)) writer.write(one.value, info, true);
+    else if (!one.shorthand) writer.write(one.value ?? one.argument, info);
+  }
+}
+
+/** @type {Write} */
+function writeCall(writer, tree, info) {
+  const { callee, arguments: given } = tree;
+  if (!["Identifier", "MemberExpression", "Super"].includes(callee.type)) hide(writer, tree.start, tree.end);
+  if (!given.some(runsCode)) {
+    writer.writeAll([callee, ...given], info);
+    return;
+  }
+  const object = callee.type === "MemberExpression" ? callee.object : undefined;
+  if (object?.type === "Identifier" && writer.isGlobal(object)) writer.keepOperands(info, given, tree.end);
+  else if (callee.type === "Super" || object?.type === "Super" || tree.optional || callee.optional) {
+    hide(writer, tree.start, tree.end);
+  } else if (object !== undefined && isPrivateMethod(writer, callee)) {
+    // What a private method is can't change.
+    writer.keep(info, object, tree.end);
+    writer.keepOperands(info, given, tree.end);
+  } else if (object !== undefined) {
+    writeCallOfMember(writer, tree, info);
+    return;
+  } else if (callee.type === "Identifier" && writer.isFixed(callee)) writer.keepOperands(info, given, tree.end);
+  else writer.keepOperands(info, [callee, ...given], tree.end);
+  writer.writeAll([callee, ...given], info);
+}
+
+/** @param {Writer} writer @param {Tree} callee */
+const isPrivateMethod = ({ analysis }, { property }) =>
+  property.type === "PrivateIdentifier" && analysis.privateMethods.has(property.name);
+
+/**
+ * A call of an object's member: the object and the function are kept while the arguments are evaluated.
+ * @type {Write}
+ */
+function writeCallOfMember(writer, tree, info) {
+  const { callee, arguments: given } = tree;
+  const { edits } = writer;
+  const object = writer.room(info, callee.object.end, tree.end);
+  const method = writer.room(info, callee.end, tree.end);
+  edits.before(callee.start, `(${method} = (${object} = (`);
+  edits.after(callee.object.end, "))");
+  edits.after(callee.end, ")");
+  edits.replace(writer.source.indexOf("(", callee.end), 1, `.call(${object}, `);
+  writer.keepOperands(info, given, tree.end);
+  writer.write(callee.object, info);
+  if (callee.computed) writer.write(callee.property, info);
+  writer.writeAll(given, info);
+}
+
+const LOGICAL = new Set(["||=", "&&=", "??="]);
+
+/** @type {Write} */
+function writeAssignment(writer, tree, info) {
+  const { left, right, operator } = tree;
+  // While a setter runs, the engine has what the whole is worth.
+  if (left.type === "MemberExpression" && !writer.analysis.unused.has(tree)) hide(writer, tree.start, right.start);
+  const binary = operator === "=" || LOGICAL.has(operator) ? undefined : operator.slice(0, -1);
+  if (isPattern(left)) writer.write(right, info);
+  else if (left.type === "Identifier") {
+    if (binary !== undefined && runsCode(right)) {
+      const old = writer.room(info, left.end, tree.end);
+      replaceOperator(writer, tree, `= (${old} = ${left.name}) ${binary} (`);
+    }
+    writer.write(right, info);
+  } else if (binary !== undefined && left.object.type !== "Super") writeChange(writer, tree, info, binary);
+  else writeMemberAssignment(writer, tree, info);
+}
+
+/**
+ * @param {Writer} writer
+ * @param {Tree} tree an assignment
+ * @param {string} text up to the value; a parenthesis closes it
+ */
+function replaceOperator({ edits, source }, { left, operator, end }, text) {
+  edits.replace(source.indexOf(operator, left.end), operator.length, text);
+  edits.after(end, ")");
+}
+
+/**
+ * `o[k] += v`: its parts are evaluated in the order that they had.
+ * @param {Writer} writer
+ * @param {Tree} tree
+ * @param {Info} info
+ * @param {string} binary
+ */
+function writeChange(writer, tree, info, binary) {
+  const { left, right, end } = tree;
+  const member = keepMember(writer, left, info, end);
+  if (runsCode(right)) {
+    const old = writer.room(info, left.end, end);
+    replaceOperator(writer, tree, `= (${old} = ${member}) ${binary} (`);
+  }
+  writer.write(right, info);
+}
+
+/**
+ * Keeps the object and the key of a member.
+ * @param {Writer} writer
+ * @param {Tree} member
+ * @param {Info} info
+ * @param {number} end where they have been used
+ * @returns {string} what reads the member again
+ */
+function keepMember(writer, { object, property, computed, end: behind }, info, end) {
+  const kept = object.type === "Super" ? "super" : writer.keep(info, object, end);
+  const { source } = writer;
+  let key = source.slice(object.end, behind);
+  if (computed && isConstant(property)) key = `[${source.slice(property.start, property.end)}]`;
+  else if (computed) key = `[${writer.keep(info, property, end)}]`;
+  writer.write(object, info);
+  if (computed) writer.write(property, info);
+  return `${kept}${key}`;
+}
+
+/** @type {Write} */
+function writeMemberAssignment(writer, tree, info) {
+  const { left, right } = tree;
+  const needs = runsCode(right) || (left.computed && runsCode(left.property));
+  if (left.object.type === "Super") hide(writer, tree.start, tree.end);
+  else if (needs && writer.isKept(left.object)) writer.keep(info, left.object, tree.end);
+  if (needs && left.computed && !isConstant(left.property)) writer.keep(info, left.property, tree.end);
+  writer.write(left.object, info);
+  if (left.computed) writer.write(left.property, info);
+  writer.write(right, info);
+}
+
+/**
+ * `o[k]++` reads and writes: what its member is of is kept while it reads.
+ * @type {Write}
+ */
+function writeUpdate(writer, tree, info) {
+  if (tree.argument.type !== "MemberExpression") return;
+  if (!writer.analysis.unused.has(tree)) hide(writer, tree.start, tree.end);
+  keepMember(writer, tree.argument, info, tree.end);
+}

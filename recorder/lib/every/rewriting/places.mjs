@@ -1,0 +1,112 @@
+// What a function can still read at a place of its text at which it has called something: names, and values that are
+// kept in its frame. A place of which that isn't known says why.
+
+import { aliveIn } from "./live.mjs";
+
+/** @typedef {import("./tree.mjs").Tree} Tree */
+/** @typedef {import("./scopes.mjs").Info} Info */
+/** @typedef {import("./scopes.mjs").Binding} Binding */
+
+/**
+ * @typedef {object} Place
+ * @property {string} [unknown] why what is kept there can't be shown
+ * @property {number} fn the number of the function
+ * @property {boolean} makes whether it is a constructor
+ * @property {[number, number][]} alive scopes and positions of the names that can still be read
+ * @property {number[]} kept the values that are kept in the frame
+ */
+
+/** What can be going on at a place while something that it called runs. */
+const CALLERS = new Set([
+  "Identifier", "MemberExpression", "CallExpression", "NewExpression", "ThisExpression", "AssignmentExpression",
+  "UpdateExpression", "TaggedTemplateExpression", "PrivateIdentifier",
+]);
+
+export class Places {
+  /** @param {import("./analysis.mjs").Analysis} analysis */
+  constructor(analysis) {
+    this.analysis = analysis;
+    /** @type {Map<number, Place>} those that were asked for */
+    this.known = new Map();
+  }
+
+  /** @param {number} offset in the module's text @returns {Place} */
+  at(offset) {
+    let place = this.known.get(offset);
+    if (place === undefined) {
+      place = this.#judged(offset);
+      this.known.set(offset, place);
+    }
+    return place;
+  }
+
+  /** @param {number} offset @returns {Place} */
+  #judged(offset) {
+    const info = this.#functionAt(offset);
+    if (info === undefined) return unknown("code at the top level of a module");
+    if (info.isHidden) return unknown("a generator, an async function, a constructor of a derived class or the like");
+    const isHidden = this.analysis.hidden.some(([from, to]) => from <= offset && offset < to);
+    if (isHidden) return unknown("a place with values that aren't shown");
+    const alive = this.#aliveAt(info, offset);
+    if (typeof alive === "string") return unknown(`a call by ${alive}`);
+    if (info.made !== undefined) alive.add(info.made);
+    const shown = [...alive].filter(({ isShown }) => isShown);
+    const kept = info.temporaries.filter(({ from, to }) => from <= offset && offset < to);
+    return {
+      fn: info.id, makes: info.made !== undefined, kept: kept.map(({ id }) => id),
+      alive: shown.map(placeOf).sort(([a, b], [c, d]) => a - c || b - d),
+    };
+  }
+
+  /** @param {number} offset @returns {Info | undefined} the innermost function */
+  #functionAt(offset) {
+    const around = this.analysis.functions.filter(({ start, end }) => start <= offset && offset < end);
+    return around.sort((one, other) => other.start - one.start || one.end - other.end)[0];
+  }
+
+  /**
+   * @param {Info} info
+   * @param {number} offset
+   * @returns {Set<Binding> | string} what is alive after the calls that can be going on there, or what it is instead
+   */
+  #aliveAt(info, offset) {
+    info.alive ??= /** @type {Map<Tree, Set<Binding>>} */ (aliveIn(info, this.analysis));
+    /** @type {Set<Binding>} */
+    const alive = new Set();
+    /** @type {Tree | undefined} */
+    let least;
+    let isCall = false;
+    for (const [tree, out] of info.alive) {
+      // The end as well: a call that was rewritten begins where its callee ends.
+      if (tree.start > offset || offset > tree.end) continue;
+      if (canCallAt(tree, offset)) {
+        isCall = true;
+        for (const one of out) alive.add(one);
+      }
+      if (offset < tree.end && (least === undefined || tree.end - tree.start <= least.end - least.start)) least = tree;
+    }
+    if (least !== undefined && !CALLERS.has(least.type)) return least.type;
+    return isCall ? alive : "something that isn't known";
+  }
+}
+
+/**
+ * @param {Tree} tree
+ * @param {number} offset
+ * @returns {boolean} whether what it calls may be going on at a place in it
+ */
+function canCallAt(tree, offset) {
+  switch (tree.type) {
+    case "CallExpression": case "NewExpression": return offset <= tree.callee.end;
+    case "TaggedTemplateExpression": return offset <= tree.tag.end;
+    case "MemberExpression": case "UpdateExpression": return true;
+    case "AssignmentExpression": return offset < tree.right.start;
+    default: return false;
+  }
+}
+
+/** @param {Binding} binding @returns {[number, number]} */
+const placeOf = ({ scope, index }) => [scope.id, index];
+
+/** @param {string} why @returns {Place} */
+const unknown = (why) => ({ unknown: why, fn: 0, makes: false, alive: [], kept: [] });

@@ -1,0 +1,68 @@
+// One module, rewritten.
+
+import { Analysis } from "./analysis.mjs";
+import { linked } from "./modules.mjs";
+import { Places } from "./places.mjs";
+import { Writer } from "./writer.mjs";
+
+/** @typedef {import("./tree.mjs").Tree} Tree */
+
+/**
+ * @typedef {object} Rewritten
+ * @property {string} code an expression: the function of `$R`, what shows, and `$m`, what is imported and exported
+ * @property {string[]} imports the specifiers of what it imports
+ * @property {(place: number) => import("./places.mjs").Place} at what can be read at a place of the code
+ * @property {(place: number) => string} lineOf the line and the column, in the module's text, of a place of the code
+ */
+
+/** The names that rewritten code has. */
+const OWN_NAMES = /\$(?:R|m|f|i|o|x|e\d+|default)\b/;
+
+/**
+ * Rewrites a module.
+ * @param {Tree} tree
+ * @param {string} source
+ * @param {{ file: string, isEntry: boolean, isPlain?: boolean }} of the module: its name for messages, whether it is the
+ * agents' own, and whether it only becomes a function, with nothing that shows what it keeps
+ * @returns {Rewritten}
+ * @throws {import("../../options/refused.mjs").Refused}
+ */
+export function rewritten(tree, source, { file, isEntry, isPlain = false }) {
+  const analysis = new Analysis(tree, source, file);
+  const start = source.search(OWN_NAMES);
+  if (start >= 0) analysis.refuse({ start }, "a name that the recorder uses here");
+  const writer = new Writer(analysis);
+  const { edits } = writer;
+  if (source.startsWith("#!")) edits.replace(0, 2, "//");
+  const { imports, begins, exported } = linked(analysis, edits);
+  const shows = isPlain ? "" : shownModule(analysis, isEntry ? new Set() : exported);
+  edits.before(0, `(function ($R, $m) { "use strict"; ${shows} ${begins} `);
+  if (!isPlain) {
+    writer.registerDeclared(0, tree.body);
+    writer.writeAll(tree.body, null);
+  }
+  const { code, original } = edits.made();
+  const places = new Places(analysis);
+  return {
+    code: `${code}\n})`, imports, at: (place) => places.at(original(place)),
+    lineOf: (place) => lineAt(source, original(place)),
+  };
+}
+
+/**
+ * What shows the names of a module that its functions, or other modules, can read.
+ * @param {Analysis} analysis
+ * @param {Set<string>} exported
+ */
+function shownModule({ root }, exported) {
+  const shown = [...root.names.values()].filter(({ kind, name, references }) =>
+    kind !== "import" && (exported.has(name) || references.some(({ within }) => within !== null)));
+  const names = shown.map(({ index, name }) => `$i === ${index} ? ${name} : `);
+  return `$R.module(($i) => ${names.join("")}undefined, [${shown.map(({ index }) => index).join(", ")}]);`;
+}
+
+/** @param {string} source @param {number} place */
+function lineAt(source, place) {
+  const before = source.slice(0, place).split("\n");
+  return `${before.length}:${before[before.length - 1].length + 1}`;
+}

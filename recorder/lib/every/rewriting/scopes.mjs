@@ -1,0 +1,141 @@
+// The scopes of a module, the names that they bind, and the functions in which they are.
+
+import { childrenOf, isClass, isFunction, namesIn } from "./tree.mjs";
+
+/** @typedef {import("./tree.mjs").Tree} Tree */
+
+/**
+ * @typedef {"module" | "function" | "block" | "catch" | "for" | "each"} ScopeKind
+ * @typedef {"let" | "const" | "var" | "function" | "class" | "import" | "param" | "catch" | "self" | "pseudo"}
+ * BindingKind
+ */
+
+/**
+ * @typedef {object} Temporary a value that the engine would keep on its stack, and that is kept in the frame
+ * @property {number} id
+ * @property {number} from the place in the text where it is there
+ * @property {number} to where it isn't needed any more
+ */
+
+/** A name that a scope binds. `this` and its like are names too. */
+export class Binding {
+  /** @param {string} name @param {BindingKind} kind @param {Scope} scope @param {number} index */
+  constructor(name, kind, scope, index) {
+    this.name = name;
+    this.kind = kind;
+    this.scope = scope;
+    this.index = index;
+    /** @type {Reference[]} */
+    this.references = [];
+    this.isAlwaysShown = false;
+  }
+
+  /** Whether it is in what a scope shows: `this` and its like only if they are used. */
+  get isShown() {
+    return this.isAlwaysShown || (this.kind !== "pseudo" && this.kind !== "self") || this.references.length > 0;
+  }
+}
+
+/**
+ * @typedef {object} Reference a use of a name
+ * @property {string} name
+ * @property {Scope} scope in which it is used
+ * @property {number} start
+ * @property {number} end
+ * @property {Info | null} within the function in which it is used
+ * @property {boolean} reads
+ * @property {Binding} [binding]
+ */
+
+/** What is known about a function. */
+export class Info {
+  /** @param {number} id @param {Tree} tree @param {Info | null} outer */
+  constructor(id, tree, outer) {
+    this.id = id;
+    this.tree = tree;
+    this.outer = outer;
+    this.start = tree.start;
+    this.end = tree.end;
+    /** @type {Temporary[]} */
+    this.temporaries = [];
+    /** @type {Set<Binding>} of outer functions, to which it or what is in it refers */
+    this.captured = new Set();
+    /** Whether what it has can't be shown while it runs. */
+    this.isHidden = false;
+    /** @type {Map<Tree, Set<Binding>> | undefined} what is alive after each expression, when it was looked for */
+    this.alive = undefined;
+    /** @type {Binding | undefined} of a constructor what it makes */
+    this.made = undefined;
+  }
+}
+
+let nextId = 0;
+
+/** @returns {number} that no other scope, function or class has, in all modules */
+export function newId() {
+  nextId += 1;
+  return nextId;
+}
+
+export class Scope {
+  /** @param {Tree} tree @param {Scope | null} outer @param {Info | null} within @param {ScopeKind} kind */
+  constructor(tree, outer, within, kind) {
+    this.id = newId();
+    this.tree = tree;
+    this.outer = outer;
+    this.within = within;
+    this.kind = kind;
+    /** @type {Map<string, Binding>} */
+    this.names = new Map();
+    this.start = tree.start;
+    this.end = tree.end;
+  }
+
+  /** @param {string} name @param {BindingKind} kind */
+  declare(name, kind) {
+    const known = this.names.get(name);
+    if (known === undefined) this.names.set(name, new Binding(name, kind, this, this.names.size));
+    else if (kind === "function") known.kind = kind;
+  }
+
+  /** @param {Tree | null} pattern @param {BindingKind} kind */
+  declareAll(pattern, kind) {
+    for (const name of namesIn(pattern)) this.declare(name, kind);
+  }
+
+  /** @param {Tree[]} body whose `let`, `const`, functions and classes it binds */
+  declareLexical(body) {
+    for (const statement of body) {
+      const isExport = /^Export(?:Named|Default)Declaration$/.test(statement.type);
+      const declared = isExport ? statement.declaration : statement;
+      if (!declared) continue;
+      if (declared.type === "VariableDeclaration" && declared.kind !== "var") {
+        for (const one of declared.declarations) this.declareAll(one.id, declared.kind);
+      }
+      if (declared.type === "FunctionDeclaration" && declared.id) this.declare(declared.id.name, "function");
+      if (declared.type === "ClassDeclaration" && declared.id) this.declare(declared.id.name, "class");
+    }
+  }
+
+  /** @param {Tree} tree whose `var` it binds, except those of functions in it */
+  declareVariables(tree) {
+    if (isFunction(tree) || isClass(tree)) return;
+    if (tree.type === "VariableDeclaration" && tree.kind === "var") {
+      for (const one of tree.declarations) this.declareAll(one.id, "var");
+    }
+    for (const child of childrenOf(tree)) this.declareVariables(child);
+  }
+
+  /** @param {string} name @returns {Binding | undefined} what it means here */
+  find(name) {
+    /** @type {Scope | null} */
+    let scope = this;
+    while (scope !== null && !scope.names.has(name)) scope = scope.outer;
+    return scope?.names.get(name);
+  }
+
+  /** @returns {Binding[]} */
+  shown() {
+    return [...this.names.values()].filter(({ isShown }) => isShown);
+  }
+}

@@ -1,0 +1,75 @@
+// Trees of modules, as node's own parser makes them.
+
+/** @typedef {any} Tree a node of ESTree */
+
+/** @param {Tree} tree @returns {boolean} */
+export const isFunction = ({ type }) =>
+  type === "FunctionDeclaration" || type === "FunctionExpression" || type === "ArrowFunctionExpression";
+
+/** @param {Tree} tree @returns {boolean} */
+export const isLoop = ({ type }) => /^(?:For|While|DoWhile)/.test(type);
+
+/** @param {Tree} tree @returns {boolean} */
+export const isClass = ({ type }) => type === "ClassDeclaration" || type === "ClassExpression";
+
+/** @param {Tree} tree @returns {boolean} */
+export const isPattern = ({ type }) => type === "ArrayPattern" || type === "ObjectPattern";
+
+/** @param {Tree} property of an object's literal @returns {boolean} whether it is a method, a getter or a setter */
+export const isMethod = ({ type, method, kind }) => type === "Property" && (method || kind !== "init");
+
+/** @param {Tree} tree @returns {Tree[]} what it has directly in it, in the order of the members */
+export function childrenOf(tree) {
+  /** @type {Tree[]} */
+  const found = [];
+  for (const key of Object.keys(tree)) {
+    const value = tree[key];
+    if (Array.isArray(value)) found.push(...value.filter((one) => typeof one?.type === "string"));
+    else if (typeof value?.type === "string") found.push(value);
+  }
+  return found;
+}
+
+const RUNS = /^(?:Call|New|TaggedTemplate|Member|Chain|Import|Yield|Await|Class|Spread)/;
+
+/**
+ * Whether evaluating it may run code, or read shared memory. A function in it does that only when it is called.
+ * @param {Tree | null} tree
+ * @returns {boolean}
+ */
+export function runsCode(tree) {
+  if (tree === null || tree === undefined || isFunction(tree)) return false;
+  return RUNS.test(tree.type) || childrenOf(tree).some(runsCode);
+}
+
+/** @param {Tree} tree @returns {boolean} whether it has the same value each time */
+export function isConstant({ type, argument, expressions }) {
+  if (type === "UnaryExpression") return isConstant(argument);
+  return type === "Literal" || type === "Super" || (type === "TemplateLiteral" && expressions.length === 0);
+}
+
+/** @param {Tree | null | undefined} tree @returns {Tree | undefined} the first function in it */
+export function functionIn(tree) {
+  if (tree === null || tree === undefined) return undefined;
+  if (isFunction(tree)) return tree;
+  for (const child of childrenOf(tree)) {
+    const found = functionIn(child);
+    if (found !== undefined) return found;
+  }
+  return undefined;
+}
+
+/** @param {Tree | null} pattern @returns {string[]} the names that it declares */
+export function namesIn(pattern) {
+  if (pattern === null) return [];
+  switch (pattern.type) {
+    case "Identifier": return [pattern.name];
+    case "ObjectPattern":
+      return pattern.properties.flatMap((/** @type {Tree} */ one) =>
+        namesIn(one.type === "RestElement" ? one.argument : one.value));
+    case "ArrayPattern": return pattern.elements.flatMap(namesIn);
+    case "AssignmentPattern": return namesIn(pattern.left);
+    case "RestElement": return namesIn(pattern.argument);
+    default: return [];
+  }
+}

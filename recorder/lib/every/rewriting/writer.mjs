@@ -1,0 +1,262 @@
+// Rewrites a module so that all that its functions keep while they run can be shown. Each call of a function has a
+// frame with the cells of its names, and what the engine would keep on its stack is kept in the frame. The order in
+// which things are evaluated stays.
+
+import { Edits } from "./edits.mjs";
+import { EXPRESSIONS } from "./expressions.mjs";
+import { newId } from "./scopes.mjs";
+import { STATEMENTS } from "./statements.mjs";
+import { childrenOf, functionIn, isClass, isConstant, isFunction, isMethod, runsCode } from "./tree.mjs";
+
+/** @typedef {import("./tree.mjs").Tree} Tree */
+/** @typedef {import("./scopes.mjs").Info} Info */
+/** @typedef {import("./scopes.mjs").Scope} Scope */
+
+/** @typedef {(writer: Writer, tree: Tree, info: Info) => void} Write writes a tree, with all that is in it */
+
+const LEAVES = "} finally { $R.leave($f); }";
+
+export class Writer {
+  /** @param {import("./analysis.mjs").Analysis} analysis */
+  constructor(analysis) {
+    this.analysis = analysis;
+    this.source = analysis.source;
+    this.edits = new Edits(analysis.source);
+    this.temporaries = 0;
+  }
+
+  /**
+   * @param {Tree | null | undefined} tree
+   * @param {Info | null} info of the function in which it is; null: at the top level
+   * @param {boolean} [isMethodsValue] whether it is the function of a method
+   */
+  write(tree, info, isMethodsValue = false) {
+    if (tree === null || tree === undefined) return;
+    if (isFunction(tree)) this.#writeFunction(tree, isMethodsValue);
+    else if (isClass(tree)) this.#writeClass(tree, info);
+    else if (tree.type === "ObjectExpression" && tree.properties.some(isMethod)) this.#writeMethods(tree, info);
+    else if (info === null) this.writeAll(childrenOf(tree), info);
+    else {
+      const write = EXPRESSIONS[tree.type] ?? STATEMENTS[tree.type];
+      if (write === undefined) this.writeAll(childrenOf(tree), info);
+      else write(this, tree, info);
+    }
+  }
+
+  /** @param {(Tree | null)[]} trees @param {Info | null} info */
+  writeAll(trees, info) {
+    for (const tree of trees) this.write(tree, info);
+  }
+
+  /** @param {Tree} tree whose inside can't be shown: nothing may be made in it that lasts */
+  hide(tree) {
+    this.analysis.hidden.push([tree.start, tree.end]);
+    this.needsNoFunction(tree);
+  }
+
+  /** @param {Tree} tree */
+  needsNoFunction(tree) {
+    const inner = functionIn(tree);
+    if (inner !== undefined) this.analysis.refuse(inner, "a function within a place that can't be shown");
+  }
+
+  /**
+   * Gives a frame room for a value.
+   * @param {Info} info
+   * @param {number} from where the value is there
+   * @param {number} to where it isn't needed any more
+   * @returns {string} what it is kept in
+   */
+  room(info, from, to) {
+    const id = this.temporaries;
+    this.temporaries += 1;
+    info.temporaries.push({ id, from, to });
+    return `$f.t[${id}]`;
+  }
+
+  /**
+   * Keeps the value of an expression in the frame.
+   * @param {Info} info
+   * @param {Tree} tree
+   * @param {number} to where it isn't needed any more
+   * @returns {string} what it is kept in
+   */
+  keep(info, tree, to) {
+    const room = this.room(info, tree.end, to);
+    this.edits.before(tree.start, `(${room} = (`);
+    this.edits.after(tree.end, "))");
+    return room;
+  }
+
+  /**
+   * Keeps the values of operands while later ones are evaluated.
+   * @param {Info} info
+   * @param {(Tree | null)[]} operands
+   * @param {number} end where all have been used
+   */
+  keepOperands(info, operands, end) {
+    let last = -1;
+    operands.forEach((one, at) => {
+      if (runsCode(one)) last = at;
+    });
+    for (const one of operands.slice(0, Math.max(last, 0))) {
+      if (one === null || !this.isKept(one)) continue;
+      if (one.type !== "SpreadElement") {
+        this.keep(info, one, end);
+        continue;
+      }
+      const room = this.room(info, one.end, end);
+      this.edits.before(one.argument.start, `(${room} = [...(`);
+      this.edits.after(one.argument.end, ")])");
+    }
+  }
+
+  /** @param {Tree} tree @returns {boolean} whether its value has to be kept: it might be another one if read again */
+  isKept(tree) {
+    return !isConstant(tree) && !(tree.type === "Identifier" && this.isFixed(tree));
+  }
+
+  /** @param {Tree} tree an identifier @returns {boolean} whether it means a global of the engine */
+  isGlobal(tree) {
+    return this.analysis.bindingOf(tree) === undefined && Reflect.has(globalThis, tree.name);
+  }
+
+  /** @param {Tree} tree an identifier @returns {boolean} whether it means the same whenever it is read */
+  isFixed(tree) {
+    const binding = this.analysis.bindingOf(tree);
+    if (binding === undefined) return this.isGlobal(tree);
+    const { kind, references, scope } = binding;
+    const isConstant = ["const", "function", "class"].includes(kind);
+    return scope.kind === "module" && isConstant && references.every(({ reads }) => reads);
+  }
+
+  /** @param {Scope} scope @returns {string} what makes its names visible */
+  environment(scope) {
+    const names = scope.shown().map(({ index, name }) => `$i === ${index} ? ${name} : `);
+    return `$f.e[${scope.id}] = $R.environment(($i) => ${names.join("")}undefined)`;
+  }
+
+  /** @param {Info} info @returns {string} the cells of what it captures */
+  cells(info) {
+    if (info.outer === null) return "null";
+    return `[${[...info.captured].map(({ scope, index }) => `[$e${scope.id}, ${index}]`).join(", ")}]`;
+  }
+
+  /**
+   * The functions that a block declares are there from its beginning.
+   * @param {number} at
+   * @param {Tree[]} statements
+   */
+  registerDeclared(at, statements) {
+    for (const statement of statements) {
+      const tree = /^Export/.test(statement.type) ? statement.declaration : statement;
+      if (tree?.type !== "FunctionDeclaration" || !tree.id) continue;
+      const info = this.infoOf(tree);
+      this.edits.before(at, `$R.fn(${info.id}, ${this.cells(info)}, ${tree.id.name});`);
+    }
+  }
+
+  /** @param {Tree} tree a function, or a class @returns {Info} */
+  infoOf(tree) {
+    return /** @type {Info} */ (this.analysis.infos.get(tree));
+  }
+
+  /** @param {Tree} tree @returns {boolean} whether there is nothing in its braces */
+  #isEmpty(tree) {
+    return tree.end - tree.start === 2;
+  }
+
+  /** @param {Tree} block @param {string} text that goes before its closing brace */
+  atEnd(block, text) {
+    if (this.#isEmpty(block)) this.edits.before(block.end - 1, text);
+    else this.edits.after(block.end - 1, text);
+  }
+
+  /** @param {Tree} tree @param {boolean} isMethodsValue */
+  #writeFunction(tree, isMethodsValue) {
+    const { analysis, edits } = this;
+    const info = this.infoOf(tree);
+    const isStatement = tree.type === "FunctionDeclaration" && tree.id;
+    if (!isStatement && !isMethodsValue) {
+      edits.before(tree.start, `$R.fn(${info.id}, ${this.cells(info)}, (`);
+      edits.after(tree.end, "))");
+    }
+    if (info.isHidden) {
+      childrenOf(tree).forEach((child) => this.needsNoFunction(child));
+      return;
+    }
+    const own = /** @type {Scope} */ (analysis.own.get(tree));
+    const shows = `const $e${own.id} = ${this.environment(own)};`;
+    const enters = `const $f = $R.enter(${info.id}, ${this.cells(info)}); try { ${shows}`;
+    if (tree.body.type === "BlockStatement") {
+      edits.before(tree.body.start + 1, enters);
+      this.registerDeclared(tree.body.start + 1, tree.body.body);
+      this.atEnd(tree.body, LEAVES);
+      this.writeAll(tree.body.body, info);
+    } else {
+      const arrow = this.source.indexOf("=>", tree.params.at(-1)?.end ?? tree.start) + 2;
+      edits.before(arrow, `{ ${enters} return (`);
+      edits.after(tree.end, `); ${LEAVES} }`);
+      this.write(tree.body, info);
+    }
+  }
+
+  /** @param {Tree} tree @param {Info | null} info */
+  #writeClass(tree, info) {
+    const { body: { body, start }, superClass } = tree;
+    this.write(superClass, info);
+    const cells = this.#cellsOfMethods(tree, body, info);
+    this.edits.before(start + 1, `static { $R.cls(${newId()}, this, ${readerOf(body)}, {${cells}}); }`);
+    for (const member of body) {
+      if (member.computed) this.write(member.key, info);
+      if (member.type === "MethodDefinition") this.write(member.value, info, true);
+    }
+  }
+
+  /**
+   * What the methods of a class or of an object capture, by their keys.
+   * @param {Tree} tree
+   * @param {Tree[]} members
+   * @param {Info | null} info
+   */
+  #cellsOfMethods(tree, members, info) {
+    if (info === null) return "";
+    const methods = members.filter((one) => one.type === "MethodDefinition" || isMethod(one));
+    const named = methods.filter((one) => one.kind !== "constructor" && one.key.type !== "PrivateIdentifier");
+    const cells = named.map((one) => {
+      const own = this.infoOf(one.value);
+      const isLost = one.computed && own.captured.size > 0;
+      if (isLost) this.analysis.refuse(one, "a method with a computed name in a function");
+      const kind = one.kind === "get" || one.kind === "set" ? one.kind : "value";
+      const key = one.computed ? undefined : `${one.static ? "s" : "p"} ${kind} ${one.key.name ?? one.key.value}`;
+      return key === undefined ? "" : `${JSON.stringify(key)}: ${this.cells(own)}, `;
+    });
+    if (!isClass(tree)) return cells.join("");
+    const makers = [tree, ...methods.filter((one) => one.kind === "constructor").map(({ value }) => value)];
+    const captured = new Set(makers.flatMap((one) => [...this.infoOf(one).captured]));
+    const own = [...captured].map(({ scope, index }) => `[$e${scope.id}, ${index}]`).join(", ");
+    return `${cells.join("")}"class": [${own}]`;
+  }
+
+  /** @param {Tree} tree an object with methods @param {Info | null} info */
+  #writeMethods(tree, info) {
+    this.edits.before(tree.start, `$R.obj(${newId()}, (`);
+    this.edits.after(tree.end, `), {${this.#cellsOfMethods(tree, tree.properties, info)}})`);
+    if (info !== null) EXPRESSIONS.ObjectExpression(this, tree, info);
+    else {
+      for (const one of tree.properties) {
+        if (one.computed) this.write(one.key, info);
+        this.write(one.value ?? one.argument, info, isMethod(one));
+      }
+    }
+  }
+}
+
+/** @param {Tree[]} body of a class @returns {string} what shows the private fields of an object, if there are any */
+function readerOf(body) {
+  const fields = body.filter(({ type, key }) => type === "PropertyDefinition" && key.type === "PrivateIdentifier");
+  if (fields.length === 0) return "null";
+  const has = fields.map(({ key: { name } }) => `#${name} in $o`);
+  const read = fields.map(({ key: { name } }, at) => `${has[at]}, ${has[at]} ? $o.#${name} : 0`);
+  return `($o) => ${has.join(" || ")} ? [${read.join(", ")}] : null`;
+}

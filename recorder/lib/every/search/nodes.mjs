@@ -1,0 +1,68 @@
+// The nodes of automata. A node is what an agent asks for next: a call of Atomics, an ordinary read or write, or its
+// end. Edges lead on by what it is answered.
+
+import { CALLS, CALL_NUMBERS } from "../../../script/kinds.mjs";
+
+const { load: LOAD, store: STORE, wait: WAIT, notify: NOTIFY, compareExchange: COMPARE_EXCHANGE } = CALL_NUMBERS;
+
+/** What a node does: the number of its call in `CALLS`, or one of these. */
+export const DOES = Object.freeze({
+  LOAD, STORE, COMPARE_EXCHANGE, WAIT, NOTIFY, ADD: CALL_NUMBERS.add, SUB: CALL_NUMBERS.sub, AND: CALL_NUMBERS.and,
+  OR: CALL_NUMBERS.or, XOR: CALL_NUMBERS.xor, EXCHANGE: CALL_NUMBERS.exchange,
+  READ: CALLS.length, WRITE: CALLS.length + 1, FINISHED: CALLS.length + 2, THREW: CALLS.length + 3,
+});
+
+/** The answers of a wait, as edges have them. */
+export const OK = 0;
+export const NOT_EQUAL = 1;
+export const TIMED_OUT = 2;
+
+/** The answer of what is answered nothing: a store or a write. */
+export const DONE = 0;
+
+/**
+ * What an edge goes by. Of a call that reads an element: its bytes as a Number without a sign, or as a BigInt if there
+ * are eight; of a read of 1, 2 or 4 bytes the same; of another read its bytes in hexadecimal digits; of a notify its
+ * count; of a wait one of the numbers above; of a call that throws the error's name.
+ * @typedef {number | bigint | string} Answer
+ */
+
+/**
+ * @typedef {object} Node
+ * @property {number} id its number among the nodes of all automata
+ * @property {number} automaton the position of its automaton
+ * @property {number} does one of `DOES`, or another number of `CALLS`
+ * @property {number} kind the number of the kind of its array; of what is no call 0
+ * @property {number} block
+ * @property {number} byte its first byte in that block
+ * @property {number} size how many bytes it touches
+ * @property {number} at its first byte in the bytes of all blocks
+ * @property {(number | bigint)[]} operands as the code gave them
+ * @property {(number | bigint)[]} raw the same as elements, without a sign
+ * @property {number | undefined} limit the timeout of a wait in milliseconds, or the count of a notify
+ * @property {string | undefined} error what the call throws wherever it is made
+ * @property {{ offset: number, length: number, index: number } | undefined} outside of a call that is at no element of
+ * its array: what its array is, and the index
+ * @property {Uint8Array | undefined} written by a write
+ * @property {boolean} isAlone whether it is a read that is an act of its own
+ * @property {string | undefined} text that it threw
+ * @property {Map<Answer, Node>} edges
+ */
+
+/** @param {Partial<Node> & Pick<Node, "id" | "automaton" | "does">} given @returns {Node} with what isn't given */
+export const nodeOf = (given) => ({
+  kind: 0, block: 0, byte: 0, size: 0, at: 0, operands: [], raw: [], limit: undefined, error: undefined,
+  outside: undefined, written: undefined, isAlone: false, text: undefined, edges: new Map(), ...given,
+});
+
+/** @param {Node} node @returns {boolean} whether it is a call of Atomics */
+export const isCall = ({ does }) => does < DOES.READ;
+
+/** @param {Node} node @returns {boolean} whether it is an end */
+export const isEnd = ({ does }) => does >= DOES.FINISHED;
+
+/** @param {Node} node @returns {boolean} whether it is an ordinary access within the act before it */
+export const isWithinAct = ({ does, isAlone }) => (does === DOES.READ || does === DOES.WRITE) && !isAlone;
+
+/** @param {Node} node @returns {boolean} whether it is a wait that a time can end */
+export const isTimed = ({ does, limit }) => does === DOES.WAIT && limit !== undefined;

@@ -1,0 +1,279 @@
+// What a search has found, in the form in which the proved search reports it.
+
+import { Conflicts } from "./conflicts.mjs";
+import { hexOf } from "./elements.mjs";
+import { DOES } from "./nodes.mjs";
+import { answerText } from "./text.mjs";
+
+/** @typedef {import("./search.mjs").Search} Search */
+/** @typedef {import("./nodes.mjs").Node} Node */
+/** @typedef {import("./conflicts.mjs").Conflict} Conflict */
+
+/** @typedef {[number, string]} ActData an agent, and what it did */
+/** @typedef {{ states: number, first: number }} Found how many states have something, and the first one */
+/** @typedef {Found & { text: string }} FoundText */
+/** @typedef {Found & { one: Node, other: Node }} FoundPair */
+/** @typedef {Found & { memory: number }} FoundFinal */
+/** @typedef {Found & { unknown: import("./world.mjs").Unknown }} FoundUnknown */
+
+/** Finds the kinds of the states of a search that has run. */
+export class Kinds {
+  /** @param {Search} search */
+  constructor(search) {
+    this.search = search;
+    this.conflictsHere = new Conflicts(search.world);
+    /** @type {Map<string, FoundText>} */
+    this.failed = new Map();
+    /** @type {Found | undefined} */
+    this.deadlock = undefined;
+    /** @type {Found | undefined} */
+    this.noWayOut = undefined;
+    /** @type {Map<string, FoundPair>} */
+    this.conflicts = new Map();
+    /** @type {Map<number, FoundFinal>} by the numbers of their bytes */
+    this.finals = new Map();
+    /** @type {Map<string, FoundUnknown>} */
+    this.unknown = new Map();
+    this.finalStates = 0;
+    /** @type {Uint8Array | undefined} of each state whether one without an act is reached, if that was looked for */
+    this.leads = undefined;
+  }
+
+  /** Looks at all states; those of a search that isn't closed as far as it has all of their depth. */
+  find() {
+    const { search } = this;
+    const { world } = search;
+    const depth = search.isClosed ? Infinity : search.depths.items[search.expanded];
+    for (let state = 0; state < search.count && search.depths.items[state] <= depth; state += 1) {
+      world.load(state);
+      this.#look(state);
+    }
+    const last = world.program.mayLack ? search.count : 0;
+    for (let state = 0; state < last && search.depths.items[state] <= depth; state += 1) this.#lookForUnknown(state);
+    if (search.isClosed && search.lost === undefined) this.#findNoWayOut();
+    return this;
+  }
+
+  /** @param {number} state that is loaded */
+  #look(state) {
+    const { world } = this.search;
+    const { texts, isFinal, isDeadlock } = endingHere(this.search);
+    for (const text of [...texts].sort(inBytes)) count(this.failed, text, state, { text });
+    if (isDeadlock) this.deadlock = more(this.deadlock, state);
+    if (isFinal) {
+      this.finalStates += 1;
+      count(this.finals, world.memory, state, { memory: world.memory });
+    }
+    this.#lookForConflicts(state);
+  }
+
+  /** @param {number} state */
+  #lookForUnknown(state) {
+    /** @type {Map<string, import("./world.mjs").Unknown>} */
+    const here = new Map();
+    for (const unknown of this.search.unknownAt(state)) here.set(unknownName(unknown), unknown);
+    const sorted = [...here.values()].sort((one, other) =>
+      one.node.id - other.node.id || inBytes(textOf(one), textOf(other)));
+    for (const unknown of sorted) count(this.unknown, unknownName(unknown), state, { unknown });
+  }
+
+  /** @param {number} state */
+  #lookForConflicts(state) {
+    const here = this.pairsHere();
+    if (here.size === 0) return;
+    const sorted = [...here.values()].sort((a, b) => a.one.id - b.one.id || a.other.id - b.other.id);
+    for (const { one, other } of sorted) count(this.conflicts, `${one.id} ${other.id}`, state, { one, other });
+  }
+
+  /** @returns {Map<string, Conflict>} the conflicts of the loaded state, each pair of nodes once, by its name */
+  pairsHere() {
+    /** @type {Map<string, Conflict>} */
+    const here = new Map();
+    for (const { one, other, agents } of this.conflictsHere.here()) {
+      const [first, second] = one.id < other.id ? [one, other] : [other, one];
+      here.set(`${first.id} ${second.id}`, { one: first, other: second, agents });
+    }
+    return here;
+  }
+
+  /** Looks for states from which none is reached that has no act. */
+  #findNoWayOut() {
+    const { search } = this;
+    this.leads = leadsOut(search);
+    for (let state = 0; state < search.count; state += 1) {
+      if (this.leads[state] === 0) this.noWayOut = more(this.noWayOut, state);
+    }
+  }
+
+  /** @param {number} state @returns {boolean} whether it has no way out */
+  hasNoWayOut(state) {
+    return this.leads !== undefined && this.leads[state] === 0;
+  }
+}
+
+/**
+ * What kinds the loaded state has besides: texts that were thrown, whether all have ended, and whether it is a
+ * deadlock.
+ * @param {Search} search
+ * @returns {{ texts: Set<string>, isFinal: boolean, isDeadlock: boolean }}
+ */
+export function endingHere({ world, timeouts }) {
+  let ended = 0;
+  let acts = 0;
+  /** @type {Set<string>} */
+  const texts = new Set();
+  for (let agent = 0; agent < world.count; agent += 1) {
+    const { does, text } = world.nodes[agent];
+    if (does === DOES.THREW) texts.add(text ?? "");
+    if (does === DOES.FINISHED) ended += 1;
+    if (world.canAct(agent) || (timeouts !== "never" && world.canTimeOut(agent))) acts += 1;
+  }
+  const isFinal = ended === world.count;
+  return { texts, isFinal, isDeadlock: !isFinal && texts.size === 0 && acts === 0 };
+}
+
+/** @param {string} one @param {string} other @returns {number} their order by their bytes in UTF-8 */
+function inBytes(one, other) {
+  const [bytes, others] = [one, other].map((text) => hexOf(Buffer.from(text), 0, Buffer.byteLength(text)));
+  if (bytes === others) return 0;
+  return bytes < others ? -1 : 1;
+}
+
+/** @param {import("./world.mjs").Unknown} unknown */
+const textOf = ({ node, answer }) => answerText(node, answer);
+
+/** @param {import("./world.mjs").Unknown} unknown */
+const unknownName = (unknown) => `${unknown.node.id} ${textOf(unknown)}`;
+
+/**
+ * @template {string | number} Name
+ * @template {object} More
+ * @param {Map<Name, Found & More>} found
+ * @param {Name} name
+ * @param {number} state
+ * @param {More} besides
+ */
+function count(found, name, state, besides) {
+  const known = found.get(name);
+  if (known === undefined) found.set(name, { states: 1, first: state, ...besides });
+  else known.states += 1;
+}
+
+/** @param {Found | undefined} found @param {number} state @returns {Found} */
+const more = (found, state) => ({ states: (found?.states ?? 0) + 1, first: found?.first ?? state });
+
+/** @param {Search} search that is closed @returns {Uint8Array} of each state whether one without an act is reached */
+function leadsOut({ count: states, targets, starts }) {
+  const begins = new Int32Array(states + 1);
+  for (let at = 0; at < targets.count; at += 1) begins[targets.items[at] + 1] += 1;
+  for (let state = 0; state < states; state += 1) begins[state + 1] += begins[state];
+  const sources = new Int32Array(targets.count);
+  const next = begins.slice();
+  const leads = new Uint8Array(states);
+  const queue = [];
+  for (let state = 0; state < states; state += 1) {
+    const [from, to] = [starts.items[state], starts.items[state + 1]];
+    for (let at = from; at < to; at += 1) sources[next[targets.items[at]]++] = state;
+    if (from < to) continue;
+    leads[state] = 1;
+    queue.push(state);
+  }
+  for (let state = queue.pop(); state !== undefined; state = queue.pop()) {
+    for (let at = begins[state]; at < begins[state + 1]; at += 1) {
+      if (leads[sources[at]] === 1) continue;
+      leads[sources[at]] = 1;
+      queue.push(sources[at]);
+    }
+  }
+  return leads;
+}
+
+/**
+ * What an agent does in the loaded state, in words; the world goes on.
+ * @param {import("./world.mjs").World} world
+ * @param {number} agent
+ * @returns {string}
+ */
+export function didText(world, agent) {
+  const node = world.nodes[agent];
+  const wasWaiting = world.waits(agent);
+  const wasWoken = world.wasWoken(agent);
+  if (wasWaiting) world.timeOut(agent);
+  else if (!world.act(agent)) return "";
+  if (wasWaiting) return "leave timed-out";
+  if (wasWoken) return "leave ok";
+  if (world.waits(agent)) return "wait";
+  return doneText(node, world.answered);
+}
+
+/** @param {Node} node @param {import("./nodes.mjs").Answer} answer */
+function doneText(node, answer) {
+  if (node.does === DOES.WRITE) return "write";
+  return `${node.does === DOES.READ ? "read" : "act"} ${answerText(node, answer)}`;
+}
+
+/** @param {Search} search @param {number} state @returns {number[]} the agents whose acts lead there */
+export function agentsTo({ parents, by }, state) {
+  /** @type {number[]} */
+  const agents = [];
+  for (let at = state; parents.items[at] >= 0; at = parents.items[at]) agents.unshift(by.items[at]);
+  return agents;
+}
+
+/** @param {Search} search @param {number} state @returns {ActData[]} the acts that lead there */
+export function scheduleTo(search, state) {
+  const { world } = search;
+  world.load(0);
+  return agentsTo(search, state).map((agent) => [agent, didText(world, agent)]);
+}
+
+const MOST_CONFLICTS = 100;
+const MOST_FINALS = 1_000;
+
+/**
+ * A search's result, as data for JSON.
+ * @param {Search} search
+ * @param {Kinds} kinds
+ * @param {{ position: (node: Node) => [number, number], blocksOf: (memory: number) => string[] }} named the automaton
+ * and the position in it of a node, as the file has it; the bytes of each block in hexadecimal digits
+ */
+export function resultOf(search, kinds, { position, blocksOf }) {
+  const { isClosed, expanded, depths, lost } = search;
+  /** @param {Found} found */
+  const row = ({ states, first }) => ({ states, schedule: scheduleTo(search, first) });
+  /** @param {Found | undefined} found */
+  const kind = (found) => (found === undefined ? null : row(found));
+  const { failed, deadlock, noWayOut, conflicts, finals, finalStates } = kinds;
+  /** @param {import("./world.mjs").Unknown} unknown */
+  const edge = ({ node, answer }) => {
+    const [automaton, at] = position(node);
+    return { automaton, node: at, answer: answerText(node, answer) };
+  };
+  const unknown = [...kinds.unknown.values()].map(({ unknown: one, ...found }) => ({ ...edge(one), ...row(found) }));
+  return {
+    timeouts: search.timeouts, limit: search.limit, closed: isClosed, states: search.count, acts: search.acts ?? 0,
+    expanded: isClosed ? null : expanded, depth: isClosed ? null : depths.items[expanded],
+    deadlock: kind(deadlock), failed: [...failed.values()].map(({ text, ...found }) => ({ text, ...row(found) })),
+    no_way_out: kind(noWayOut),
+    unknown: lost === undefined ? unknown : [{ ...edge(lost), states: 0, schedule: [] }],
+    conflicts: {
+      count: conflicts.size,
+      listed: [...conflicts.values()].slice(0, MOST_CONFLICTS)
+        .map(({ one, other, ...found }) => ({ pair: [position(one), position(other)], ...row(found) })),
+    },
+    final: {
+      states: finalStates, count: finals.size,
+      listed: [...finals.values()].slice(0, MOST_FINALS)
+        .map(({ memory, ...found }) => ({ blocks: blocksOf(memory), ...row(found) })),
+    },
+  };
+}
+
+/** @param {import("./world.mjs").World} world @param {number} memory @returns {string[]} the bytes of each block */
+export function blocksIn({ memories, program: { bases, lengths } }, memory) {
+  const from = memory * memories.width;
+  const bytes = /** @type {Uint8Array} */ (memories.items);
+  return lengths.map((length, block) => hexOf(bytes, from + bases[block], from + bases[block] + length));
+}
+
+/** @typedef {ReturnType<typeof resultOf>} Result */

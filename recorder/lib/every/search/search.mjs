@@ -1,0 +1,166 @@
+// All states that agents can reach, nearest first, and numbered in the order in which they are found.
+
+import { DOES } from "./nodes.mjs";
+import { Numbers } from "./rows.mjs";
+import { World } from "./world.mjs";
+
+/** @typedef {"early" | "last" | "never"} Choice when a wait's time may be over */
+
+/**
+ * @typedef {object} Bounds
+ * @property {Choice} timeouts
+ * @property {number} limit how many states at most
+ * @property {(states: number) => boolean} [isLate] whether the search is to stop now; it is asked now and then
+ */
+
+const ASKS_EVERY = 256;
+
+export class Search {
+  /** @param {import("./world.mjs").Program} program @param {Bounds} bounds */
+  constructor(program, { timeouts, limit, isLate = () => false }) {
+    this.world = new World(program);
+    this.timeouts = timeouts;
+    this.limit = limit;
+    this.isLate = isLate;
+    /** Of each state the number of the one from which it was found. */
+    this.parents = new Numbers();
+    /** Of each state by whose act. */
+    this.by = new Numbers();
+    this.depths = new Numbers();
+    /** Of the states before `expanded`, one after another: to which state each act leads. */
+    this.targets = new Numbers();
+    /** By whose act. */
+    this.actors = new Numbers();
+    /** Where each state's acts begin, and behind the last one. */
+    this.starts = new Numbers();
+    /** @type {import("./world.mjs").Unknown | undefined} why there is no first state */
+    this.lost = undefined;
+    this.isClosed = false;
+    /** @type {"states" | "time" | undefined} which bound was met */
+    this.bound = undefined;
+    /** The first state whose acts weren't all taken. */
+    this.expanded = 0;
+  }
+
+  /** How many states there are. */
+  get count() {
+    return this.world.states.count;
+  }
+
+  /** How many acts lead to a state, of the states of which all were taken. */
+  get acts() {
+    return this.starts.items[this.expanded];
+  }
+
+  /** Finds the states, up to a bound. */
+  run() {
+    const { world } = this;
+    if (!world.begin()) {
+      this.lost = world.unknown;
+      this.isClosed = true;
+      return;
+    }
+    world.save();
+    this.#found(-1, -1, 0);
+    for (let state = 0; state < this.count; state += 1) {
+      this.starts.push(this.targets.count);
+      this.expanded = state;
+      const isStopped = state % ASKS_EVERY === 0 && this.isLate(this.count);
+      if (isStopped) this.bound = "time";
+      if (isStopped || !this.#expand(state)) return;
+    }
+    this.starts.push(this.targets.count);
+    this.expanded = this.count;
+    this.isClosed = true;
+  }
+
+  /** @param {number} state @returns {boolean} whether all its acts were taken */
+  #expand(state) {
+    const { world } = this;
+    world.load(state);
+    if (hasThrown(world)) return true;
+    const times = this.#hasTimes(state);
+    for (let agent = 0; agent < world.count; agent += 1) {
+      if (world.canAct(agent)) {
+        if (!this.#take(state, agent, world.act(agent))) return false;
+        world.load(state);
+      } else if (times && world.canTimeOut(agent)) {
+        if (!this.#take(state, agent, world.timeOut(agent))) return false;
+        world.load(state);
+      }
+    }
+    return true;
+  }
+
+  /** @param {number} state that is loaded @returns {boolean} whether a wait's time may be over in it */
+  #hasTimes(state) {
+    return this.timeouts === "early" || (this.timeouts === "last" && this.#isStill(state));
+  }
+
+  /**
+   * @param {number} state
+   * @returns {import("./world.mjs").Unknown[]} why acts of it lead nowhere
+   */
+  unknownAt(state) {
+    const { world } = this;
+    world.load(state);
+    if (hasThrown(world)) return [];
+    const times = this.#hasTimes(state);
+    /** @type {import("./world.mjs").Unknown[]} */
+    const found = [];
+    for (let agent = 0; agent < world.count; agent += 1) {
+      const canAct = world.canAct(agent);
+      const leads = canAct ? world.act(agent) : !(times && world.canTimeOut(agent)) || world.timeOut(agent);
+      if (!leads) found.push(/** @type {import("./world.mjs").Unknown} */ (world.unknown));
+      world.load(state);
+    }
+    return found;
+  }
+
+  /** @param {number} state that is loaded @returns {boolean} whether no act leads to another one, except by a time */
+  #isStill(state) {
+    const { world } = this;
+    for (let agent = 0; agent < world.count; agent += 1) {
+      if (!world.canAct(agent)) continue;
+      const isSame = world.act(agent) && world.isAt(state);
+      world.load(state);
+      if (!isSame) return false;
+    }
+    return true;
+  }
+
+  /**
+   * Notes where an act has led.
+   * @param {number} state
+   * @param {number} agent
+   * @param {boolean} leads
+   * @returns {boolean} whether there is room for it
+   */
+  #take(state, agent, leads) {
+    const { world } = this;
+    if (!leads) return true;
+    const before = world.states.count;
+    const next = world.save(this.limit);
+    if (next < 0) {
+      this.bound = "states";
+      return false;
+    }
+    if (next === before) this.#found(state, agent, this.depths.items[state] + 1);
+    this.targets.push(next);
+    this.actors.push(agent);
+    return true;
+  }
+
+  /** @param {number} parent @param {number} agent @param {number} depth */
+  #found(parent, agent, depth) {
+    this.parents.push(parent);
+    this.by.push(agent);
+    this.depths.push(depth);
+  }
+}
+
+/** @param {World} world @returns {boolean} whether some agent has thrown */
+export function hasThrown(world) {
+  for (let agent = 0; agent < world.count; agent += 1) if (world.nodes[agent].does === DOES.THREW) return true;
+  return false;
+}

@@ -1,0 +1,235 @@
+// A state to work on, and the acts that lead from it to others (tests/search/FORMAT.md has the definitions).
+
+import { answerOfRead, changed, putRaw, rawAt } from "./elements.mjs";
+import { DONE, DOES, NOT_EQUAL, OK, TIMED_OUT, isCall, isEnd, isTimed, isWithinAct } from "./nodes.mjs";
+import { Lists, Rows } from "./rows.mjs";
+
+/** @typedef {import("./nodes.mjs").Node} Node */
+/** @typedef {import("./nodes.mjs").Answer} Answer */
+
+/**
+ * @typedef {object} Program agents that are automata
+ * @property {number[]} lengths of the blocks
+ * @property {number[]} bases of each block: where it begins in the bytes of all
+ * @property {Uint8Array} initial the bytes of all blocks at first
+ * @property {{ canBlock: boolean, root: Node }[]} agents with the first node of each one's automaton
+ * @property {Node[]} nodes of all automata, by their numbers
+ * @property {boolean} mayLack whether edges may not be there for good
+ * @property {(node: Node, answer: Answer, bytes: Uint8Array) => Node | undefined} learn finds the node to which an edge
+ * leads that isn't there yet; it may read these bytes. Undefined: nobody knows it
+ */
+
+/** A result that has no edge. */
+export class Unknown {
+  /** @param {Node} node @param {Answer} answer */
+  constructor(node, answer) {
+    this.node = node;
+    this.answer = answer;
+  }
+}
+
+// A state's row: the number of its bytes, that of its line, the agents that were woken, and of each agent its node and
+// the number of the list of its recent accesses.
+const BYTES = 0;
+const LINE = 1;
+const WOKEN = 2;
+const FIRST = 3;
+
+export class World {
+  /** @param {Program} program */
+  constructor(program) {
+    const { agents, initial } = program;
+    this.program = program;
+    this.count = agents.length;
+    this.bytes = Uint8Array.from(initial);
+    /** @type {Node[]} */
+    this.nodes = agents.map(({ root }) => root);
+    /** @type {number[]} of each agent the number of a list of nodes */
+    this.recent = agents.map(() => 0);
+    /** The number of the list of those that wait. */
+    this.line = 0;
+    /** The agents that were woken and haven't left, a bit for each. */
+    this.woken = 0;
+    this.lists = new Lists();
+    this.memories = new Rows(Uint8Array, initial.length);
+    this.states = new Rows(Int32Array, FIRST + 2 * agents.length);
+    this.row = new Int32Array(FIRST + 2 * agents.length);
+    this.hasWritten = true;
+    /** The number of the bytes that were loaded. */
+    this.memory = 0;
+    /** @type {Unknown | undefined} why the last act leads nowhere */
+    this.unknown = undefined;
+    /** @type {Answer} of the last act */
+    this.answered = DONE;
+  }
+
+  /** Begins: each agent in turn makes its accesses before its first call. @returns {boolean} whether all could */
+  begin() {
+    for (let agent = 0; agent < this.count; agent += 1) if (!this.#segment(agent, this.nodes[agent])) return false;
+    return true;
+  }
+
+  /** @param {number} [most] states @returns {number} the state's number, or -1 if it is new and there is no room */
+  save(most) {
+    const { row } = this;
+    if (this.hasWritten) this.memory = this.memories.put(this.bytes);
+    this.hasWritten = false;
+    row[BYTES] = this.memory;
+    row[LINE] = this.line;
+    row[WOKEN] = this.woken;
+    for (let agent = 0; agent < this.count; agent += 1) {
+      row[FIRST + 2 * agent] = this.nodes[agent].id;
+      row[FIRST + 2 * agent + 1] = this.recent[agent];
+    }
+    return this.states.put(row, most);
+  }
+
+  /** @param {number} state */
+  load(state) {
+    const { items, width } = this.states;
+    const from = state * width;
+    if (this.hasWritten || this.memory !== items[from + BYTES]) {
+      this.memory = items[from + BYTES];
+      const { length } = this.bytes;
+      this.bytes.set(this.memories.items.subarray(this.memory * length, (this.memory + 1) * length));
+      this.hasWritten = false;
+    }
+    this.line = items[from + LINE];
+    this.woken = items[from + WOKEN];
+    for (let agent = 0; agent < this.count; agent += 1) {
+      this.nodes[agent] = this.program.nodes[items[from + FIRST + 2 * agent]];
+      this.recent[agent] = items[from + FIRST + 2 * agent + 1];
+    }
+  }
+
+  /** @param {number} state @returns {boolean} whether the world is at it */
+  isAt(state) {
+    const { bytes, memories, states: { items, width } } = this;
+    const from = state * width;
+    if (items[from + LINE] !== this.line || items[from + WOKEN] !== this.woken) return false;
+    for (let agent = 0; agent < this.count; agent += 1) {
+      if (items[from + FIRST + 2 * agent] !== this.nodes[agent].id) return false;
+      if (items[from + FIRST + 2 * agent + 1] !== this.recent[agent]) return false;
+    }
+    const first = items[from + BYTES] * bytes.length;
+    for (let at = 0; at < bytes.length; at += 1) if (memories.items[first + at] !== bytes[at]) return false;
+    return true;
+  }
+
+  /** @param {number} agent @returns {boolean} whether it is in the line */
+  waits(agent) {
+    return this.line !== 0 && this.lists.members(this.line).includes(agent);
+  }
+
+  /** @param {number} agent @returns {boolean} whether it was woken and hasn't left */
+  wasWoken(agent) {
+    return (this.woken & (1 << agent)) !== 0;
+  }
+
+  /** @param {number} agent @returns {boolean} whether it can act, except by its time */
+  canAct(agent) {
+    return !isEnd(this.nodes[agent]) && !this.waits(agent);
+  }
+
+  /** @param {number} agent @returns {boolean} whether a time can end its wait */
+  canTimeOut(agent) {
+    return isTimed(this.nodes[agent]) && this.waits(agent);
+  }
+
+  /**
+   * An agent that can act does.
+   * @param {number} agent
+   * @returns {boolean} whether it leads to a state; else `unknown` is why not
+   */
+  act(agent) {
+    const node = this.nodes[agent];
+    if (this.wasWoken(agent)) {
+      this.woken &= ~(1 << agent);
+      return this.#goOn(agent, OK);
+    }
+    if (!isCall(node)) return this.#goOn(agent, this.#accessed(node));
+    const { error } = node;
+    if (error !== undefined) return this.#goOn(agent, error);
+    if (node.does === DOES.NOTIFY) return this.#goOn(agent, this.#notify(node));
+    if (node.does === DOES.WAIT) return this.#wait(agent, node);
+    const old = rawAt(this.bytes, node.at, node.size);
+    const value = changed(node, old);
+    if (value !== old) this.#put(node, value);
+    return this.#goOn(agent, node.does === DOES.STORE ? DONE : old);
+  }
+
+  /** @param {number} agent that can time out @returns {boolean} as above */
+  timeOut(agent) {
+    this.line = this.lists.kept(this.line, (each) => each !== agent);
+    return this.#goOn(agent, TIMED_OUT);
+  }
+
+  /** @param {number} agent @param {Node} node */
+  #wait(agent, node) {
+    if (!this.program.agents[agent].canBlock) return this.#goOn(agent, "TypeError");
+    if (rawAt(this.bytes, node.at, node.size) !== node.raw[0]) return this.#goOn(agent, NOT_EQUAL);
+    this.line = this.lists.with(this.line, agent);
+    this.recent[agent] = 0;
+    return true;
+  }
+
+  /** @param {Node} node @returns {number} how many it wakes */
+  #notify({ at, limit = Infinity }) {
+    if (this.line === 0) return 0;
+    let count = 0;
+    this.line = this.lists.kept(this.line, (agent) => {
+      if (this.nodes[agent].at !== at || count >= limit) return true;
+      count += 1;
+      this.woken |= 1 << agent;
+      return false;
+    });
+    return count;
+  }
+
+  /** @param {Node} node an ordinary access @returns {Answer} */
+  #accessed({ at, size, written }) {
+    if (written === undefined) return answerOfRead(this.bytes, at, size);
+    this.bytes.set(written, at);
+    this.hasWritten = true;
+    return DONE;
+  }
+
+  /** @param {Node} node @param {number | bigint} value */
+  #put({ at, size }, value) {
+    putRaw(this.bytes, at, size, value);
+    this.hasWritten = true;
+  }
+
+  /** @param {number} agent @param {Answer} answer of its node @returns {boolean} */
+  #goOn(agent, answer) {
+    this.answered = answer;
+    const next = this.#next(this.nodes[agent], answer);
+    return next !== undefined && this.#segment(agent, next);
+  }
+
+  /**
+   * The agent makes its accesses up to where it stops.
+   * @param {number} agent
+   * @param {Node} from
+   */
+  #segment(agent, from) {
+    let node = from;
+    let recent = 0;
+    while (isWithinAct(node)) {
+      const next = this.#next(node, this.#accessed(node));
+      if (next === undefined) return false;
+      recent = this.lists.with(recent, node.id);
+      node = next;
+    }
+    this.nodes[agent] = node;
+    this.recent[agent] = recent;
+    return true;
+  }
+
+  /** @param {Node} node @param {Answer} answer */
+  #next(node, answer) {
+    const next = node.edges.get(answer) ?? this.program.learn(node, answer, this.bytes);
+    if (next === undefined) this.unknown = new Unknown(node, answer);
+    return next;
+  }
+}

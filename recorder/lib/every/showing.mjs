@@ -1,0 +1,58 @@
+// Shows what a search has found by runs of the code as it is, in real workers: each goes by the schedule that leads
+// there.
+
+import { Job } from "../seeds/job.mjs";
+
+/** @typedef {import("./learning/findings.mjs").Finding} Finding */
+/** @typedef {import("../seeds/job.mjs").Checked} Outcome */
+
+/**
+ * @typedef {object} Shown
+ * @property {Finding} finding
+ * @property {Outcome} outcome of the run by its schedule
+ * @property {boolean} isSame whether that run fails in the same way
+ */
+
+/** So many are shown. */
+export const MOST_SHOWN = 20;
+
+/**
+ * @param {Finding[]} findings
+ * @param {import("../seeds/runs.mjs").RunsOptions} options of the runs
+ * @returns {Promise<Shown[]>} the first ones
+ */
+export async function shown(findings, options) {
+  const wanted = findings.slice(0, MOST_SHOWN).map(({ row, goesOn }, at) =>
+    ({ seed: at + 1, whole: true, needsTrace: true, wantsRow: true, row, isExact: !goesOn }));
+  if (wanted.length === 0) return [];
+  const job = new Job();
+  /** @type {Shown[]} */
+  const found = [];
+  try {
+    const { sabsim, checkEvery } = options;
+    const checking = { checkEvery: 1, checks: checkEvery > 0, sabsim: sabsim || undefined };
+    await job.open({ ...options, everywhere: true, trace: true, ...checking });
+    await job.run(wanted, (outcome) => {
+      const finding = findings[found.length];
+      found.push({ finding, outcome, isSame: isShownBy(finding, outcome) });
+    });
+  } finally {
+    await job.close();
+  }
+  return found;
+}
+
+/** @param {string} text @returns {string} without its numbers */
+const plain = (text) => text.replace(/-?\d+/g, "#");
+
+/** @param {Finding} finding @param {Outcome} outcome @returns {boolean} whether the run fails in that way */
+function isShownBy({ kind, text, goesOn }, { ending, detail, races, stray }) {
+  if (stray !== undefined && !goesOn) return false;
+  switch (kind) {
+    case "deadlock": return ending === "deadlock";
+    case "race": return races.length > 0;
+    case "no way out": return ending === "bound";
+    case "check": return ending === "check";
+    default: return ending === "failed" && plain(detail).includes(plain(text));
+  }
+}

@@ -1,0 +1,125 @@
+// The state of an agent as a text, at a call or a read that it makes: where each of its functions is, what they can
+// still read, and all that can be reached from there.
+
+import { framesHere } from "../../agent/frames.mjs";
+import { CantShow, Walk } from "./walk.mjs";
+
+/** @typedef {import("../rewriting/rewrite.mjs").Rewritten} Rewritten */
+
+/** Functions that the engine calls while it has more to do, which isn't shown. */
+const CALLED_BY_ENGINE = new Set(["next", "return", "throw", "valueOf", "toString", "toJSON", "then"]);
+
+const LIBRARY = new URL("../../", import.meta.url).href;
+const ELEMENTS = new URL("../../agent/ordinary/elements.mjs", import.meta.url).href;
+const ATOMICS = new URL("../../agent/atomics.mjs", import.meta.url).href;
+const LEARNING = new URL("../learning/", import.meta.url).href;
+const STATE = new URL("./", import.meta.url).href;
+
+export class Capture {
+  /**
+   * @param {import("./runtime.mjs").Runtime} runtime
+   * @param {import("./builtins.mjs").Builtins} builtins
+   * @param {Map<string, Rewritten>} texts the rewritten modules, by the names of their scripts
+   * @param {{ hides?: string }} [flaw] what is left out on purpose, so that tests see that they notice it
+   */
+  constructor(runtime, builtins, texts, flaw = {}) {
+    this.runtime = runtime;
+    this.builtins = builtins;
+    this.texts = texts;
+    this.flaw = flaw;
+  }
+
+  /** @returns {Walk} */
+  #walk() {
+    return new Walk(this.runtime, this.builtins, this.flaw);
+  }
+
+  /** @returns {string} what the modules keep */
+  modules() {
+    const walk = this.#walk();
+    this.#putModules(walk);
+    return walk.text();
+  }
+
+  /**
+   * What runs now.
+   * @param {string} asked what the agent asks for, on which its answer depends
+   * @returns {string}
+   * @throws {CantShow}
+   */
+  here(asked) {
+    const frames = framesHere();
+    const walk = this.#walk();
+    walk.put(asked);
+    let first = 0;
+    while (first < frames.length && !this.texts.has(frames[first].getFileName() ?? "")) first += 1;
+    needsDirect(frames.slice(0, first));
+    const { stack } = this.runtime;
+    const count = stack.length;
+    for (let at = 0; at < count; at += 1) this.#putFrame(walk, frames[first + at], stack[count - 1 - at]);
+    const below = frames[first + count]?.getFileName() ?? "";
+    if (!below.startsWith(LEARNING)) throw new CantShow("more functions than were seen");
+    this.#putModules(walk);
+    return walk.text();
+  }
+
+  /** @returns {string} the file, line and column at which an agent asks for something now */
+  line() {
+    const site = framesHere().find((one) => this.texts.has(one.getFileName() ?? ""));
+    if (site === undefined) return "a place that isn't known";
+    const file = site.getFileName() ?? "";
+    const line = this.texts.get(file)?.lineOf(site.getPosition());
+    return `${file.slice(file.lastIndexOf("/") + 1)}:${line}`;
+  }
+
+  /** @param {Walk} walk */
+  #putModules(walk) {
+    for (const { environment, indexes } of this.runtime.modules) {
+      walk.put("|module");
+      for (const index of indexes) walk.cell([environment, index]);
+    }
+  }
+
+  /** @param {Walk} walk @param {NodeJS.CallSite | undefined} site @param {import("./runtime.mjs").Frame} frame */
+  #putFrame(walk, site, frame) {
+    const name = site?.getFunctionName() ?? "";
+    const text = this.texts.get(site?.getFileName() ?? "");
+    if (site === undefined || text === undefined) throw new CantShow(`a function of the engine that calls ${name}`);
+    const isCalledByEngine = CALLED_BY_ENGINE.has(site.getMethodName() ?? "") || name.includes("[Symbol");
+    if (isCalledByEngine) throw new CantShow(`${name}, which the engine calls`);
+    const position = site.getPosition();
+    const place = text.at(position);
+    if (place.unknown !== undefined) throw new CantShow(place.unknown);
+    const isSame = frame.id === place.fn && site.isConstructor() === place.makes;
+    if (!isSame) throw new CantShow("another function than was seen");
+    walk.put(`|${place.fn}:${position}`);
+    for (const [scope, index] of place.alive) walk.cell([frame.e[scope], index]);
+    if (this.flaw.hides !== "temporaries") {
+      for (const id of place.kept) {
+        walk.put("~");
+        walk.value(frame.t[id]);
+      }
+    }
+    if (frame.cells !== null) for (const cell of frame.cells) walk.cell(cell);
+  }
+}
+
+/**
+ * Above the agents' own functions may only be what a call of Atomics, or the read of an element, begins with: others of
+ * the recorder's functions have more to do.
+ * @param {NodeJS.CallSite[]} frames
+ */
+function needsDirect(frames) {
+  const own = frames.filter((site) => {
+    const file = site.getFileName() ?? "";
+    return !file.startsWith(LEARNING) && !file.startsWith(STATE);
+  });
+  const [first] = own;
+  const file = first?.getFileName() ?? "";
+  const isCall = file === ATOMICS;
+  const isElement = file === ELEMENTS && /\bget$/.test(first.getFunctionName() ?? "");
+  if (own.length !== 1 || !(isCall || isElement)) {
+    const name = first?.getFunctionName() ?? "a function";
+    throw new CantShow(`${name} of ${file.replace(LIBRARY, "")}, which may have more to do`);
+  }
+}

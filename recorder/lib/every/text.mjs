@@ -1,0 +1,83 @@
+// The plain text of what is reported about every schedule.
+
+import { counted, digits, listed } from "../run/words.mjs";
+
+/** @typedef {import("./data.mjs").EveryData} EveryData */
+/** @typedef {import("./data.mjs").FoundData} FoundData */
+
+const MOST_LISTED = 8;
+
+/** What agents can do wrong, in the words of the first line. */
+const WORDS = Object.freeze({
+  deadlock: "deadlock", threw: "throw", race: "race", check: "fail check", "no way out": "go on for ever",
+});
+
+/** @param {EveryData} data @returns {string} lines, each with its end */
+export function everyText(data) {
+  const lines = data.closed ? closedLines(data) : openLines(data);
+  return lines.map((line) => `${line}\n`).join("");
+}
+
+/** @param {EveryData} data */
+function closedLines(data) {
+  const { acts, agents, found, states } = data;
+  const title = `every schedule of ${counted(agents, "agent")} was tried`;
+  const none = "none deadlocks, throws, races or fails check; from every state all agents can still end";
+  return [
+    `${title}: ${found.length === 0 ? none : foundText(found)}`,
+    ...found.slice(0, MOST_LISTED).flatMap(findingLines).map(indented),
+    ...(found.length > MOST_LISTED ? [indented(`and ${digits(found.length - MOST_LISTED)} more`)] : []),
+    indented(`${counted(states, "state")}, ${counted(acts, "act")}; ${finalText(data)}`),
+    indented(learnedText(data)),
+    indented(mergedText(data)),
+    indented("other numbers of agents, rounds or arguments weren't tried"),
+  ];
+}
+
+/** @param {FoundData[]} found */
+function foundText(found) {
+  const kinds = [...new Set(found.map(({ kind }) => WORDS[kind]))];
+  return `agents can ${kinds.length > 1 ? `${kinds.slice(0, -1).join(", ")} or ${kinds[kinds.length - 1]}` : kinds[0]}`;
+}
+
+/** @param {FoundData} found */
+function findingLines({ acts, changes, detail, kind, onlyIf, states, text }) {
+  const what = text === "" ? kind : `${kind}: ${text}`;
+  const by = `${counted(acts, "act")} with ${counted(changes, "change")} of agents`;
+  const how = `${counted(states, "state")}; shown by ${by}`;
+  const lines = detail === null ? ["not shown: a run by its schedule ends otherwise"] : detail.slice(0, 4);
+  return [`${what}, in ${how}`, ...lines.map(indented), ...(onlyIf === null ? [] : [indented(onlyIf)])];
+}
+
+/** @param {EveryData} data */
+function finalText({ finalCount, finals }) {
+  const many = counted(finalCount, "final state");
+  return finalCount === 0 ? many : `${many}: ${listed(finals, 3, ({ text }) => text).join("; ")}`;
+}
+
+/** @param {EveryData} data */
+function learnedText({ edges, moments, realRuns, searchProved }) {
+  const search = searchProved ? "the search is proved" : "the search isn't proved yet";
+  const runs = realRuns === 1 ? "1 real run agrees" : `${digits(realRuns)} real runs agree`;
+  const learned = `what the agents do was learned from their code: ${counted(moments, "moment")} of an agent`;
+  return `${search}; ${learned}, each of ${counted(edges, "edge")} twice; ${runs}`;
+}
+
+/** @param {EveryData} data */
+function mergedText({ hidden }) {
+  const text = "two moments counted as one only if all that the agent's code can still read was the same";
+  const apart = hidden.reduce((sum, { nodes }) => sum + nodes, 0);
+  return apart === 0 ? text : `${text}; ${counted(apart, "moment")} couldn't be compared (${hidden[0].why})`;
+}
+
+/** @param {EveryData} data */
+function openLines({ open, widest }) {
+  const lines = [`not every schedule was tried: ${open}`];
+  if (widest === null) return lines;
+  const { answers, automaton, line, nodes } = widest;
+  const branches = line === null ? "" : `; ${counted(answers, "answer")} at ${line} lead on`;
+  return [...lines, indented(`the agents of automaton ${automaton} have ${counted(nodes, "node")}${branches}`)];
+}
+
+/** @param {string} line */
+const indented = (line) => `  ${line}`;

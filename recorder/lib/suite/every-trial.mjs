@@ -1,0 +1,20 @@
+// A trial of every schedule of a module of agents: it fails if something is found, and if not every schedule could be tried.
+
+import { dataOf } from "../every/data.mjs";
+import { Every } from "../every/every.mjs";
+import { everyText } from "../every/text.mjs";
+import { everyOptions } from "../library/every-schedule.mjs";
+import { RunFailed } from "./run-failed.cjs";
+
+/**
+ * @param {import("../library/every-schedule.mjs").EveryOptions} options
+ * @param {import("../library/caller.cjs").Caller} caller
+ * @returns {Promise<string>} what is to be said if nothing was found; fails with RunFailed if something was
+ */
+export async function everyTried(options, caller) {
+  const { signal, ...taken } = everyOptions(options, caller.folder);
+  const data = dataOf(await new Every(taken, { signal }).run());
+  const text = everyText(data).trimEnd();
+  if (!data.closed || data.found.length > 0) throw new RunFailed(text, caller.place);
+  return text;
+}

@@ -1,0 +1,253 @@
+// `--all`: every schedule of a module of agents, from the command line, by the library and in a suite.
+
+import assert from "node:assert/strict";
+import { spawn } from "node:child_process";
+import { readFileSync, writeFileSync } from "node:fs";
+import { join } from "node:path";
+import { test } from "node:test";
+import { fileURLToPath } from "node:url";
+import { Agreement } from "../lib/every/agreement.mjs";
+import { comparedBySecond } from "../lib/every/second.mjs";
+import { programOf } from "../lib/every/search/file.mjs";
+import { searched } from "../lib/every/search/second.mjs";
+import { NotAsLearned, Refused, everySchedule, record } from "../recorder.mjs";
+import { assertAgents } from "../testing.mjs";
+import { agentsPath, temporaryFolder } from "./helpers/common.mjs";
+
+const RECORD = fileURLToPath(new URL("../record.mjs", import.meta.url));
+const EXAMPLES = fileURLToPath(new URL("../examples/", import.meta.url));
+
+/** @param {string[]} words @returns {Promise<{ status: number | null, out: string, problems: string }>} */
+const recorded = (...words) => new Promise((done) => {
+  const child = spawn(process.execPath, [RECORD, ...words], { stdio: ["ignore", "pipe", "pipe"] });
+  let out = "";
+  let problems = "";
+  child.stdout.on("data", (text) => void (out += text));
+  child.stderr.on("data", (text) => void (problems += text));
+  child.on("close", (status) => done({ status, out, problems }));
+});
+
+/** @param {import("node:test").TestContext} context @param {string} text @returns {string} the path of a module */
+function moduleOf(context, text) {
+  const path = join(temporaryFolder(context), "agents.mjs");
+  writeFileSync(path, text);
+  return path;
+}
+
+/** A module of two agents that load and then do something. */
+const LOADS = (more) => `export const setup = { agents: 2, buffers: [8] };
+export default function agent({ buffers, agent: self }) {
+  const words = new Int32Array(buffers[0]);
+  Atomics.load(words, 0);
+  ${more}
+}
+`;
+
+test("a right lock: every schedule was tried, and nothing was found", async (context) => {
+  const out = temporaryFolder(context);
+  const module = join(EXAMPLES, "mutex-three-state.agents.mjs");
+  const done = await recorded(module, "--all", "--seeds", "1..20", "--out", out);
+  assert.equal(done.problems, "");
+  assert.equal(done.status, 0);
+  const [first, states, learned, ...rest] = done.out.split("\n");
+  assert.equal(first, "every schedule of 3 agents was tried: none deadlocks, throws, races or fails check; from every state "
+    + "all agents can still end");
+  assert.match(states, /^ {2}20,590 states, 52,893 acts; 1 final state: /);
+  assert.match(learned, /the search isn't proved yet; .*: 39 moments of an agent, each of 78 edges twice; 20 real runs agree$/);
+  assert.equal(rest.at(-2), `kept in ${out}: all.automata.json`);
+  const file = JSON.parse(readFileSync(join(out, "all.automata.json"), "utf8"));
+  assert.equal(searched(file, { timeouts: "early", limit: 1_000_000 }).states, 20_590);
+});
+
+test("a lost wake-up is found, and shown by a run of the code that can be replayed", async (context) => {
+  const out = temporaryFolder(context);
+  const module = join(EXAMPLES, "mutex-naive.agents.mjs");
+  const done = await recorded(module, "--all", "--seeds", "1..5", "--out", out);
+  assert.equal(done.status, 1, done.problems);
+  assert.match(done.out, /^every schedule of 3 agents was tried: agents can deadlock\n/);
+  assert.match(done.out, /agent 0 waits at BELL: its call 1, .* at mutex-naive.mjs:23:15/);
+  assert.match(done.out, /all-1\.json, all-1\.report, all-1\.trace\.jsonl, all-1\.explained, all-1\.svg, all-1\.html/);
+  const replayed = await recorded(module, "--replay", join(out, "all-1.json"));
+  assert.equal(replayed.status, 1, replayed.problems);
+  assert.match(replayed.out, /1 of 1 run failed: 1 deadlock/);
+});
+
+test("JSON has what the text says", async () => {
+  const done = await recorded(join(EXAMPLES, "late-notify.agents.mjs"), "--all", "--seeds", "1..5", "--format", "json");
+  assert.equal(done.status, 1, done.problems);
+  const { every, closed, found, realRuns, searchProved, states } = JSON.parse(done.out);
+  assert.deepEqual({ every, closed, realRuns, searchProved, states }, { every: 1, closed: true, realRuns: 5, searchProved: false, states: 428 });
+  assert.equal(found.length, 1);
+  assert.equal(found[0].kind, "threw");
+  assert.match(found[0].detail[0], /^agent 0 threw Error: the answer to job \d+ is \d+, and not \d+/);
+});
+
+for (const [name, wanted] of /** @type {[string, [string, RegExp][]][]} */ ([
+  ["spin-on-shut-door", [["no way out", /^agent 1 spins at /]]],
+  ["lost-update", [["check", /^check threw Error: counted to 1/]]],
+  ["flag-read-ordinarily", [["race", /reads .* at flag-read-ordinarily.mjs:15:17/]]],
+  ["spin-ordinarily", [["race", /./]]],
+  ["mutex", []],
+])) {
+  test(`what is known of ${name} is found`, async () => {
+    const module = fileURLToPath(new URL(`./known/${name}.mjs`, import.meta.url));
+    const { closed, found, realRuns } = await everySchedule({ module, seeds: 5 });
+    assert.ok(closed);
+    assert.equal(realRuns, name === "spin-ordinarily" ? realRuns : 5);
+    assert.deepEqual(found.map(({ kind }) => kind), wanted.map(([kind]) => kind));
+    for (const [at, [, detail]] of wanted.entries()) assert.match(found[at].detail?.join("\n") ?? "", detail);
+  });
+}
+
+test("what can't be learned is refused, with its line", async (context) => {
+  for (const [text, wanted] of /** @type {[string, RegExp][]} */ ([
+    [LOADS("Math.random();"), /it asks for a random number, at agents\.mjs:5:8$/],
+    [LOADS("performance.now();"), /it looks at a clock, at agents\.mjs:5:\d+$/],
+    [LOADS("Date.now();"), /it looks at a clock, at agents\.mjs:5:\d+$/],
+    [LOADS("Atomics.add(new Int32Array(new SharedArrayBuffer(4)), 0, 1);"), /shared memory that isn't recorded, at agents\.mjs:5/],
+    [LOADS("eval('1');"), /what an agent keeps at agents\.mjs:5:3: `eval`/],
+    [LOADS("(() => 0).constructor('return 1')();"), /agents\.mjs:5:3: \.constructor$/],
+    [`import "node:fs";\n${LOADS("")}`, /node:fs, which agents\.mjs imports$/],
+  ])) {
+    const module = moduleOf(context, text);
+    await assert.rejects(everySchedule({ module, seeds: 1 }), (error) => error instanceof Refused && wanted.test(error.message), text);
+  }
+});
+
+test("agents that keep something from run to run aren't as they were learned", async () => {
+  const problem = await everySchedule({ module: agentsPath("remembers"), seeds: 20 }).catch((error) => error);
+  assert.ok(problem instanceof NotAsLearned, problem);
+  assert.match(problem.message, /does something else than was learned/);
+  const done = await recorded(agentsPath("remembers"), "--all", "--seeds", "1..20");
+  assert.equal(done.status, 3);
+  assert.match(done.problems, /^record: .*does something else than was learned/);
+});
+
+test("with new workers for each run they are as they were learned", async () => {
+  const { closed, found, realRuns } = await everySchedule({ module: agentsPath("remembers"), fresh: true, seeds: 5 });
+  assert.deepEqual({ closed, realRuns }, { closed: true, realRuns: 5 });
+  assert.deepEqual(found.map(({ kind }) => kind), ["race"]);
+});
+
+test("a real run that isn't a way through the automata is noticed", async (context) => {
+  const out = temporaryFolder(context);
+  const module = join(EXAMPLES, "mutex-three-state.agents.mjs");
+  await recorded(module, "--all", "--seeds", "1..2", "--out", out);
+  const file = readFileSync(join(out, "all.automata.json"), "utf8");
+  const outcome = await record({ module, trace: true, seed: 3 });
+  const right = new Agreement(programOf(JSON.parse(file)));
+  right.needs(outcome);
+  assert.equal(right.compared, 1);
+  const changes = [
+    ["another call", (data) => {
+      data.automata[0].nodes[0].call[4] = 2;
+    }],
+    ["another edge", (data) => {
+      for (const node of data.automata[0].nodes) if (node.call?.[0] === "compareExchange") node.edges[0][1] = 0;
+    }],
+    ["other bytes at first", (data) => {
+      data.initial[0] = data.initial[0].replace(/^00/, "01");
+    }],
+  ];
+  for (const [name, change] of changes) {
+    const data = JSON.parse(file);
+    change(data);
+    assert.throws(() => new Agreement(programOf(data)).needs(outcome), NotAsLearned, name);
+  }
+});
+
+test("a second search that finds something else is noticed", async () => {
+  const file = readFileSync(fileURLToPath(new URL("../../tests/search/examples/late-notify.json", import.meta.url)), "utf8");
+  const data = JSON.parse(file);
+  const result = searched(data, { timeouts: "early", limit: 1_000 });
+  assert.equal(await comparedBySecond(data, result, async () => structuredClone(result)), true);
+  for (const change of [{ states: result.states + 1 }, { failed: [] }, { final: { ...result.final, count: 7 } }]) {
+    await assert.rejects(comparedBySecond(data, result, async () => ({ ...result, ...change })), NotAsLearned);
+  }
+});
+
+test("if not every schedule can be tried, it goes on with the seeds", async () => {
+  const module = join(EXAMPLES, "mutex-three-state.agents.mjs");
+  const done = await recorded(module, "--all", "--states", "500", "--seeds", "1..5");
+  assert.equal(done.status, 0, done.problems);
+  assert.match(done.out, /^not every schedule was tried: all of up to \d+ acts were, 500 states/);
+  assert.match(done.out, /the agents of automaton 0 have \d+ nodes; \d+ answers at [\w.-]+:\d+:\d+ lead on/);
+  assert.match(done.out, /\n5 runs: 5 finished\n/);
+  const json = await recorded(module, "--all", "--states", "500", "--seeds", "1..5", "--format", "json");
+  const { every, runs } = JSON.parse(json.out);
+  assert.equal(every.closed, false);
+  assert.equal(runs, 5);
+});
+
+test("an agent that never comes back ends its thread", async (context) => {
+  const module = moduleOf(context, LOADS("if (self === 1) for (;;);"));
+  const done = await recorded(module, "--all", "--seeds", "1..2", "--seconds", "1");
+  assert.match(done.out, /^not every schedule was tried: an agent that was called alone didn't come back within 1 s/);
+  assert.equal(done.status, 1);
+});
+
+test("an agent that catches everything is broken off", async (context) => {
+  const module = moduleOf(context, LOADS("for (;;) try { Atomics.add(words, 0, 1); } catch {}"));
+  const done = await recorded(module, "--all", "--seeds", "1..2", "--seconds", "2");
+  assert.match(done.out, /^not every schedule was tried: an agent that was called alone didn't come back within 2 s: .* catches everything/);
+});
+
+test("options that don't go with it are refused by name", async () => {
+  const module = join(EXAMPLES, "mutex-naive.agents.mjs");
+  for (const words of [
+    ["--until-covered"], ["--shard", "1/2"], ["--replay", "x.json"], ["--clock", "real"], ["--ordinary", "store"],
+    ["--ordinary", "refuse"], ["--races", "allow"], ["--unrecorded", "allow"], ["--timeouts", "0"],
+  ]) {
+    const done = await recorded(module, "--all", ...words);
+    assert.equal(done.status, 2, words.join(" "));
+    assert.ok(done.problems.includes(words[0]) && done.problems.includes("doesn't go with --all"), done.problems);
+  }
+  const program = await recorded("--program", RECORD, "--all");
+  assert.match(program.problems, /--program doesn't go with --all/);
+  for (const word of ["--within", "--states"]) {
+    assert.match((await recorded(module, word, "5")).problems, new RegExp(`${word} needs --all`));
+  }
+  await assert.rejects(everySchedule({ module, init: () => {} }), /`init` can't be given/);
+});
+
+test("a trial of a suite fails by what is found, and if not every schedule was tried", async () => {
+  const right = join(EXAMPLES, "late-notify-mended.agents.mjs");
+  await assertAgents({ module: right, all: true, seeds: 5 });
+  const wrong = join(EXAMPLES, "late-notify.agents.mjs");
+  await assert.rejects(assertAgents({ module: wrong, all: true, seeds: 5 }), /RunFailed|agents can throw/);
+  await assert.rejects(assertAgents({ module: right, all: true, states: 10, seeds: 5 }), /not every schedule was tried/);
+});
+
+test("what ordinary writes, `init`, `noBlock` and arguments do is learned", async (context) => {
+  const module = moduleOf(context, `export const setup = { agents: 2, buffers: [8, 4], noBlock: [1] };
+export const init = ([words]) => { new Int32Array(words)[1] = 5; };
+export default function agent({ buffers, agent: self, args }) {
+  const words = new Int32Array(buffers[0]);
+  if (self === 1) {
+    try { Atomics.wait(words, 0, 0); } catch (error) { Atomics.add(words, 1, error instanceof TypeError ? 10 : 20); }
+    return;
+  }
+  new Uint8Array(buffers[1])[2] = Number(args[0]);
+  Atomics.add(words, 1, 1);
+}
+export const check = ([words, bytes]) => new Int32Array(words)[1] === 16 && new Uint8Array(bytes)[2] === 7;
+`);
+  const { closed, finals, found, realRuns } = await everySchedule({ module, args: ["7"], seeds: 5 });
+  assert.deepEqual({ closed, found, realRuns }, { closed: true, found: [], realRuns: 5 });
+  assert.deepEqual(finals.map(({ blocks }) => blocks), [["0000000010000000", "00000700"]]);
+});
+
+test("a time that is over at any moment, or never", async (context) => {
+  const module = moduleOf(context, LOADS("if (self === 0) Atomics.wait(words, 0, 0, 500); else Atomics.notify(words, 0);"));
+  const early = await everySchedule({ module, seeds: 2 });
+  assert.deepEqual(early.found, []);
+  const never = await everySchedule({ module, timeouts: "never", seeds: 2 });
+  assert.deepEqual(never.found.map(({ kind }) => kind), ["deadlock"]);
+});
+
+test("an agent that changes the language's own objects isn't as it was learned", async (context) => {
+  const module = moduleOf(context, LOADS("Math.abs = () => 1;"));
+  const problem = await everySchedule({ module, seeds: 2 }).catch((error) => error);
+  assert.ok(problem instanceof NotAsLearned, problem);
+  assert.match(problem.message, /changes the language's own objects/);
+});
