@@ -49,12 +49,7 @@ impl Reader for LenReader {
 }
 
 /// The lengths of the blocks, in order.
-pub(crate) fn read_lens(
-    alloc: Global,
-    at: Location,
-    form: Form,
-    tree: &Value,
-) -> Result<Vec<u32>, Located>
+pub fn read_lens(alloc: Global, at: Location, form: Form, tree: &Value) -> Result<Vec<u32>, Located>
     ensures found { Finds (λ lens. lens.items) (SpellsLens form (view tree.now)) result }
     ensures reported { IfErr result (IsTrueWhere at (view tree.now) (λ root. at ≡ Location.Member (lens_member form))) }
 {

@@ -172,8 +172,8 @@ fn cut_short(at: Location, count: usize, name_tree: &Value) -> Located
     }
 }
 
-/// A call.
-fn read_call(at: Location, views: &Views, tree: &Value) -> Result<Call, Located>
+/// A call on one of the views.
+pub fn read_call(at: Location, views: &Views, tree: &Value) -> Result<Call, Located>
     ensures found { Finds (λ c. c) (SpellsCall (view_names views.now) (view tree.now)) result }
     ensures reported { IfErr result (IsTrueWhere at (view tree.now)
         (λ root. ((i : ℕ) × (j : ℕ) × (at ≡ Location.Call M.Agents i M.Calls j))

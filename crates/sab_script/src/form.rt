@@ -4,7 +4,7 @@ use sab_refusal::Member;
 
 /// How a script gives its blocks.
 #[derive(Clone, Copy, Debug, PartialEq, Eq)]
-pub(crate) enum Form {
+pub enum Form {
     /// `bytes` is the length of the one block, and all views are on it.
     Bytes,
     /// `blocks` has the length of each block, and each view has its block's position.

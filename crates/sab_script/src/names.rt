@@ -61,7 +61,7 @@ pub(crate) const MAX_NAME: usize = 32;
 const _: () = prove!(MAX_NAME == 32);
 
 /// Whether a view can have the name.
-pub(crate) fn is_name(name: &str) -> bool
+pub fn is_name(name: &str) -> bool
     ensures { IsTrue result ↔ IsName name.now }
 {
     let bytes = name.as_bytes();

@@ -45,7 +45,7 @@ fn float_amiss(x: f64) -> Reason
 }
 
 /// Why a number isn't a whole number of a script. JSON has no other float than a finite one.
-fn number_amiss(number: &Number) -> Reason
+pub fn number_amiss(number: &Number) -> Reason
     requires { (z : ℤ) → SpellsWhole (number_data (number_view number.now)) z → ⊥ }
     ensures fault { fault_of result ≡ ReadFault.BadNumber }
     ensures amiss { IsAmiss (number_view number.now) result }

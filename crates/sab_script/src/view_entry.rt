@@ -136,7 +136,7 @@ fn read_view<'a>(
 
 /// The views by name, and as a plan's on blocks of these lengths, in order.
 #[tactic(auto, using(crate::proofs::Each::each_none, crate::proofs::Each::each_more, crate::proofs::Each::each_all, crate::proofs::ViewNames::none_are_views, crate::proofs::KnownViews::stand_none))]
-pub(crate) fn read_views(
+pub fn read_views(
     alloc: Global,
     at: Location,
     form: Form,

@@ -19,7 +19,7 @@ use std::marker::Model;
 
 /// What the views of a script are, by name and in order: at most 64, and no name twice.
 #[derive(Drop)]
-pub(crate) struct Views {
+pub struct Views {
     by_name: IndexMap<String, ViewSpec>,
 }
 
