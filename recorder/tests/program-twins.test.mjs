@@ -16,7 +16,7 @@ import zlib from "node:zlib";
 import { putTwins } from "../lib/program/twins.mjs";
 
 const { setImmediate: turn } = timers;
-const { mkdtempSync, rmSync, writeFileSync, readFileSync, mkdirSync } = fs;
+const { mkdtempSync, realpathSync, rmSync, writeFileSync, readFileSync, mkdirSync } = fs;
 let playing = false;
 let tasks = [];
 const asked = [];
@@ -39,7 +39,8 @@ function shown(value, folder) {
 
 /** Runs a scenario in a folder of its own. */
 async function logOf(scenario, loop) {
-  const folder = mkdtempSync(join(tmpdir(), "recorder-"));
+  // Functions that follow links answer with this path.
+  const folder = realpathSync(mkdtempSync(join(tmpdir(), "recorder-")));
   const lines = [];
   const log = (...values) => lines.push(values.map((value) => shown(value, folder)).join(" "));
   writeFileSync(join(folder, "a.txt"), "text of a\nsecond line\n");
