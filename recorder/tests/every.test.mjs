@@ -5,13 +5,15 @@ import { spawn } from "node:child_process";
 import { readFileSync, writeFileSync } from "node:fs";
 import { join } from "node:path";
 import { test } from "node:test";
-import { fileURLToPath } from "node:url";
+import { fileURLToPath, pathToFileURL } from "node:url";
 import { Agreement } from "../lib/every/agreement.mjs";
+import { learnAgain, learnApart } from "../lib/every/learning/apart.mjs";
 import { comparedBySecond } from "../lib/every/second.mjs";
 import { programOf } from "../lib/every/search/file.mjs";
 import { searched } from "../lib/every/search/second.mjs";
 import { NotAsLearned, Refused, everySchedule, record } from "../recorder.mjs";
 import { assertAgents } from "../testing.mjs";
+import { BODIES, moduleOf as nastyOf } from "./every/nasty.mjs";
 import { agentsPath, temporaryFolder } from "./helpers/common.mjs";
 
 const RECORD = fileURLToPath(new URL("../record.mjs", import.meta.url));
@@ -153,6 +155,16 @@ test("a real run that isn't a way through the automata is noticed", async (conte
     const data = JSON.parse(file);
     change(data);
     assert.throws(() => new Agreement(programOf(data)).needs(outcome), NotAsLearned, name);
+  }
+});
+
+test("moments that were merged wrongly are noticed by the second learning", async (context) => {
+  const module = pathToFileURL(moduleOf(context, nastyOf(BODIES["temporary in a sum"]))).href;
+  const wanted = { module, args: [], place: {}, timeouts: /** @type {"early"} */ ("early"), limit: 10_000, within: 60 };
+  for (const hides of [undefined, "temporaries"]) {
+    const { edges, isShared, nodes, plan } = await learnApart({ ...wanted, flaw: { hides } }, { seconds: 10 });
+    const differs = await learnAgain({ module, args: [], plan, isShared, isFresh: false, nodes, edges });
+    assert.equal(differs !== undefined, hides !== undefined, differs);
   }
 });
 
