@@ -255,6 +255,9 @@ test("a time that is over at any moment, or never", async (context) => {
   assert.deepEqual(early.found, []);
   const never = await everySchedule({ module, timeouts: "never", seeds: 2 });
   assert.deepEqual(never.found.map(({ kind }) => kind), ["deadlock"]);
+  const none = moduleOf(context, LOADS("if (self === 0) Atomics.wait(words, 0, 0, 0);"));
+  await assert.rejects(everySchedule({ module: none, timeouts: "never", seeds: 2 }), /waits for 0 ms, .*, at agents\.mjs:5/);
+  assert.deepEqual((await everySchedule({ module: none, seeds: 2 })).found, []);
 });
 
 test("an agent that changes the language's own objects isn't as it was learned", async (context) => {
