@@ -230,6 +230,16 @@ test("a trial of a suite fails by what is found, and if not every schedule was t
   await assert.rejects(assertAgents({ module: right, all: true, states: 10, seeds: 5 }), /not every schedule was tried/);
 });
 
+test("agents may assert", async (context) => {
+  const module = moduleOf(context, `import assert from "node:assert/strict";
+import { equal } from "node:assert";
+${LOADS("const before = Atomics.add(words, 0, 1); equal(typeof before, 'number'); assert(before === 0 || self > 5);")}`);
+  const { closed, found } = await everySchedule({ module, seeds: 5 });
+  assert.ok(closed);
+  assert.deepEqual(found.map(({ kind, text }) => ({ kind, text })), [{ kind: "threw", text: "AssertionError [ERR_ASSERTION]" }]);
+  assert.match(found[0].detail?.[0] ?? "", /^agent \d threw AssertionError/);
+});
+
 test("what ordinary writes, `init`, `noBlock` and arguments do is learned", async (context) => {
   const module = moduleOf(context, `export const setup = { agents: 2, buffers: [8, 4], noBlock: [1] };
 export const init = ([words]) => { new Int32Array(words)[1] = 5; };
@@ -265,4 +275,37 @@ test("an agent that changes the language's own objects isn't as it was learned",
   const problem = await everySchedule({ module, seeds: 2 }).catch((error) => error);
   assert.ok(problem instanceof NotAsLearned, problem);
   assert.match(problem.message, /changes the language's own objects/);
+});
+
+test("modules that import from each other in all forms are learned as they are written", async (context) => {
+  const folder = temporaryFolder(context);
+  const files = {
+    "one.mjs": `export let count = 0;
+export function more() { count += 1; return count; }
+export const [first, { second }] = [1, { second: 2 }];
+export class Lock { constructor(words) { this.words = words; } take() { return Atomics.add(this.words, 0, more()); } }
+export { more as another, more as "a name" };
+export default function () { return 7; }`,
+    "two.mjs": "export * from \"./one.mjs\"; export * as all from \"./one.mjs\"; export { default as seven } from \"./one.mjs\";\n"
+      + "import { main } from \"./agents.mjs\"; export const later = () => main;",
+    "agents.mjs": `#!/usr/bin/env node
+import * as two from "./two.mjs";
+import seven, { Lock, another, "a name" as named, count, first, second as other } from "./one.mjs";
+export const setup = { agents: 2, buffers: [8] };
+export const main = 5;
+const { later, all } = two;
+export default ({ buffers }) => {
+  const words = new Int32Array(buffers[0]);
+  const lock = new Lock(words);
+  const before = count;
+  lock.take();
+  named();
+  const sum = { before, count, first, other, seven: seven(), two: two.seven(), main: later(), same: all.count };
+  if (Object.values(sum).join() !== "0,2,1,2,7,7,5,2") throw new Error(Object.values(sum).join());
+  Atomics.add(words, 1, another() + sum.count);
+};`,
+  };
+  for (const [name, text] of Object.entries(files)) writeFileSync(join(folder, name), text);
+  const { closed, finals, found } = await everySchedule({ module: join(folder, "agents.mjs"), fresh: true, seeds: 3 });
+  assert.deepEqual({ closed, found, finals: finals.map(({ text }) => text) }, { closed: true, found: [], finals: ["020000000a000000"] });
 });

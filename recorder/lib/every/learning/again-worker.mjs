@@ -107,7 +107,7 @@ async function differing(given, load) {
   const { module, args, isShared, plan } = given;
   const asker = new Asker();
   installRealm(asker);
-  const agentNow = given.isFresh ? await madeAnew(module) : await asItIs(module, load);
+  const agentNow = given.isFresh ? madeAnew(module) : await asItIs(module, load);
   asker.begin(plan.buffers, basesOf(plan.buffers).bases);
   const agents = { count: plan.agents, args, canBlock: plan.canBlock, isShared };
   const learner = new Learner(asker, agents, { agentNow, line: () => "" });
@@ -125,9 +125,9 @@ async function asItIs(module, load) {
   return () => agent;
 }
 
-/** @param {string} module @returns {Promise<() => Function>} its agent's function, each time of modules that begin anew */
-async function madeAnew(module) {
+/** @param {string} module @returns {() => Function} its agent's function, each time of modules that begin anew */
+function madeAnew(module) {
   const graph = new Graph(true);
-  await graph.take(module, true);
+  graph.take(module, true);
   return () => graph.made({}).get(module)?.default;
 }
