@@ -12,8 +12,8 @@ const asker = new Asker();
 installRealm(asker);
 
 /** @param {string} url @param {boolean} isUnmerged */
-async function learned(url, isUnmerged) {
-  const code = await loadCode(url, flaw);
+function learned(url, isUnmerged) {
+  const code = loadCode(url, flaw);
   const one = new Learned(code, asker, { args: [], place: {}, timeouts: "early", limit, isUnmerged });
   const search = one.search();
   const kinds = new Kinds(search).find();
@@ -26,10 +26,10 @@ async function learned(url, isUnmerged) {
 }
 
 /** @param {string} url */
-async function both(url) {
+function both(url) {
   try {
-    const merged = await learned(url, false);
-    return isUnmergedToo ? { merged, unmerged: await learned(url, true) } : { merged };
+    const merged = learned(url, false);
+    return isUnmergedToo ? { merged, unmerged: learned(url, true) } : { merged };
   } catch (problem) {
     asker.refused = undefined;
     return { problem: `${problem.constructor.name}: ${problem.message}` };
@@ -37,5 +37,5 @@ async function both(url) {
 }
 
 const results = [];
-for (const url of urls) results.push(await both(url));
+for (const url of urls) results.push(both(url));
 parentPort?.postMessage(results);

@@ -5,13 +5,15 @@ import { spawn } from "node:child_process";
 import { readFileSync, writeFileSync } from "node:fs";
 import { join } from "node:path";
 import { test } from "node:test";
-import { fileURLToPath } from "node:url";
+import { fileURLToPath, pathToFileURL } from "node:url";
 import { Agreement } from "../lib/every/agreement.mjs";
+import { learnAgain, learnApart } from "../lib/every/learning/apart.mjs";
 import { comparedBySecond } from "../lib/every/second.mjs";
 import { programOf } from "../lib/every/search/file.mjs";
 import { searched } from "../lib/every/search/second.mjs";
 import { NotAsLearned, Refused, everySchedule, record } from "../recorder.mjs";
 import { assertAgents } from "../testing.mjs";
+import { BODIES, moduleOf as nastyOf } from "./every/nasty.mjs";
 import { agentsPath, temporaryFolder } from "./helpers/common.mjs";
 
 const RECORD = fileURLToPath(new URL("../record.mjs", import.meta.url));
@@ -156,6 +158,16 @@ test("a real run that isn't a way through the automata is noticed", async (conte
   }
 });
 
+test("moments that were merged wrongly are noticed by the second learning", async (context) => {
+  const module = pathToFileURL(moduleOf(context, nastyOf(BODIES["temporary in a sum"]))).href;
+  const wanted = { module, args: [], place: {}, timeouts: /** @type {"early"} */ ("early"), limit: 10_000, within: 60 };
+  for (const hides of [undefined, "temporaries"]) {
+    const { edges, isShared, nodes, plan } = await learnApart({ ...wanted, flaw: { hides } }, { seconds: 10 });
+    const differs = await learnAgain({ module, args: [], plan, isShared, isFresh: false, nodes, edges });
+    assert.equal(differs !== undefined, hides !== undefined, differs);
+  }
+});
+
 test("a second search that finds something else is noticed", async () => {
   const file = readFileSync(fileURLToPath(new URL("../../tests/search/examples/late-notify.json", import.meta.url)), "utf8");
   const data = JSON.parse(file);
@@ -218,6 +230,16 @@ test("a trial of a suite fails by what is found, and if not every schedule was t
   await assert.rejects(assertAgents({ module: right, all: true, states: 10, seeds: 5 }), /not every schedule was tried/);
 });
 
+test("agents may assert", async (context) => {
+  const module = moduleOf(context, `import assert from "node:assert/strict";
+import { equal } from "node:assert";
+${LOADS("const before = Atomics.add(words, 0, 1); equal(typeof before, 'number'); assert(before === 0 || self > 5);")}`);
+  const { closed, found } = await everySchedule({ module, seeds: 5 });
+  assert.ok(closed);
+  assert.deepEqual(found.map(({ kind, text }) => ({ kind, text })), [{ kind: "threw", text: "AssertionError [ERR_ASSERTION]" }]);
+  assert.match(found[0].detail?.[0] ?? "", /^agent \d threw AssertionError/);
+});
+
 test("what ordinary writes, `init`, `noBlock` and arguments do is learned", async (context) => {
   const module = moduleOf(context, `export const setup = { agents: 2, buffers: [8, 4], noBlock: [1] };
 export const init = ([words]) => { new Int32Array(words)[1] = 5; };
@@ -243,6 +265,9 @@ test("a time that is over at any moment, or never", async (context) => {
   assert.deepEqual(early.found, []);
   const never = await everySchedule({ module, timeouts: "never", seeds: 2 });
   assert.deepEqual(never.found.map(({ kind }) => kind), ["deadlock"]);
+  const none = moduleOf(context, LOADS("if (self === 0) Atomics.wait(words, 0, 0, 0);"));
+  await assert.rejects(everySchedule({ module: none, timeouts: "never", seeds: 2 }), /waits for 0 ms, .*, at agents\.mjs:5/);
+  assert.deepEqual((await everySchedule({ module: none, seeds: 2 })).found, []);
 });
 
 test("an agent that changes the language's own objects isn't as it was learned", async (context) => {
@@ -250,4 +275,37 @@ test("an agent that changes the language's own objects isn't as it was learned",
   const problem = await everySchedule({ module, seeds: 2 }).catch((error) => error);
   assert.ok(problem instanceof NotAsLearned, problem);
   assert.match(problem.message, /changes the language's own objects/);
+});
+
+test("modules that import from each other in all forms are learned as they are written", async (context) => {
+  const folder = temporaryFolder(context);
+  const files = {
+    "one.mjs": `export let count = 0;
+export function more() { count += 1; return count; }
+export const [first, { second }] = [1, { second: 2 }];
+export class Lock { constructor(words) { this.words = words; } take() { return Atomics.add(this.words, 0, more()); } }
+export { more as another, more as "a name" };
+export default function () { return 7; }`,
+    "two.mjs": "export * from \"./one.mjs\"; export * as all from \"./one.mjs\"; export { default as seven } from \"./one.mjs\";\n"
+      + "import { main } from \"./agents.mjs\"; export const later = () => main;",
+    "agents.mjs": `#!/usr/bin/env node
+import * as two from "./two.mjs";
+import seven, { Lock, another, "a name" as named, count, first, second as other } from "./one.mjs";
+export const setup = { agents: 2, buffers: [8] };
+export const main = 5;
+const { later, all } = two;
+export default ({ buffers }) => {
+  const words = new Int32Array(buffers[0]);
+  const lock = new Lock(words);
+  const before = count;
+  lock.take();
+  named();
+  const sum = { before, count, first, other, seven: seven(), two: two.seven(), main: later(), same: all.count };
+  if (Object.values(sum).join() !== "0,2,1,2,7,7,5,2") throw new Error(Object.values(sum).join());
+  Atomics.add(words, 1, another() + sum.count);
+};`,
+  };
+  for (const [name, text] of Object.entries(files)) writeFileSync(join(folder, name), text);
+  const { closed, finals, found } = await everySchedule({ module: join(folder, "agents.mjs"), fresh: true, seeds: 3 });
+  assert.deepEqual({ closed, found, finals: finals.map(({ text }) => text) }, { closed: true, found: [], finals: ["020000000a000000"] });
 });

@@ -58,7 +58,7 @@ export function dataOf({ report, open, realRuns, isSecond, shown, milliseconds }
   return {
     ...common, agents: plan.agents, states: result.states, acts: result.acts, depth, finals: finalsOf(report),
     finalCount: result.final.count, found, moments: counts.moments, edges: counts.edges,
-    edgesByOne: edges.filter(({ isOther }) => !isOther).length, hidden,
+    edgesByOne: edges.filter(({ besides }) => besides === undefined).length, hidden,
     widest: { ...widest, line: widest.line ?? null },
   };
 }

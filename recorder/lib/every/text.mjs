@@ -45,7 +45,7 @@ function findingLines({ acts, changes, detail, kind, onlyIf, states, text }) {
   const what = text === "" ? kind : `${kind}: ${text}`;
   const by = `${counted(acts, "act")} with ${counted(changes, "change")} of agents`;
   const how = `${counted(states, "state")}; shown by ${by}`;
-  const lines = detail === null ? ["not shown: a run by its schedule ends otherwise"] : detail.slice(0, 4);
+  const lines = detail === null ? ["not shown by a real run"] : detail.slice(0, 4);
   return [`${what}, in ${how}`, ...lines.map(indented), ...(onlyIf === null ? [] : [indented(onlyIf)])];
 }
 

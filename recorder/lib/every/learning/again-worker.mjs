@@ -11,6 +11,8 @@ import { Learner } from "./learner.mjs";
 import { installRealm } from "./realm.mjs";
 
 /** @typedef {import("./report.mjs").EdgeData} EdgeData */
+/** @typedef {import("./report.mjs").From} From */
+/** @typedef {import("./report.mjs").NodeData} NodeData */
 /** @typedef {import("./asked.mjs").Asked} Asked */
 
 /**
@@ -20,7 +22,7 @@ import { installRealm } from "./realm.mjs";
  * @property {import("../../options/plan.mjs").Plan} plan
  * @property {boolean} isShared
  * @property {boolean} isFresh whether real runs have new workers each time
- * @property {(Asked & { id: number })[]} nodes
+ * @property {NodeData[]} nodes
  * @property {EdgeData[]} edges
  */
 
@@ -41,29 +43,44 @@ class Again {
     return undefined;
   }
 
-  /** @param {unknown} id @returns {Asked} */
+  /** @param {number} id @returns {NodeData} */
   #node(id) {
-    return /** @type {Asked} */ (this.nodes.get(/** @type {number} */ (id)));
+    return /** @type {NodeData} */ (this.nodes.get(id));
+  }
+
+  /** @param {EdgeData} edge @returns {From[]} the nodes on the way to it and over it, with their answers */
+  #historyOf({ from, besides }) {
+    const history = [from];
+    /** @type {From | undefined} */
+    let before;
+    let other = besides;
+    for (let at = from.node; ; at = before.node) {
+      before = other?.at === at ? other.by : this.#node(at).origin;
+      if (other?.at === at) other = undefined;
+      if (before === undefined) return history.reverse();
+      history.push(before);
+    }
   }
 
   /** @param {EdgeData} edge @returns {string | undefined} */
-  #differs({ automaton, history, to }) {
+  #differs(edge) {
+    const { automaton, to } = edge;
     const wanted = this.#node(to);
-    const path = [...history, [to, undefined]];
+    const path = [...this.#historyOf(edge), { node: to, answer: undefined }];
     let at = 0;
     /** @type {Asked | undefined} */
     let last;
     /** @param {Asked} asked */
     const answer = (asked) => {
       last = asked;
-      const [id, given] = path[at];
+      const { node, answer: given } = path[at];
       at += 1;
-      return isSame(this.#node(id), asked) ? /** @type {any} */ (given) : undefined;
+      return isSame(this.#node(node), asked) ? given : undefined;
     };
     const ended = this.learner.call(automaton, { answer });
     const [got, count] = ended === undefined ? [last, at] : [ended, at + 1];
     if (got !== undefined && count === path.length && isSame(wanted, got)) return undefined;
-    const was = count < path.length ? this.#node(path[count - 1][0]) : wanted;
+    const was = count < path.length ? this.#node(path[count - 1].node) : wanted;
     const now = got === undefined ? "nothing" : said(got);
     return `With the same ${count - 1} answers an agent was learned to do this: ${said(was)}; and now it does: ${now}`;
   }
@@ -90,7 +107,7 @@ async function differing(given, load) {
   const { module, args, isShared, plan } = given;
   const asker = new Asker();
   installRealm(asker);
-  const agentNow = given.isFresh ? await madeAnew(module) : await asItIs(module, load);
+  const agentNow = given.isFresh ? madeAnew(module) : await asItIs(module, load);
   asker.begin(plan.buffers, basesOf(plan.buffers).bases);
   const agents = { count: plan.agents, args, canBlock: plan.canBlock, isShared };
   const learner = new Learner(asker, agents, { agentNow, line: () => "" });
@@ -108,9 +125,9 @@ async function asItIs(module, load) {
   return () => agent;
 }
 
-/** @param {string} module @returns {Promise<() => Function>} its agent's function, each time of modules that begin anew */
-async function madeAnew(module) {
+/** @param {string} module @returns {() => Function} its agent's function, each time of modules that begin anew */
+function madeAnew(module) {
   const graph = new Graph(true);
-  await graph.take(module, true);
+  graph.take(module, true);
   return () => graph.made({}).get(module)?.default;
 }

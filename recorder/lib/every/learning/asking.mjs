@@ -2,7 +2,7 @@
 // for next is handed on, and then it is broken off, or gets a further answer.
 
 import { answerOfRead, bytesOfRead } from "../search/elements.mjs";
-import { DONE } from "../search/nodes.mjs";
+import { DOES, DONE } from "../search/nodes.mjs";
 import { CantLearn, askedAccess, askedCall, returned } from "./asked.mjs";
 
 /** @typedef {import("../search/nodes.mjs").Node} Node */
@@ -40,6 +40,8 @@ export class Asker {
     this.caught = 0;
     /** @type {{ block: number, from: number, to: number } | undefined} a write that is being made */
     this.writing = undefined;
+    /** Whether no wait ends by itself. */
+    this.isEndless = false;
     /** @type {() => string} where the agent that runs now is */
     this.lineHere = () => "a place that isn't known";
     /** @type {CantLearn | undefined} why the agent can't be learned */
@@ -132,6 +134,8 @@ export class Asker {
     this.#enter();
     this.#endWrite();
     const { asked, thrown } = askedCall(call, view, this.bases[call.block]);
+    const isOver = this.isEndless && asked.does === DOES.WAIT && asked.limit === 0;
+    if (isOver) this.refuse("it waits for 0 ms, which ends by itself even with --timeouts never");
     const answer = this.#ask(asked);
     if (thrown !== undefined) throw thrown;
     if (answer === "TypeError") throw new TypeError("Atomics.wait cannot be called in this context");

@@ -85,16 +85,16 @@ export class Code {
  * Loads the agents' code.
  * @param {string} url
  * @param {{ hides?: string }} [flaw] what is left out of its state on purpose, for tests
- * @returns {Promise<Code>}
+ * @returns {Code}
  * @throws {Refused} if a module of it can't be shown
  */
-export async function loadCode(url, flaw) {
+export function loadCode(url, flaw) {
   const runtime = new Runtime();
   const own = new Graph();
-  await own.take(PRELUDE);
+  own.take(PRELUDE);
   installLoops(own.made(runtime.calls).get(PRELUDE)?.loops);
   const graph = new Graph();
-  await graph.take(url, true);
+  graph.take(url, true);
   const builtins = new Builtins();
   builtins.take(graph.nodes);
   builtins.close();

@@ -1,6 +1,7 @@
 // The agents' modules, rewritten and compiled once, and made anew as often as that is needed.
 
 import { readFileSync } from "node:fs";
+import { createRequire } from "node:module";
 import { basename } from "node:path";
 import { fileURLToPath } from "node:url";
 import { Script } from "node:vm";
@@ -19,6 +20,14 @@ import { rewritten } from "../rewriting/rewrite.mjs";
 
 /** Modules of node's that keep nothing. */
 const HARMLESS = new Set(["node:assert", "node:assert/strict", "node:util", "node:path"]);
+
+const required = createRequire(import.meta.url);
+
+/** @param {string} name of a module of node's @returns {object} what an import of it has */
+function exportsOf(name) {
+  const exported = required(name);
+  return { ...exported, default: exported };
+}
 
 /** @param {string} url @param {string} source */
 function parsed(url, source) {
@@ -46,7 +55,7 @@ export class Graph {
    * @param {string} url
    * @param {boolean} [isEntry] whether it is the agents' own
    */
-  async take(url, isEntry = false) {
+  take(url, isEntry = false) {
     if (this.texts.has(url)) return;
     const name = basename(fileURLToPath(url));
     if (!/\.m?js$/.test(url)) throw new Refused(`--all can't read ${name}: it takes modules in .mjs or .js files`);
@@ -55,20 +64,20 @@ export class Graph {
     this.texts.set(url, text);
     /** @type {(string | object)[]} */
     const imports = [];
-    for (const specifier of text.imports) imports.push(await this.#imported(specifier, url));
+    for (const specifier of text.imports) imports.push(this.#imported(specifier, url));
     this.modules.push({ url, make: new Script(text.code, { filename: url }).runInThisContext(), imports });
   }
 
-  /** @param {string} specifier @param {string} parent @returns {Promise<string | object>} */
-  async #imported(specifier, parent) {
+  /** @param {string} specifier @param {string} parent @returns {string | object} */
+  #imported(specifier, parent) {
     const url = resolveModule(specifier, parent);
     if (!url.startsWith("node:")) {
-      await this.take(url);
+      this.take(url);
       return url;
     }
     const name = basename(parent);
     if (!HARMLESS.has(url)) throw new Refused(`--all can't show what agents keep in ${url}, which ${name} imports`);
-    this.nodes[url] ??= await import(url);
+    this.nodes[url] ??= exportsOf(url);
     return this.nodes[url];
   }
 

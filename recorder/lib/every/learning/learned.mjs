@@ -32,6 +32,7 @@ export class Learned {
     const { bases, length } = basesOf(this.plan.buffers);
     this.bases = bases;
     asker.begin(this.plan.buffers, bases);
+    asker.isEndless = wanted.timeouts === "never";
     this.initial = this.#initial(length);
     this.isShared = this.plan.canBlock.every((can) => can);
     /** @type {Learner} */

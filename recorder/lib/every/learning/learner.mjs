@@ -322,6 +322,9 @@ const differenceText = (at, node, asked) =>
 /** @param {unknown} thrown @returns {string} without its stack */
 function titleOf(thrown) {
   if (!(thrown instanceof Error)) return described(thrown);
+  // The message of an `assert(x)` without a text is made of the code there, which was rewritten.
+  const { code, generatedMessage, operator } = /** @type {any} */ (thrown);
+  if (code === "ERR_ASSERTION" && generatedMessage === true && operator === "==") return `${thrown.name} [${code}]`;
   try {
     return `${thrown}`;
   } catch {

@@ -10,13 +10,18 @@ import { Findings } from "./findings.mjs";
 /** @typedef {import("./asked.mjs").Asked} Asked */
 /** @typedef {import("../search/search.mjs").Search} Search */
 
+/** @typedef {{ node: number, answer: Answer }} From a node's number, and what it is answered */
+
 /**
  * @typedef {object} EdgeData an edge, to be learned again
  * @property {number} automaton
- * @property {[number, Answer][]} history nodes and their answers, up to this edge's
+ * @property {From} from
  * @property {number} to the node to which it leads
- * @property {boolean} isOther whether the history isn't the one by which the edge was learned
+ * @property {{ at: number, by: From }} [besides] another history than the one by which it was learned: the node at which
+ * it comes by another edge than the first
  */
+
+/** @typedef {Asked & { id: number, origin: From | undefined }} NodeData with the first edge that has led there */
 
 /** @typedef {ReturnType<typeof reportOf>} Report */
 
@@ -43,7 +48,7 @@ export function reportOf(learned, search) {
     findings,
     counts: countsOf(positions),
     edges: edgesOf(learner, positions),
-    nodes: positions.nodes.flat().map(askedOf),
+    nodes: positions.nodes.flat().map((node) => dataOf(node, learner.origins.get(node))),
     hidden: [...learner.hidden].map(([why, nodes]) => ({ why, nodes })),
     runs: learner.runs, renewals: code.renewals,
     changesBuiltins: code.builtins.haveChanged(),
@@ -61,8 +66,13 @@ function countsOf({ nodes }) {
   };
 }
 
-/** @param {Node} node @returns {Asked & { id: number }} */
-const askedOf = ({ edges: _edges, automaton: _automaton, ...asked }) => asked;
+/**
+ * @param {Node} node
+ * @param {import("./learner.mjs").Origin} origin
+ * @returns {NodeData}
+ */
+const dataOf = ({ edges: _edges, automaton: _automaton, ...asked }, origin) =>
+  ({ ...asked, origin: origin && { node: origin.node.id, answer: origin.answer } });
 
 /**
  * Each edge with another history that leads to it than the one by which it was learned, if there is one.
@@ -71,46 +81,33 @@ const askedOf = ({ edges: _edges, automaton: _automaton, ...asked }) => asked;
  * @returns {EdgeData[]}
  */
 function edgesOf(learner, positions) {
-  const others = otherHistories(learner, positions);
-  return positions.nodes.flatMap((nodes) => nodes.flatMap((node) => [...node.edges].map(([answer, to]) => {
-    const other = others(node);
-    const history = [...other ?? learner.historyOf(node), [node, answer]];
-    return {
-      automaton: node.automaton, isOther: other !== undefined, to: to.id,
-      history: history.map(([each, of]) => /** @type {[number, Answer]} */ ([/** @type {Node} */ (each).id, of])),
-    };
-  })));
+  const besides = edgesBesides(learner, positions);
+  return positions.nodes.flatMap((nodes) => nodes.flatMap((node) => [...node.edges].map(([answer, to]) => ({
+    automaton: node.automaton, from: { node: node.id, answer }, to: to.id, besides: besides(node),
+  }))));
 }
 
 /**
  * @param {import("./learner.mjs").Learner} learner
  * @param {Positions} positions
- * @returns {(node: Node) => import("./learner.mjs").History | undefined}
+ * @returns {(node: Node) => EdgeData["besides"]} the nearest node on its way to which another edge leads than the first
  */
-function otherHistories(learner, positions) {
-  /** @type {Map<Node, { node: Node, answer: Answer }>} an edge to a node, besides its first */
-  const besides = new Map();
+function edgesBesides({ origins }, positions) {
+  /** @type {Map<Node, From>} */
+  const others = new Map();
   for (const node of positions.nodes.flat()) {
     for (const [answer, to] of node.edges) {
-      const origin = learner.origins.get(to);
+      const origin = origins.get(to);
       const isFirst = origin !== undefined && origin.node === node && origin.answer === answer;
-      if (!isFirst) besides.set(to, { node, answer });
+      if (!isFirst) others.set(to, { node: node.id, answer });
     }
   }
-  /** @param {Node} node @returns {import("./learner.mjs").History | undefined} */
-  const other = (node) => {
-    /** @type {import("./learner.mjs").History} */
-    const behind = [];
-    for (let at = node; ;) {
-      const edge = besides.get(at);
-      if (edge !== undefined) return [...learner.historyOf(edge.node), [edge.node, edge.answer], ...behind.reverse()];
-      const origin = learner.origins.get(at);
-      if (origin === undefined) return undefined;
-      behind.push([origin.node, origin.answer]);
-      at = origin.node;
-    }
+  return (node) => {
+    /** @type {Node | undefined} */
+    let at = node;
+    while (at !== undefined && !others.has(at)) at = origins.get(at)?.node;
+    return at && { at: at.id, by: /** @type {From} */ (others.get(at)) };
   };
-  return other;
 }
 
 /**

@@ -21,11 +21,11 @@ import { reportOf } from "./report.mjs";
 const now = performance.now.bind(performance);
 
 /** Waits for its work, and does it. */
-export async function main() {
+export function main() {
   const given = /** @type {Given & { port: import("node:worker_threads").MessagePort }} */ (workerData);
   const { port } = given;
   try {
-    port.postMessage({ report: await reported(given) });
+    port.postMessage({ report: reported(given) });
   } catch (problem) {
     port.postMessage(answerOf(problem));
   }
@@ -33,10 +33,10 @@ export async function main() {
 }
 
 /** @param {Given} given */
-async function reported(given) {
+function reported(given) {
   const asker = new Asker();
   installRealm(asker);
-  const code = await loadCode(given.module, given.flaw);
+  const code = loadCode(given.module, given.flaw);
   asker.lineHere = () => code.line();
   const learned = new Learned(code, asker, given);
   const words = new Int32Array(given.progress);

@@ -91,8 +91,7 @@ class Linker {
     this.exports.push(["default", "$default"]);
     this.edits.replace(start, declaration.start - start, 'const $default = ({ "default": ');
     this.left.push([start, declaration.start]);
-    this.edits.after(declaration.end, ' })["default"]');
-    if (declaration.end === end) this.edits.after(end, ";");
+    this.edits.after(declaration.end, ` })["default"]${declaration.end === end ? ";" : ""}`);
   }
 
   /** Puts what stands for names that are imported in their places. */
