@@ -38,6 +38,7 @@ const HELD = Object.freeze({ isSome: true, byThemselves: false, texts: ["an answ
  * @property {import("./port-events.mjs").PortEvents} events
  * @property {import("./timers.mjs").Timers} timers
  * @property {import("./wait-async.mjs").WaitAsync} waits
+ * @property {import("./locks.mjs").Locks} locks
  * @property {import("./ends.mjs").Ends} ends
  * @property {import("../memory/keepers.mjs").Keepers} keepers
  * @property {(why: string) => never} refuse ends the run
@@ -167,7 +168,7 @@ export class Loop {
    * @returns {number} one of `STEP`
    */
   #step(holds) {
-    const { ends, moves, keepers, waits } = this.served;
+    const { ends, moves, keepers, waits, locks } = this.served;
     this.drain();
     if (ends.isDone()) return STEP.IS_OVER;
     const active = resources();
@@ -178,7 +179,7 @@ export class Loop {
     } else {
       const kept = this.#keepers().concat(moves.silentTexts(pending));
       if (kept.length === 0) return this.#endsNow();
-      keepers.write([kept.join("; "), ...waits.texts()].join("; it awaits "));
+      keepers.write([kept.join("; "), ...waits.texts(), ...locks.texts()].join("; it awaits "));
       this.#mayLook = true;
       moves.board.vain?.rests(moves.agent, this.#places);
       if (!moves.idle(this.#untilTimer(), pending)) return STEP.IS_OVER;
