@@ -2,19 +2,25 @@
 // The file `web/surroundings.mjs` has the same for a program of browsers.
 
 import process from "node:process";
+import threads from "node:worker_threads";
+import { defineProperty } from "../primordials.mjs";
 import { HERE } from "../processes/platform.cjs";
 import { broadcastClass } from "./broadcast.mjs";
 import { Ends } from "./ends.mjs";
 import { installThreads } from "./install.mjs";
+import { lockManager } from "./locks.mjs";
+import { member } from "./member.mjs";
 import { PortEvents, servePorts } from "./port-events.mjs";
 import { KIND, channelClass } from "./ports.mjs";
 import { envOf, ignoringCase } from "./process-env.mjs";
 import { ProgramModules } from "./program-modules.mjs";
 import { receiverOf } from "./receiving.mjs";
 import { argvOf, evaluated } from "./start.mjs";
+import { beginStdio, clearStdio } from "./stdio.mjs";
 import { workerClass } from "./workers.mjs";
 
-const firstEnv = { ...process.env };
+/** The program is no test that a runner of tests has started, also if the recorder is one. */
+const { NODE_TEST_CONTEXT: _, ...firstEnv } = process.env;
 
 /** @typedef {{ begin(): void }} ProgramGraph a thread's modules; it forgets them for the next run */
 
@@ -33,6 +39,16 @@ const firstEnv = { ...process.env };
  * @property {(parts: any) => void} clear leaves nothing of a run
  */
 
+/** @param {import("./worker.mjs").Parts} parts of a thread @param {ProgramModules} graph */
+function install({ locks, ends }, graph) {
+  graph.tests.onFailed = (failed) => ends.testFailed(failed);
+  // Later versions of node have locks between threads.
+  if (!("locks" in threads)) return;
+  const { manager } = lockManager(locks);
+  member(threads, "locks", manager);
+  defineProperty(Navigator.prototype, "locks", { configurable: true, enumerable: true, get: () => manager });
+}
+
 /**
  * Gives the thread's code what it is in a run.
  * @param {import("./worker.mjs").Parts} parts
@@ -46,13 +62,16 @@ function begin(parts, start, parentPort) {
   const { workerData, environment } = ports.unpacked({ workerData: start.workerData, environment: start.environment });
   const values = HERE.ignoresCase && agent === 0 ? ignoringCase(start.env) : start.env;
   const env = envOf(values, start.sharesEnv, refuse);
-  const { threadName } = start;
-  installThreads({ agent, workerData, parentPort, argv: argvOf(start), env, environment, threadName }, {
+  const { execArgv, resourceLimits, threadName } = start;
+  const place = { agent, workerData, parentPort, argv: argvOf(start), execArgv, env, environment, threadName, resourceLimits };
+  installThreads(place, {
     Worker: workerClass({ ...parts, environment }), MessageChannel: channelClass(ports),
     receiveMessageOnPort: receiverOf(ports, moves),
     BroadcastChannel: broadcastClass({ ports, moves, mesh, buffers }),
   });
-  if (agent !== 0) ports.send(parentPort, undefined, [], undefined, KIND.ONLINE);
+  if (agent === 0) return;
+  beginStdio(ports, start.stdio);
+  ports.send(parentPort, undefined, [], undefined, KIND.ONLINE);
 }
 
 /** @type {Surroundings} */
@@ -63,12 +82,12 @@ export const NODE = {
   PortEvents,
   atomics: () => Atomics,
   serve: servePorts,
-  install: () => {},
+  install,
   mainStart: ({ program, args }) => ({
-    url: program, isCode: false, workerData: null, argv: args, env: { ...firstEnv }, sharesEnv: false,
-    environment: new Map(), threadName: "", where: "",
+    url: program, isCode: false, workerData: null, argv: args, execArgv: [], env: { ...firstEnv }, sharesEnv: false,
+    environment: new Map(), threadName: "", resourceLimits: {}, where: "",
   }),
   begin,
   evaluated,
-  clear: () => {},
+  clear: clearStdio,
 };
