@@ -2,7 +2,7 @@
 
 import assert from "node:assert/strict";
 import { spawn } from "node:child_process";
-import { mkdirSync, readFileSync, readdirSync, writeFileSync } from "node:fs";
+import { mkdirSync, readFileSync, readdirSync, realpathSync, writeFileSync } from "node:fs";
 import { dirname, join } from "node:path";
 import { test } from "node:test";
 import { fileURLToPath, pathToFileURL } from "node:url";
@@ -105,7 +105,8 @@ test("just one of module and program is given, and each has its own options", as
  * @param {string} code of the tests
  */
 async function suite(context, code) {
-  const folder = temporaryFolder(context);
+  // A suite works in this folder, and node knows its files by their own paths.
+  const folder = realpathSync(temporaryFolder(context));
   const temporary = join(folder, "temporary");
   mkdirSync(temporary);
   for (const name of readdirSync(dirname(TOO_SOON))) {
@@ -141,8 +142,9 @@ test("`testProgram` fails with the finding, shortened and kept, and passes other
   for (const ending of ["json", "trace.jsonl", "explained", "html"]) {
     assert.ok(names.some((name) => name.endsWith(`.${ending}`)), `${names} have no ${ending}`);
   }
-  assert.match(output, new RegExp(`kept in ${join(folder, "found")}: seed-`));
-  assert.match(output, new RegExp(`^ +file://${folder}/main\\.test\\.mjs:3:5$`, "m"));
+  assert.ok(output.includes(`kept in ${join(folder, "found")}: seed-`), output);
+  const file = pathToFileURL(join(folder, "main.test.mjs")).href;
+  assert.ok(output.split("\n").some((line) => line.trim() === `${file}:3:5`), output);
   assert.match(output, /^ok 2 - is right$/m);
   assert.match(output, /^# 5 runs passed, 5 checked by the simulator$/m);
   assert.match(output, /^not ok 3 - has agents$/m);

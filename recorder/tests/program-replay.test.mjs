@@ -82,7 +82,8 @@ test("a kept run of a program is made again from its file alone: the same script
   const command = JSON.parse(/<script type="application\/json" id="run">(.*)<\/script>/.exec(
     readFileSync(join(folder, `${name}.html`), "utf8"))[1].replaceAll("\\u003c", "<")).command;
   assert.equal(command.isOfRow, true);
-  assert.match(command.script, new RegExp(`${name}\\.program\\.json$`));
+  // In quotes if the folder's name needs them.
+  assert.match(command.script, new RegExp(`${name}\\.program\\.json'?$`));
 });
 
 test("a run without a script is made again, too, and options of the command line go before the kept ones", async (context) => {

@@ -3,7 +3,7 @@
 
 import assert from "node:assert/strict";
 import { spawnSync } from "node:child_process";
-import { readFileSync, writeFileSync } from "node:fs";
+import { readFileSync, realpathSync, writeFileSync } from "node:fs";
 import { join } from "node:path";
 import { test } from "node:test";
 import { pathToFileURL } from "node:url";
@@ -236,9 +236,10 @@ test("a debugger of the process stops in the agents, and the time of agents isn'
   const { folder, module, file } = await keptRun(context);
   const debuggerFile = new URL("./agents/debugger.mjs", import.meta.url).href;
   const seconds = ["--seconds", "1"];
+  // A debugger knows a module by its own path, and not by that of a link (STOP_IN).
   const words = ["--inspect=127.0.0.1:0", "--import", debuggerFile, RECORD, module, "--replay", file, "--check", "0"];
   const { status, stdout, stderr } = spawnSync(process.execPath, [...words, ...seconds], {
-    encoding: "utf8", timeout: 60_000, env: { ...process.env, STOP_IN: module, STOP_FOR: "1500" },
+    encoding: "utf8", timeout: 60_000, env: { ...process.env, STOP_IN: realpathSync(module), STOP_FOR: "1500" },
   });
   assert.equal(status, 1, stderr);
   assert.match(stderr, /^Debugger listening on ws:/m);
