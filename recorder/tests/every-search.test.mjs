@@ -7,7 +7,8 @@ import { mkdtempSync, readFileSync, readdirSync, rmSync, writeFileSync } from "n
 import { tmpdir } from "node:os";
 import { join } from "node:path";
 import { test } from "node:test";
-import { fileURLToPath } from "node:url";
+import { fileURLToPath, pathToFileURL } from "node:url";
+import { learnApart } from "../lib/every/learning/apart.mjs";
 import { searched } from "../lib/every/search/second.mjs";
 
 const SEARCH = fileURLToPath(new URL("../../tests/search/", import.meta.url));
@@ -58,4 +59,51 @@ test("files that were drawn", (t) => {
   const drawn = JSON.parse(stdout);
   assert.equal(drawn.length, 3 * 199);
   for (const [data, wanted] of drawn) compare(data, wanted);
+});
+
+// Modules of agents whose automata are searched by the model, too.
+const MODULES = [
+  "examples/late-notify.agents.mjs", "examples/late-notify-mended.agents.mjs", "tests/known/spin-ordinarily.mjs",
+  "tests/known/flag-read-ordinarily.mjs", "tests/known/deque-wraps.mjs", "tests/known/struct.mjs", "tests/known/text.mjs",
+  "tests/known/failed-exchange.mjs", "tests/known/spin-on-shut-door.mjs", "tests/known/last-one-sums.mjs",
+  "bench/programs/lost-wake-up.mjs", "bench/programs/ring-frees-first.mjs", "bench/pieces/wait-notify.mjs",
+];
+
+/** An agent that spins by ordinary reads, while another writes this and that. */
+const SPINS = `export const setup = { agents: 2, buffers: [8] };
+export default function agent({ buffers, agent: self }) {
+  const bytes = new Uint8Array(buffers[0]);
+  const words = new Int32Array(buffers[0]);
+  if (self === 0) {
+    while (bytes[0] !== 2) if (bytes[1] === 7) break;
+    Atomics.add(words, 1, 1);
+    return;
+  }
+  for (const value of [1, 3, 1, 2]) {
+    bytes[0] = value;
+    Atomics.load(words, 1);
+  }
+}
+`;
+
+test("the automata of modules of agents", async (t) => {
+  const folder = mkdtempSync(join(tmpdir(), "sabsim-automata-"));
+  t.after(() => rmSync(folder, { recursive: true }));
+  writeFileSync(join(folder, "spins.mjs"), SPINS);
+  const urls = [...MODULES.map((path) => new URL(`../${path}`, import.meta.url)), pathToFileURL(join(folder, "spins.mjs"))];
+  for (const { href: module } of urls) {
+    const wanted = { module, args: [], place: {}, timeouts: /** @type {"early"} */ ("early"), limit: 20_000, within: 60 };
+    const { file, isClosed, result } = await learnApart(wanted, { seconds: 10 });
+    assert.ok(isClosed, module);
+    const path = join(folder, "automata.json");
+    writeFileSync(path, JSON.stringify(file));
+    const { stdout, error, status, stderr } = spawnSync("python3", [join(SEARCH, "result"), "--limit", "20000", path], { encoding: "utf8" });
+    if (error !== undefined) {
+      t.skip("no python3");
+      return;
+    }
+    assert.equal(status, 0, `${module}: ${stderr}`);
+    const { status: _status, ...model } = JSON.parse(stdout);
+    assert.deepEqual(JSON.parse(JSON.stringify(result)), model, module);
+  }
 });

@@ -220,7 +220,8 @@ class Growing {
     this.accesses = 0;
     /** @type {Set<Node>} accesses that this call has shown */
     this.made = new Set();
-    this.isHead = true;
+    /** Whether what comes next is the first behind a call. */
+    this.isHead = origin === undefined || isCall(origin.node) || origin.node.isAlone;
     /** @type {string | undefined} what it did that it hadn't done before */
     this.differs = undefined;
   }

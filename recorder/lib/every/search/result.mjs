@@ -73,7 +73,7 @@ export class Kinds {
     const here = new Map();
     for (const unknown of this.search.unknownAt(state)) here.set(unknownName(unknown), unknown);
     const sorted = [...here.values()].sort((one, other) =>
-      one.node.id - other.node.id || inBytes(textOf(one), textOf(other)));
+      inOrder(one.node, other.node) || inBytes(textOf(one), textOf(other)));
     for (const unknown of sorted) count(this.unknown, unknownName(unknown), state, { unknown });
   }
 
@@ -81,7 +81,7 @@ export class Kinds {
   #lookForConflicts(state) {
     const here = this.pairsHere();
     if (here.size === 0) return;
-    const sorted = [...here.values()].sort((a, b) => a.one.id - b.one.id || a.other.id - b.other.id);
+    const sorted = [...here.values()].sort((a, b) => inOrder(a.one, b.one) || inOrder(a.other, b.other));
     for (const { one, other } of sorted) count(this.conflicts, `${one.id} ${other.id}`, state, { one, other });
   }
 
@@ -90,7 +90,7 @@ export class Kinds {
     /** @type {Map<string, Conflict>} */
     const here = new Map();
     for (const { one, other, agents } of this.conflictsHere.here()) {
-      const [first, second] = one.id < other.id ? [one, other] : [other, one];
+      const [first, second] = inOrder(one, other) < 0 ? [one, other] : [other, one];
       here.set(`${first.id} ${second.id}`, { one: first, other: second, agents });
     }
     return here;
@@ -131,6 +131,9 @@ export function endingHere({ world, timeouts }) {
   const isFinal = ended === world.count;
   return { texts, isFinal, isDeadlock: !isFinal && texts.size === 0 && acts === 0 };
 }
+
+/** @param {Node} one @param {Node} other @returns {number} their order by automaton, then by position */
+const inOrder = (one, other) => one.automaton - other.automaton || one.id - other.id;
 
 /** @param {string} one @param {string} other @returns {number} their order by their bytes in UTF-8 */
 function inBytes(one, other) {
