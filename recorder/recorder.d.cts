@@ -115,6 +115,11 @@ export interface OfProgram {
   module?: undefined;
   /** Whether a run that is stuck fails; else "fail". It is stuck if nothing can move and something keeps it alive. */
   stuck?: "fail" | "allow";
+  /**
+   * By how many milliseconds the run's clock may be ahead of what waits, since a timer or a timed wait has ended early; 0:
+   * none does; else 100.
+   */
+  early?: number;
   /** Whether the program is for browsers: its main module stands for a page; else it is for node. */
   web?: boolean;
   /** The runs whose output is shown on standard error; else the first one. */

@@ -152,11 +152,11 @@ test("an end is early if somebody else could go on before, and the longest of a 
   const board = boardAt([ASKS, timed(100), timed(5_000), timed(50), WOKEN], { timeouts: 1 });
   assert.equal(board.deadlines.early(), undefined);
   assert.equal(board.deadlines.end(1, 100), END.IN_TIME);
-  assert.deepEqual(board.deadlines.early(), { milliseconds: 100, other: 0, isCall: true, more: 0 });
+  assert.deepEqual(board.deadlines.early(), { milliseconds: 100, other: 0, before: "call", more: 0 });
   board.line.become(1, FINISHED);
   board.line.become(0, FINISHED);
   assert.equal(board.deadlines.end(2, 5_000), END.IN_TIME);
-  assert.deepEqual(board.deadlines.early(), { milliseconds: 5_000, other: 4, isCall: false, more: 1 });
+  assert.deepEqual(board.deadlines.early(), { milliseconds: 5_000, other: 4, before: "wait", more: 1 });
   // The clock has gone on by far more.
   board.line.become(2, FINISHED);
   assert.equal(board.deadlines.end(3, 50), END.IN_TIME);
@@ -169,7 +169,7 @@ test("an end before that of another wait whose time is up sooner is early too, a
   const board = boardAt([timed(100), timed(200)], { row: { row: [1] } });
   assert.equal(next(board), 1);
   assert.equal(board.deadlines.end(1, 200), END.IN_TIME);
-  assert.deepEqual(board.deadlines.early(), { milliseconds: 200, other: 0, isCall: false, more: 0 });
+  assert.deepEqual(board.deadlines.early(), { milliseconds: 200, other: 0, before: "wait", more: 0 });
 });
 
 test("behind the end of a row the earliest deadline ends, once nobody does anything new", () => {

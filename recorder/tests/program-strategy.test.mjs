@@ -24,7 +24,7 @@ function asking({ seed = 1, strategy = "uniform", agents = 3, isProgram = true, 
   const way = waysOf(strategy, true);
   // Of several ways a run takes one by its seed, also if they are alike.
   const ways = isMixed ? [...way, ...way] : way;
-  const board = new Board(emptyMemory(), { agents, ways, maxMoves: 100_000, timeouts, soon: isProgram ? 1_000 : undefined });
+  const board = new Board(emptyMemory(), { agents, ways, maxMoves: 100_000, timeouts, early: isProgram ? 100 : undefined });
   board.begin(seed);
   for (let agent = 1; agent < agents; agent += 1) board.pass(agent - 1);
   for (let agent = 0; agent < agents; agent += 1) ask(board, agent, 400 + agent);

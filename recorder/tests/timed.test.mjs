@@ -190,9 +190,9 @@ describe("what comes first of failing runs", () => {
   });
 
   it("is described by the time, the agent and how many more waits ended early", () => {
-    const early = { milliseconds: 5_000, other: 1, isCall: true, more: 0 };
+    const early = { milliseconds: 5_000, other: 1, before: "call", more: 0 };
     assert.equal(earlyText(early), "only if 5 s pass before agent 1's next call");
-    assert.equal(earlyText({ ...early, isCall: false, milliseconds: 1, more: 1 }),
+    assert.equal(earlyText({ ...early, before: "wait", milliseconds: 1, more: 1 }),
       "only if 1 ms passes before agent 1 goes on (and 1 more wait ends early)");
     assert.equal(earlyText({ ...early, more: 3 }),
       "only if 5 s pass before agent 1's next call (and 3 more waits end early)");

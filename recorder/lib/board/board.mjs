@@ -15,6 +15,7 @@ import { Clock } from "./clock.mjs";
 import { Deadlines } from "./deadlines.mjs";
 import { End } from "./end.mjs";
 import { Journal, MOST_MOVES, MOVES } from "./journal.mjs";
+import { Lags } from "./lags.mjs";
 import { Line } from "./line.mjs";
 import { LOOK, Row, STRAYS } from "./row.mjs";
 import { Spins } from "./spins.mjs";
@@ -36,6 +37,7 @@ const TEXT_BYTES = 16_384;
  * @property {SharedArrayBuffer} reasons
  * @property {SharedArrayBuffer} times
  * @property {SharedArrayBuffer} early
+ * @property {SharedArrayBuffer} lags
  * @property {SharedArrayBuffer} places
  * @property {import("./row.mjs").RowMemory} row
  * @property {SharedArrayBuffer} [waiters] of a program: for the waits of Atomics.waitAsync
@@ -53,6 +55,7 @@ export class Board {
       reasons: new SharedArrayBuffer(agents * REASON_BYTES),
       times: Clock.memory(agents),
       early: Deadlines.memory(),
+      lags: Lags.memory(agents),
       places: KnownPlaces.memory(),
       row: Row.memory(),
     };
@@ -66,13 +69,15 @@ export class Board {
     this.end = new End(this.words, bufferFrom(memory.text));
     this.turn = new Turn(this.words, bufferFrom(memory.reasons), this.end, agents);
     this.waiters = memory.waiters === undefined ? undefined : new AsyncWaiters(memory.waiters);
-    this.line = new Line(this.words, agents, this.waiters);
-    this.journal = new Journal(this.words, new Float64Array(memory.views), agents);
     this.clock = new Clock(memory.times);
+    this.spins = new Spins(this.words, agents);
+    const isProgram = rules.early !== undefined;
+    const lags = isProgram ? new Lags(memory.lags, this.words, this.clock, this.spins, rules) : undefined;
+    this.line = new Line(this.words, agents, this.waiters, lags);
+    this.journal = new Journal(this.words, new Float64Array(memory.views), agents);
     const { places, names } = memory;
     this.places = names === undefined ? new KnownPlaces(places) : new NamedPlaces(places, names);
-    this.spins = new Spins(this.words, agents);
-    this.deadlines = new Deadlines(memory.early, this.words, this.clock, this.spins, agents);
+    this.deadlines = new Deadlines(memory.early, this.words, this.clock, this.spins, agents, lags);
     this.answers = new Answers(this.words, this.deadlines, agents);
     this.row = new Row(memory.row, this.deadlines, this.answers, this.words, agents);
     const random = new Random(new Int32Array(memory.words, WORD.RANDOM * 4, 4));
@@ -181,6 +186,7 @@ export class Board {
   join(agent) {
     this.words[WORD.JOINED] += 1;
     this.strategy.asks(agent, 0, 0, 0);
+    this.deadlines.lags?.wakes(agent);
     this.line.become(agent, PHASE.ASKS);
     this.turn.call(agent);
   }

@@ -74,6 +74,11 @@ export class Clock {
     return this.times[FIRST_DEADLINE + agent];
   }
 
+  /** @param {number} agent that waits @returns {boolean} whether its wait has no time: it is over at once */
+  isAtOnce(agent) {
+    return this.times[FIRST_DEADLINE + agent] === AT_ONCE;
+  }
+
   /** @param {number} agent that waits @returns {boolean} whether its time is up by now, step by step or otherwise */
   hasPassed(agent) {
     return this.times[FIRST_DEADLINE + agent] <= this.times[NOW];

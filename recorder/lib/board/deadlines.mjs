@@ -2,6 +2,7 @@
 // on. An agent that only reads the same again, asleep between or not, counts as one that can't.
 
 import { AGENT_WORD, NOBODY, PHASE, WORD, wordOf } from "../memory/layout.mjs";
+import { positionIn } from "../primordials.mjs";
 
 const { Float64Array, SharedArrayBuffer } = globalThis;
 
@@ -21,9 +22,13 @@ export const END = Object.freeze({
  * @typedef {object} Early the early end of a timed wait: it ended before an agent moved that could
  * @property {number} milliseconds the timeout
  * @property {number} other that agent
- * @property {boolean} isCall whether that agent was about to make a call; else it waited, too
+ * @property {"call" | "task" | "wait"} before what that agent was about to do: make a call; begin another task of its
+ * event loop, whose timer it was; or go on from a wait, too
  * @property {number} more how many further waits ended early in the run
  */
+
+/** The word EARLY_BEFORE is a position here. */
+const BEFORE = Object.freeze(/** @type {const} */ (["wait", "call", "task"]));
 
 export class Deadlines {
   /** @returns {SharedArrayBuffer} */
@@ -37,18 +42,21 @@ export class Deadlines {
    * @param {import("./clock.mjs").Clock} clock
    * @param {import("./spins.mjs").Spins} spins
    * @param {number} agents how many
+   * @param {import("./lags.mjs").Lags} [lags] of a program
    */
-  constructor(memory, words, clock, spins, agents) {
+  constructor(memory, words, clock, spins, agents, lags) {
     this.longest = new Float64Array(memory);
     this.words = words;
     this.clock = clock;
     this.spins = spins;
     this.agents = agents;
+    this.lags = lags;
   }
 
   /** Nobody waits, and nothing has ended. */
   begin() {
     this.spins.begin();
+    this.lags?.begin();
     this.words[WORD.EARLY] = 0;
     this.longest[0] = 0;
   }
@@ -62,6 +70,11 @@ export class Deadlines {
   isReady(agent) {
     const phase = this.words[wordOf(agent, AGENT_WORD.PHASE)];
     return phase === PHASE.ASKS || phase === PHASE.WOKEN;
+  }
+
+  /** @param {number} agent whose wait has a time @returns {boolean} whether that may be up though others can move */
+  mayEndEarly(agent) {
+    return this.lags === undefined || this.lags.allow(this.clock.deadline(agent), agent);
   }
 
   /** @returns {number} the agent whose wait's time is up first, or `NOBODY` */
@@ -82,10 +95,34 @@ export class Deadlines {
   end(agent, milliseconds) {
     if (this.words[wordOf(agent, AGENT_WORD.PHASE)] === PHASE.WOKEN) return END.WOKEN;
     const other = this.#before(agent);
-    if (other !== NOBODY && !this.clock.hasPassed(agent)) this.#noteEarly(milliseconds, other);
+    if (other !== NOBODY && !this.clock.hasPassed(agent)) {
+      const isCall = this.words[wordOf(other, AGENT_WORD.PHASE)] === PHASE.ASKS;
+      this.#noteEarly(milliseconds, other, isCall ? "call" : "wait");
+    }
+    this.lags?.ends(agent);
     this.clock.reachDeadline(agent);
     if (other !== NOBODY || !(milliseconds > 0)) return END.IN_TIME;
     return this.#isAlone(agent) ? END.ALONE : END.LAST;
+  }
+
+  /**
+   * Whether the first timer of an event loop may be due early, though the loop has other tasks.
+   * @param {number} agent that has the turn
+   * @param {number} milliseconds until the timer is due
+   */
+  mayPassEarly(agent, milliseconds) {
+    return this.lags === undefined || this.lags.allowOwn(milliseconds, agent);
+  }
+
+  /**
+   * The first timer of an event loop is due early: the loop has other tasks.
+   * @param {number} agent that has the turn
+   * @param {number} milliseconds until the timer is due
+   */
+  passEarly(agent, milliseconds) {
+    this.#noteEarly(milliseconds, agent, "task");
+    this.lags?.passes(milliseconds, agent);
+    this.clock.pass(milliseconds);
   }
 
   /** @returns {Early | undefined} the longest wait of a run that has ended early; undefined: none has */
@@ -93,7 +130,7 @@ export class Deadlines {
     const { words } = this;
     if (words[WORD.EARLY] === 0) return undefined;
     return {
-      milliseconds: this.longest[0], other: words[WORD.EARLY_OTHER], isCall: words[WORD.EARLY_CALL] === 1,
+      milliseconds: this.longest[0], other: words[WORD.EARLY_OTHER], before: BEFORE[words[WORD.EARLY_BEFORE]],
       more: words[WORD.EARLY] - 1,
     };
   }
@@ -151,13 +188,13 @@ export class Deadlines {
     return this.words[wordOf(agent, AGENT_WORD.TICKET)];
   }
 
-  /** @param {number} milliseconds @param {number} other that could go on before */
-  #noteEarly(milliseconds, other) {
+  /** @param {number} milliseconds @param {number} other that could go on before @param {Early["before"]} before */
+  #noteEarly(milliseconds, other, before) {
     const { words } = this;
     words[WORD.EARLY] += 1;
     if (milliseconds <= this.longest[0]) return;
     this.longest[0] = milliseconds;
     words[WORD.EARLY_OTHER] = other;
-    words[WORD.EARLY_CALL] = words[wordOf(other, AGENT_WORD.PHASE)] === PHASE.ASKS ? 1 : 0;
+    words[WORD.EARLY_BEFORE] = positionIn(BEFORE, before);
   }
 }

@@ -10,11 +10,13 @@ export class Line {
    * @param {Int32Array} words of the board
    * @param {number} agents how many
    * @param {import("./async-waiters.mjs").AsyncWaiters} [waiters] of a program: the waits in which nobody sleeps
+   * @param {import("./lags.mjs").Lags} [lags] of a program
    */
-  constructor(words, agents, waiters) {
+  constructor(words, agents, waiters, lags) {
     this.words = words;
     this.agents = agents;
     this.waiters = waiters;
+    this.lags = lags;
   }
 
   /** Nobody waits. @param {number} [starts] how many agents begin by themselves: the others are none yet */
@@ -123,6 +125,7 @@ export class Line {
       return true;
     }
     if (agent < 0) return false;
+    this.lags?.wakes(agent);
     this.become(agent, PHASE.WOKEN);
     return true;
   }

@@ -358,7 +358,8 @@ export class Row {
   #canBeDrawn(drawn) {
     const agent = moverOf(drawn);
     if (isLook(drawn)) return this.answers.mayCome(agent) || this.answers.mayComeBefore(agent);
-    return this.deadlines.isReady(agent) || this.deadlines.isTimed(agent);
+    if (this.deadlines.isReady(agent)) return true;
+    return this.deadlines.isTimed(agent) && (this.isExact || this.deadlines.mayEndEarly(agent));
   }
 
   /** @param {number} agent @returns {boolean} whether it can move by itself, and does something new */

@@ -21,8 +21,8 @@ const { imul } = Math;
  * @property {number | "never"} timeouts in how many draws the end of a timed wait is offered while something else can
  * move; never: it isn't, even if nothing else can move
  * @property {number} maxMoves
- * @property {number} [soon] of a program: in some seeds, the time of a wait that is less than so many milliseconds away
- * may be up as easily as anything else may move
+ * @property {number} [early] of a program: a time may be up early only if nothing that can move lags by more than so many
+ * milliseconds then. In some seeds such times are up as easily as anything else moves
  * @property {number} [starts] how many agents begin by themselves; others start the rest. If it isn't given, all begin
  */
 
@@ -79,7 +79,8 @@ export class Strategy {
     this.words = words;
     this.rules = rules;
     this.starts = rules.starts ?? rules.agents;
-    this.early = rules.timeouts === NEVER ? 0 : rules.timeouts;
+    /** In how many draws a time may be up early. */
+    this.share = rules.timeouts === NEVER || rules.early === 0 ? 0 : rules.timeouts;
     this.random = random;
     this.row = row;
     this.deadlines = deadlines;
@@ -98,8 +99,8 @@ export class Strategy {
     words[WORD.STARTED] = 0;
     words[WORD.IS_PILOT] = isPilot ? 1 : 0;
     words[WORD.STRATEGY] = seed % (isPilot ? this.pilotWays : this.ways).length;
-    const all = (this.early > 0 ? HASTY : 0) | (this.ways.length > 1 ? SLOW : 0);
-    const changes = this.rules.soon === undefined ? 0 : changesOf(seed);
+    const all = (this.share > 0 ? HASTY : 0) | (this.ways.length > 1 ? SLOW : 0);
+    const changes = this.rules.early === undefined ? 0 : changesOf(seed);
     words[WORD.CHANGES] = (changes & all) | ((changes & HASTY) === 0 ? 0 : EAGER);
     this.slow.begin();
     this.random.seed(seed);
@@ -254,27 +255,19 @@ export class Strategy {
     if (!this.#isMoving()) {
       able.clear();
       able.add(deadlines.first());
-    } else if (this.isHasty) this.#addSoon();
-    else if (this.random.fraction() < this.early) this.#addTimed(false);
+    } else if (this.isHasty || this.random.fraction() < this.share) this.#addTimed(false);
   }
 
-  /** Adds waits whose time isn't up, but soon. */
-  #addSoon() {
-    const { able, deadlines, deadlines: { clock }, rules: { soon = 0 } } = this;
-    const until = clock.now() + soon;
-    for (let agent = 0; agent < this.rules.agents; agent += 1) {
-      if (!deadlines.isTimed(agent) || clock.isDue(agent) || able.place(agent) >= 0) continue;
-      if (clock.deadline(agent) < until) able.add(agent);
-    }
-  }
-
-  /** @param {boolean} isDue whether those are added that are due, or the others @returns {number} how many they are */
+  /**
+   * @param {boolean} isDue whether those are added that are due, or those that may end early
+   * @returns {number} how many they are
+   */
   #addTimed(isDue) {
     const { able, deadlines } = this;
     const before = able.count;
     for (let agent = 0; agent < this.rules.agents; agent += 1) {
       if (!deadlines.isTimed(agent) || able.place(agent) >= 0) continue;
-      if (deadlines.clock.isDue(agent) === isDue) able.add(agent);
+      if (deadlines.clock.isDue(agent) === isDue && (isDue || deadlines.mayEndEarly(agent))) able.add(agent);
     }
     return able.count - before;
   }

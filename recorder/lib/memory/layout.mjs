@@ -29,7 +29,7 @@ export const WORD = Object.freeze({
   STRATEGY: 24,
   IS_PILOT: 25,
   EARLY_OTHER: 26,
-  EARLY_CALL: 27,
+  EARLY_BEFORE: 27,
   IS_SILENT: 28,
   /**
    * Of a program: how many threads have joined its run, how many messages were sent, and how many threads are ready.

@@ -62,6 +62,9 @@ export const PART_OR_NEVER = that(isPartOrNever, `a number from 0 to 1, or ${NEV
 export const above0 = (most) =>
   number(DECIMAL, (value) => value > 0 && value <= most, `a number above 0, and ${most} at most`);
 
+/** @param {number} most */
+export const upTo = (most) => number(DECIMAL, (value) => value >= 0 && value <= most, `a number from 0 to ${most}`);
+
 /** @param {unknown} value */
 const isName = (value) => typeof value === "string" && value !== "";
 

@@ -5,7 +5,7 @@
 import { DEFAULT_SECONDS, MOST_JOBS, SCRIPT_LIMITS } from "../../script/limits.mjs";
 import {
   AGENTS, AGENTS_THAT_CANT, BUFFERS, FLAG, FUNCTION, PART_OR_NEVER, PATH_OR_URL, PROGRAM, SEED, SEEDS, SHARD, SIGNAL,
-  STRATEGY, WORDS, above0, choice, named, whole,
+  STRATEGY, WORDS, above0, choice, named, upTo, whole,
 } from "./kinds.mjs";
 
 /** @typedef {"record" | "explore" | "command"} Taker the library's two functions, and the command line */
@@ -24,6 +24,9 @@ import {
  */
 
 const MOST_SECONDS = 3_600;
+
+/** The longest time of a timer, in milliseconds. */
+const MOST_EARLY = 2 ** 31 - 1;
 
 /** @type {Taker[]} */
 const LIBRARY = ["record", "explore"];
@@ -71,6 +74,9 @@ export const OPTIONS = Object.freeze({
   timeouts: replayed(PART_OR_NEVER, 0.05,
     ["P", "the share of draws, from 0 to 1, that may end a timed wait early, while something else can move. 0: time "
     + "passes only if nothing else can move. never: not even then, so a lost wake-up is a deadlock"]),
+  early: { kind: upTo(MOST_EARLY), of: ALL, isShared: true, isReplayed: true,
+    help: ["MS", "a program's timer or timed wait may end early, but only so that the run's clock is at most MS "
+    + "milliseconds ahead of all that waits. 0: none ends early"], orElse: "100" },
   ordinary: word(["watch", "store", "refuse"], ["HOW", "reads and writes without Atomics: watch (sees each, and looks "
     + "for unordered accesses), store (finds only what changed) or refuse (fails a run at a byte that changed)"]),
   races: word(["fail", "allow"],

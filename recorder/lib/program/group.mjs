@@ -20,8 +20,8 @@ import { programMemory, programPlan } from "./program-memory.mjs";
 
 const PROGRAM_MODULE = new URL("./worker.mjs", import.meta.url);
 
-/** The time of a wait or a timer that is further away is never up early in the hasty seeds. */
-const SOON_MILLISECONDS = 1_000;
+/** By how many milliseconds the clock may be ahead of what waits, if that isn't given. */
+const EARLY_MILLISECONDS = 100;
 
 /**
  * A job's first failing run may cost all of its threads so often: it is made again in fresh threads, and for its lines
@@ -78,12 +78,12 @@ export class ProgramGroup extends Group {
   /** @param {() => void} meanwhile */
   async start(meanwhile) {
     const referee = this.beginReferee();
-    const { module, strategy, everywhere, timeouts, maxMoves, web = false } = this.options;
+    const { module, strategy, everywhere, timeouts, maxMoves, early = EARLY_MILLISECONDS, web = false } = this.options;
     this.#origin = module;
     const plan = programPlan(SCRIPT_LIMITS.agents, !web);
     const ways = programWaysOf(strategy, everywhere);
     this.plan = plan;
-    this.rules = { agents: plan.agents, starts: 1, soon: SOON_MILLISECONDS, ways, timeouts, maxMoves };
+    this.rules = { agents: plan.agents, starts: 1, early, ways, timeouts, maxMoves };
     this.memory = programMemory(plan, this.options.logEvents);
     this.board = new Board(this.memory.board, this.rules);
     const options = this.refereeOptions({ hasInit: false, hasCheck: false });

@@ -20,9 +20,6 @@ const resources = own.getActiveResourcesInfo.bind(own);
 /** From here on are the numbers of the rows by which threads draw tasks. */
 const TASKS = 64;
 
-/** A timer that is further away is never early. */
-const SOON_MILLISECONDS = 1_000;
-
 /** How likely it is that the time of the first timer comes, in runs in which short times are up early. */
 const HASTY = 0.5;
 
@@ -387,11 +384,11 @@ export class Loop {
 
   /** In some of the draws the time of the first timer comes though there is something else to do. */
   #offerEarly() {
-    const { board: { clock, strategy } } = this.served.moves;
+    const { agent, board: { clock, deadlines, strategy } } = this.served.moves;
     const left = this.#deadline() - clock.now();
-    if (!(left > 0 && left < SOON_MILLISECONDS)) return;
-    const likelihood = strategy.isHasty ? HASTY : strategy.early;
-    if (likelihood > 0 && this.random.fraction() < likelihood) clock.pass(left);
+    if (!(left > 0 && deadlines.mayPassEarly(agent, left))) return;
+    const likelihood = strategy.isHasty ? HASTY : strategy.share;
+    if (likelihood > 0 && this.random.fraction() < likelihood) deadlines.passEarly(agent, left);
   }
 }
 

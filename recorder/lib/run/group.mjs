@@ -33,6 +33,7 @@ import { within } from "./within.mjs";
  * @typedef {object} GroupOptions
  * @property {string} module the URL of the agents' module
  * @property {"fail" | "allow"} [stuck] whether a run of a program that is stuck fails
+ * @property {number} [early] by how many milliseconds the clock of a program's run may be ahead of what waits
  * @property {boolean} [isProgram] whether the module is a program that starts its threads itself
  * @property {boolean} [web] whether the program is one for browsers
  * @property {"all" | "none"} [programOutput] for which runs it is shown what a program prints; else for the first one

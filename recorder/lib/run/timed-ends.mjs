@@ -28,10 +28,10 @@ export function durationText(milliseconds) {
 }
 
 /** @param {import("../board/deadlines.mjs").Early} early @returns {string} what a run needs, in words */
-export function earlyText({ milliseconds, other, isCall, more }) {
+export function earlyText({ milliseconds, other, before, more }) {
   const duration = durationText(milliseconds);
   const pass = /^1 /.test(duration) ? "passes" : "pass";
-  const next = isCall ? `agent ${other}'s next call` : `agent ${other} goes on`;
+  const next = before === "wait" ? `agent ${other} goes on` : `agent ${other}'s next ${before}`;
   const further = more === 0 ? "" : ` (and ${more === 1 ? "1 more wait ends" : `${more} more waits end`} early)`;
   return `only if ${duration} ${pass} before ${next}${further}`;
 }

@@ -23,6 +23,7 @@ import { readFileSync } from "node:fs";
  * @property {string[]} [options] that the recorder needs for it
  * @property {boolean} [isEndless] whether it prints "ready" and ends only by Ctrl-C
  * @property {boolean} [isWeb] whether it is for browsers
+ * @property {RegExp} [late] what it says in node if the machine is so slow that a limit of time is met
  * @property {string} [notYet] what it needs that the recorder doesn't simulate yet, as the recorder names it
  */
 
@@ -152,6 +153,15 @@ const ALL = [
     failed(/the answer is 0/, ["ignored.mjs", THROWS])),
   ofTime("deadline/sleeps.mjs", failed(/hasn't answered after 50 ms/, ["sleeps.mjs", THROWS])),
   rare("deadline/turns.mjs", failed(/no answer after eight turns/, ["turns.mjs", THROWS])),
+
+  // Limits of time that are met only if a thread does nothing for so long.
+  right("watchdog/right.mjs", { late: /no answer in 500 ms/ }),
+  right("watchdog/ticks.mjs", { late: /answers in 200 ms/ }),
+  wrong("watchdog/two-questions.mjs", failed(/a timer of \d questions was left/, ["two-questions.mjs", "questions was left"])),
+  right("heartbeat/right.mjs"),
+  wrong("heartbeat/first-only.mjs", failed(/no beat for [45]\d{3}/, ["first-only.mjs", THROWS])),
+  right("cache/right.mjs"),
+  wrong("cache/asks-twice.mjs", failed(/the answer to b is number [23], for [ab]/, ["asks-twice.mjs", THROWS])),
 
   // How threads end: terminate, rejections, errors, exit codes, unref.
   right("terminate/right.mjs"),
