@@ -137,6 +137,56 @@ describe("a slow agent", () => {
   });
 });
 
+describe("late waits and notifies", () => {
+  /** A board whose agents ask for a wait, a notify and a store at one place. */
+  function meeting({ seed = 1, ...rules } = {}) {
+    const board = asking({ seed, ...rules });
+    const { READS, WRITES } = FLAG;
+    [READS | WAITERS, WAITERS, WRITES].forEach((how, agent) => {
+      board.strategy.asks(agent, 400, 404, how);
+      board.line.become(agent, PHASE.ASKS);
+    });
+    return board;
+  }
+  /** Whether the rule is asked for anything in a run of a seed. */
+  function isLate(seed, rules) {
+    const board = asking({ seed, ...rules });
+    let isAsked = false;
+    for (const name of ["asks", "hold", "moves"]) board.strategy.late[name] = () => { isAsked = true; };
+    ask(board, 0, 400);
+    board.strategy.next();
+    return isAsked;
+  }
+  const lateSeeds = allSeeds.filter((seed) => isLate(seed));
+
+  it("are in one of eight seeds of a program, and the others draw as without the rule", () => {
+    assert.ok(Math.abs(lateSeeds.length / SEEDS - 1 / 8) < 0.02, `${lateSeeds.length}`);
+    assert.deepEqual(allSeeds.filter((seed) => isLate(seed, { isProgram: false }) || isLate(seed, { isMixed: false })), []);
+  });
+
+  it("come after what others can do, and a wait comes before a notify and when its place was written", () => {
+    let bySeed = lateSeeds.map((seed) => drawn(meeting({ seed }), 1)[0]);
+    // Of three, each is held in half of the seeds, and what isn't held is as likely as the others.
+    const share = (agent) => bySeed.filter((next) => next === agent).length / bySeed.length;
+    assert.ok(share(2) > 0.45, `${share(2)}`);
+    bySeed = lateSeeds.map((seed) => {
+      const board = meeting({ seed });
+      board.line.become(2, PHASE.FINISHED);
+      return drawn(board, 1)[0];
+    });
+    assert.ok(share(0) > 0.5, `${share(0)}`);
+  });
+
+  it("find a late notify after many reads in a share of these seeds", async (context) => {
+    const fileFor = (name) => readFileSync(new URL(`./programs/bridge/${name}`, import.meta.url), "utf8");
+    const files = Object.fromEntries(["bridge.mjs", "worker.mjs"].map((name) => [name, fileFor(name)]));
+    const outcomes = await runsOf(context, { "main.mjs": fileFor("timed.mjs"), ...files }, { seeds: lateSeeds });
+    const failing = outcomes.filter(({ fails }) => fails);
+    assert.ok(failing.length >= 4, `${failing.length} of ${lateSeeds.length}`);
+    assert.ok(failing.every(({ detail }) => /woken without an answer/.test(detail)));
+  });
+});
+
 describe("findings", () => {
   const fileOf = (name) => readFileSync(new URL(`./programs/${name}`, import.meta.url), "utf8");
 

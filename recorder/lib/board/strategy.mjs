@@ -8,6 +8,7 @@ import { MOST_MOVES } from "./journal.mjs";
 import { isLook, moverOf } from "./row.mjs";
 import { Able } from "./strategy/able.mjs";
 import { Asked } from "./strategy/asked.mjs";
+import { Late } from "./strategy/late.mjs";
 import { Slow } from "./strategy/slow.mjs";
 import { STRATEGIES } from "./strategy/table.mjs";
 import { NEVER, PILOT_WAYS } from "./strategy/ways.mjs";
@@ -42,6 +43,9 @@ const SLOW = 2;
 // Set beside HASTY, also if no time is up early: real answers come as easily as anything else moves.
 const EAGER = 4;
 
+// In one of eight seeds, whatever else is changed: waits and notifies are late.
+const LATE = 8;
+
 /** In how many of the draws of the other seeds real answers may come though something else can move. */
 const EARLY_ANSWERS = 0.05;
 
@@ -60,7 +64,10 @@ const MOST_HASTY = 20;
 const CHANGES = Object.freeze([0, 0, HASTY, SLOW, HASTY | SLOW, HASTY | SLOW, HASTY | SLOW, HASTY | SLOW]);
 
 /** @param {number} seed @returns {number} what is changed, unless a single strategy or no early time is asked for */
-const changesOf = (seed) => CHANGES[imul(seed, 0x9e3779b1) >>> 29];
+const changesOf = (seed) => {
+  const drawn = imul(seed, 0x9e3779b1) >>> 26;
+  return CHANGES[drawn >>> 3] | ((drawn & 7) === 0 ? LATE : 0);
+};
 
 // A pilot that is long shows little more.
 const MOST_PILOT_MOVES = 10_000;
@@ -88,6 +95,7 @@ export class Strategy {
     this.able = new Able(rules.agents);
     this.asked = new Asked(words, places);
     this.slow = new Slow(words, random);
+    this.late = new Late(words, random, this.asked, rules.agents);
     this.ways = this.#made(rules.ways);
     this.pilotWays = this.#made(PILOT_WAYS);
   }
@@ -99,10 +107,11 @@ export class Strategy {
     words[WORD.STARTED] = 0;
     words[WORD.IS_PILOT] = isPilot ? 1 : 0;
     words[WORD.STRATEGY] = seed % (isPilot ? this.pilotWays : this.ways).length;
-    const all = (this.share > 0 ? HASTY : 0) | (this.ways.length > 1 ? SLOW : 0);
+    const all = (this.share > 0 ? HASTY : 0) | (this.ways.length > 1 ? SLOW | (isPilot ? 0 : LATE) : 0);
     const changes = this.rules.early === undefined ? 0 : changesOf(seed);
     words[WORD.CHANGES] = (changes & all) | ((changes & HASTY) === 0 ? 0 : EAGER);
     this.slow.begin();
+    this.late.begin();
     this.random.seed(seed);
     this.#way().drawing.begin();
     for (let agent = 0; agent < this.rules.agents; agent += 1) this.asked.begin(agent);
@@ -128,6 +137,7 @@ export class Strategy {
    */
   asks(agent, from, to, how, known = from) {
     this.asked.note(agent, from, to, how, known, this.#way().everywhere);
+    if (this.#isLate) this.late.asks(agent, from, to, how);
   }
 
   /** @returns {number} the next agent that hasn't been started, or `NOBODY_MOVES` */
@@ -174,8 +184,16 @@ export class Strategy {
     const sure = this.#gather();
     if (sure !== NOBODY_GOES_ON) return sure;
     if (able.count === 0) return NOBODY_MOVES;
+    if (this.#isLate) this.late.hold(able);
     if ((this.words[WORD.CHANGES] & SLOW) !== 0) this.slow.hold(able);
-    return this.#way().drawing.drawn(able, last);
+    const next = this.#way().drawing.drawn(able, last);
+    if (this.#isLate) this.late.moves(next);
+    return next;
+  }
+
+  /** Whether waits and notifies are late; a run that goes by a row has no draws. */
+  get #isLate() {
+    return (this.words[WORD.CHANGES] & LATE) !== 0 && !this.row.isForced();
   }
 
   /** @param {number} agent that was drawn by the seed @returns {boolean} whether it looks for real answers */

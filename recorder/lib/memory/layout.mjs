@@ -61,6 +61,8 @@ export const WORD = Object.freeze({
   MORE_ANSWERS: 43,
   /** Which agent has met a limit, and whether it spins, as `End` keeps them. */
   MET: 44,
+  /** Of a program: which agents are held at a wait or a notify, a bit for each. */
+  LATE: 45,
 });
 
 /** Words of each agent; each agent has a line of the processor's cache for itself. */

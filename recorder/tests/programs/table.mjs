@@ -88,6 +88,10 @@ const ALL = [
   rare("calls/late-notify.mjs", failed(/woken without an answer/, ["calls.mjs", "woken without an answer"])),
   rare("calls/late-answer.mjs", failed(/woken without an answer/, ["calls.mjs", "woken without an answer"])),
   wrong("calls/notify-first.mjs", failed(/woken without an answer/, ["calls.mjs", "woken without an answer"])),
+  right("bridge/right.mjs"),
+  wrong("bridge/reads.mjs", failed(/woken without an answer/, ["bridge.mjs", "woken without an answer"])),
+  wrong("bridge/looks-first.mjs", failed(/woken without an answer/, ["bridge.mjs", "woken without an answer"])),
+  wrong("bridge/timed.mjs", failed(/woken without an answer/, ["bridge.mjs", "woken without an answer"])),
   ofTime("calls/time-limit.mjs", failed(/is answered by/, ["time-limit.mjs", THROWS])),
 
   // Pools, and what is remembered across an await.
@@ -123,6 +127,8 @@ const ALL = [
   right("free-list/right.mjs"),
   rare("free-list/comes-back.mjs",
     failed(/the free nodes are/, ["threads.mjs", THROWS]), failed(/no node is free/, ["list.mjs", THROWS])),
+  rare("free-list/wraps.mjs",
+    failed(/the free nodes are/, ["wraps.mjs", THROWS]), failed(/no node is free/, ["list.mjs", THROWS])),
   right("version/right.mjs"),
   rare("version/wraps.mjs", failed(/a torn pair/, ["threads.mjs", THROWS])),
   right("buffers/right.mjs"),

@@ -8,7 +8,7 @@ export class FreeList {
     this.counts = counts;
   }
 
-  #changed(head, node) {
+  changed(head, node) {
     const was = Atomics.compareExchange(this.words, FREE, head, (this.counts ? (head & ~15) + 16 : 0) | node);
     return was === head;
   }
@@ -19,7 +19,7 @@ export class FreeList {
       const node = head & 15;
       if (node === 0) throw new Error("no node is free");
       const next = Atomics.load(this.words, node);
-      if (this.#changed(head, next)) return node;
+      if (this.changed(head, next)) return node;
     }
   }
 
@@ -27,7 +27,7 @@ export class FreeList {
     for (;;) {
       const head = Atomics.load(this.words, FREE);
       Atomics.store(this.words, node, head & 15);
-      if (this.#changed(head, node)) return;
+      if (this.changed(head, node)) return;
     }
   }
 }
