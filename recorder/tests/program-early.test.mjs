@@ -12,9 +12,9 @@ import { endingsOf, runsOf } from "./helpers/whole-programs.mjs";
 const seedsTo = (last) => Array.from({ length: last }, (_, at) => at + 1);
 
 /** A program's board: agent 0 waits for a time, agent 1 asks for a call, agent 2 sleeps. */
-function boardOf({ early = 100, milliseconds = 50 } = {}) {
+function boardOf({ early = 100, milliseconds = 50, memory = emptyMemory() } = {}) {
   const rules = { agents: 3, starts: 3, ways: waysOf("uniform", true), maxMoves: 100_000, timeouts: 0.05, early };
-  const board = new Board(emptyMemory(), rules);
+  const board = new Board(memory, rules);
   board.begin(1);
   for (let agent = 1; agent < 3; agent += 1) board.pass(agent - 1);
   board.rest(0, LOOP, milliseconds);
@@ -44,7 +44,6 @@ describe("a time that may end early", () => {
 
   it("counts from when the clock went on: what passed early is left out of the next time", () => {
     const board = boardOf({ milliseconds: 60 });
-    board.words.set([0], board.words.length - 1);
     board.deadlines.end(0, 60);
     board.rest(0, LOOP, 60);
     assert.equal(mayEnd(board), false);
@@ -65,7 +64,7 @@ describe("a time that may end early", () => {
 
   it("ends by a row only so, unless the row is exact", () => {
     const drawn = (isExact, milliseconds) => {
-      const board = boardOf({ milliseconds });
+      const board = boardOf({ milliseconds, memory: Board.memory() });
       board.row.begin({ row: [0], isExact, wantsRow: false });
       return board.row.next();
     };

@@ -91,6 +91,7 @@ export class Accesses {
       if (!memory.hasChanged(block)) continue;
       isChanged = true;
       board.spins.news();
+      board.vain?.news();
       if (ordinary === "watch") this.#takeSeen(block);
       if (ordinary === "store") stores.takeChanged(this.agent, log.length, block);
     }
@@ -125,7 +126,9 @@ export class Accesses {
   /** @param {number} block @param {number} from @param {number} to @param {number} kind */
   #takeStretchOfMore(block, from, to, kind) {
     const { board, log, stores } = this.table;
-    if (from < to && stores.takeWrittenInMore(this.agent, log.length, block, from, to, kind)) board.spins.news();
+    if (from >= to || !stores.takeWrittenInMore(this.agent, log.length, block, from, to, kind)) return;
+    board.spins.news();
+    board.vain?.news();
   }
 
   /**

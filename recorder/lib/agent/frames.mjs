@@ -160,6 +160,16 @@ export function numberAbove(sources, called) {
   return frame !== undefined && isAgentsFile(frame.getFileName()) ? numberOf(sources, frame) : numberHere(sources);
 }
 
+/**
+ * The same as `sourceHere`, if it is known what the agent's code has called.
+ * @param {Function} called
+ * @returns {string | undefined}
+ */
+export function sourceAbove(called) {
+  const frame = framesHere(called, 1)[0];
+  return frame !== undefined && isAgentsFile(frame.getFileName()) ? placeOf(frame) : sourceOfCall();
+}
+
 /** @param {Sources} sources @param {NodeJS.CallSite} frame */
 function numberOf(sources, frame) {
   const { file, line, column } = positionOf(frame);

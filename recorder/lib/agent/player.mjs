@@ -179,6 +179,7 @@ export class Player {
   look() {
     this.part.needsRun();
     this.table.board.spins.found(this.agent);
+    this.table.board.vain?.news();
     return this.table.board.clock.look();
   }
 
@@ -354,6 +355,7 @@ export class Player {
   /** @param {Call} call that is made now */
   #made(call) {
     this.table.records.begin(this.part.made, call);
+    this.table.board.vain?.news();
     this.part.last = call;
   }
 

@@ -22,6 +22,7 @@ import { Spins } from "./spins.mjs";
 import { NOBODY_MOVES, Strategy } from "./strategy.mjs";
 import { NEVER } from "./strategy/ways.mjs";
 import { REASON_BYTES, Turn } from "./turn.mjs";
+import { Vain } from "./vain.mjs";
 
 const { Int32Array, Float64Array } = globalThis;
 const { load, store } = Atomics;
@@ -38,6 +39,7 @@ const TEXT_BYTES = 16_384;
  * @property {SharedArrayBuffer} times
  * @property {SharedArrayBuffer} early
  * @property {SharedArrayBuffer} lags
+ * @property {SharedArrayBuffer} vain
  * @property {SharedArrayBuffer} places
  * @property {import("./row.mjs").RowMemory} row
  * @property {SharedArrayBuffer} [waiters] of a program: for the waits of Atomics.waitAsync
@@ -56,6 +58,7 @@ export class Board {
       times: Clock.memory(agents),
       early: Deadlines.memory(),
       lags: Lags.memory(agents),
+      vain: Vain.memory(agents),
       places: KnownPlaces.memory(),
       row: Row.memory(),
     };
@@ -78,6 +81,7 @@ export class Board {
     const { places, names } = memory;
     this.places = names === undefined ? new KnownPlaces(places) : new NamedPlaces(places, names);
     this.deadlines = new Deadlines(memory.early, this.words, this.clock, this.spins, agents, lags);
+    this.vain = isProgram ? new Vain(memory.vain, this.words, agents) : undefined;
     this.answers = new Answers(this.words, this.deadlines, agents);
     this.row = new Row(memory.row, this.deadlines, this.answers, this.words, agents);
     const random = new Random(new Int32Array(memory.words, WORD.RANDOM * 4, 4));
@@ -100,6 +104,7 @@ export class Board {
     this.clock.begin(seed);
     this.deadlines.begin();
     this.answers.begin();
+    this.vain?.begin();
     this.strategy.begin(seed, isPilot);
     this.turn.start(this.strategy.nextToStart());
   }
@@ -148,6 +153,10 @@ export class Board {
       end.end("bound", `more than ${rules.maxMoves} moves would be made`);
       return false;
     }
+    if (this.vain?.isAll() && !answers.areExpected) {
+      end.end(this.#standstill(), "");
+      return false;
+    }
     const next = strategy.next();
     if (next === STRAYS) end.end("failed", "");
     else if (next === NOBODY_MOVES) end.end(this.#standstill(), "");
@@ -187,6 +196,7 @@ export class Board {
     this.words[WORD.JOINED] += 1;
     this.strategy.asks(agent, 0, 0, 0);
     this.deadlines.lags?.wakes(agent);
+    this.vain?.news();
     this.line.become(agent, PHASE.ASKS);
     this.turn.call(agent);
   }
@@ -225,6 +235,7 @@ export class Board {
     const { answers, row, strategy } = this;
     if (!row.admits(agent)) return false;
     answers.goesOn(agent);
+    this.vain?.news();
     strategy.moves(agent, agent + LOOK);
     if (answers.came(agent)) this.turned();
     return true;

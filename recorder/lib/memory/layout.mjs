@@ -63,6 +63,8 @@ export const WORD = Object.freeze({
   MET: 44,
   /** Of a program: which agents are held at a wait or a notify, a bit for each. */
   LATE: 45,
+  /** Of a program: how many callbacks of timers have run in a row, in vain so far. */
+  VAIN: 46,
 });
 
 /** Words of each agent; each agent has a line of the processor's cache for itself. */

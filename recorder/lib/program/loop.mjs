@@ -167,7 +167,7 @@ export class Loop {
    * @returns {number} one of `STEP`
    */
   #step(holds) {
-    const { ends, moves, keepers } = this.served;
+    const { ends, moves, keepers, waits } = this.served;
     this.drain();
     if (ends.isDone()) return STEP.IS_OVER;
     const active = resources();
@@ -178,8 +178,9 @@ export class Loop {
     } else {
       const kept = this.#keepers().concat(moves.silentTexts(pending));
       if (kept.length === 0) return this.#endsNow();
-      keepers.write(kept.join("; "));
+      keepers.write([kept.join("; "), ...waits.texts()].join("; it awaits "));
       this.#mayLook = true;
+      moves.board.vain?.rests(moves.agent, this.#places);
       if (!moves.idle(this.#untilTimer(), pending)) return STEP.IS_OVER;
     }
     if (moves.looksFor > 0) return STEP.LOOKS;
@@ -287,6 +288,12 @@ export class Loop {
     return deadline === Infinity ? undefined : Math.max(0, deadline - this.#now());
   }
 
+  /** @returns {unknown[]} where all timers were made that are still to be due; undefined: that isn't known */
+  #places = () => {
+    const { timers: armed, waits } = this.served;
+    return waits.deadline === Infinity ? armed.places() : [undefined];
+  };
+
   /** @returns {string[]} what keeps the thread alive, in words */
   #keepers() {
     const { ports, timers: armed, children, ends } = this.served;
@@ -304,8 +311,10 @@ export class Loop {
     if (acts.length === 0) return;
     this.#hasAwaited = false;
     const at = acts.length === 1 ? 0 : this.random.below(acts.length);
+    const act = acts[at];
+    if (act !== this.#runDue) this.served.moves.board.vain?.news();
     try {
-      acts[at]();
+      act();
     } catch (thrown) {
       this.served.ends.uncaught(thrown);
     }
@@ -323,7 +332,7 @@ export class Loop {
     if (armed.inRound > 0) return [() => this.#runImmediate()];
     this.#offerEarly();
     const isDue = this.#deadline() <= this.#now();
-    if (isDue && this.#isTurning) return [() => this.#runDue()];
+    if (isDue && this.#isTurning) return [this.#runDue];
     this.#isTurning = false;
     const ready = events.ready();
     const isFirst = this.#areFirst(ready);
@@ -342,7 +351,7 @@ export class Loop {
     if (waits.isWoken) acts.push(() => waits.settle());
     else if (armed.immediates > 0) {
       if (!isFirst) acts.push(() => this.#runImmediate());
-    } else if (isDue) acts.push(() => this.#runDue());
+    } else if (isDue) acts.push(this.#runDue);
     return acts;
   }
 
@@ -358,16 +367,20 @@ export class Loop {
   }
 
   /** Runs the first timer that is due, or ends the first waitAsync whose time is up. */
-  #runDue() {
+  #runDue = () => {
     const { timers: armed, waits } = this.served;
     this.#looks = true;
-    if (waits.deadline < armed.deadline) waits.timeOut();
-    else {
+    const { vain } = this.served.moves.board;
+    if (waits.deadline < armed.deadline) {
+      vain?.news();
+      waits.timeOut();
+    } else {
       const timer = armed.nextTimer();
-      if (timer !== undefined) this.#note(`runs ${taskText(timer)}`, timer.where);
+      vain?.turns(timer?.where);
+      if (timer !== undefined && vain?.isShown) this.#note(`runs ${taskText(timer)}`, timer.where);
       armed.runTimer();
     }
-  }
+  };
 
   /** After the last immediate of a round the loop turns. */
   #runImmediate() {

@@ -40,12 +40,14 @@ export const namedLines = (text, name) =>
 /**
  * @param {() => boolean} isShown whether it is shown
  * @param {() => string} name of the thread
+ * @param {() => void} onPrint is called whenever something is printed, shown or not
  */
-export function printAtOnce(isShown, name) {
+export function printAtOnce(isShown, name, onPrint) {
   for (const stream of /** @type {const} */ (["stdout", "stderr"])) {
     const written = new Writable({ write: (_chunk, _encoding, done) => done() });
     /** @type {(chunk: string | Uint8Array, encoding?: any, done?: any) => boolean} */
     const write = (chunk, encoding, done) => {
+      onPrint();
       if (chunk.length > 0 && isShown()) print(namedLines(textOf(chunk, encoding), name()));
       const callback = typeof encoding === "function" ? encoding : done;
       if (typeof callback === "function") later(callback);

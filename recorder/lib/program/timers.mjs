@@ -79,6 +79,11 @@ export class Timers {
     return this.#lists().reduce((earliest, list) => Math.min(earliest, dueOf(list)), Infinity);
   }
 
+  /** @returns {any[]} where each timer was made */
+  places() {
+    return this.#lists().flatMap((list) => itemsOf(list)).map((timer) => this.#whereOf(timer));
+  }
+
   /** @returns {number} how many immediates are ready */
   get immediates() {
     return this.#node.counts.immediateInfo[IMMEDIATES];

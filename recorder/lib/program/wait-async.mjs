@@ -5,6 +5,7 @@
 import { CALL_NUMBERS, kindOf } from "../../script/kinds.mjs";
 import { callOf } from "../agent/atomics.mjs";
 import { engineCall } from "../agent/engine.mjs";
+import { sourceAbove } from "../agent/frames.mjs";
 import { unwrapped } from "../agent/ordinary/watched.mjs";
 import { NO_WAITER } from "../board/async-waiters.mjs";
 import { byteOf } from "../memory/memory.mjs";
@@ -26,6 +27,7 @@ const { waitAsync: engineWaitAsync } = /** @type {any} */ (Atomics);
  * @property {number} slot on the board, or `NO_WAITER`
  * @property {number} made which of the thread's calls it is
  * @property {number} order which notify has woken it, if it has no slot; 0: it still waits
+ * @property {string | undefined} where the code has called it
  */
 
 /**
@@ -75,6 +77,11 @@ export class WaitAsync {
   }
 
   // What the loop asks.
+
+  /** @returns {string[]} the waits that aren't settled, in words */
+  texts() {
+    return this.#pending.map(({ where }) => (where === undefined ? "Atomics.waitAsync" : `Atomics.waitAsync from ${where}`));
+  }
 
   /** @returns {number} when the first wait ends by its time, on the run's clock; Infinity: none does */
   get deadline() {
@@ -127,16 +134,22 @@ export class WaitAsync {
     const made = moves.player.part.made;
     const word = call.block < 0 ? engineCall(call, view) : moves.compare(call, view, called);
     if (word === "not-equal" || timeOf(call) <= 0) return { async: false, value: word };
-    return { async: true, value: this.#begin(call, buffer, made) };
+    return { async: true, value: this.#begin(call, buffer, made, sourceAbove(called)) };
   }
 
-  /** @param {Call} call @param {number} buffer @param {number} made @returns {Promise<string>} */
-  #begin(call, buffer, made) {
+  /**
+   * @param {Call} call
+   * @param {number} buffer
+   * @param {number} made
+   * @param {string | undefined} where
+   * @returns {Promise<string>}
+   */
+  #begin(call, buffer, made, where) {
     const { board } = this.around.moves;
     return new EnginePromise((resolve) => {
       const slot = call.block < 0 ? NO_WAITER : this.#slotOf(call);
       const deadline = board.clock.now() + timeOf(call);
-      this.#pending.push({ call, buffer, deadline, resolve, slot, made, order: 0 });
+      this.#pending.push({ call, buffer, deadline, resolve, slot, made, order: 0, where });
     });
   }
 

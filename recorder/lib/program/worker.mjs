@@ -236,7 +236,7 @@ function partsOf(player, blocks, mesh) {
 /** @param {Parts} parts */
 function installReplacements({ moves, buffers, waits, ends, events, timers, later, late, spawned, isShown }) {
   const listAgain = listingOf([globalThis, buffer, crypto, process, util]);
-  printAtOnce(isShown, printedName);
+  printAtOnce(isShown, printedName, () => moves.board.vain?.news());
   simulateTime(() => (isPlaying() ? playing().look() : 0));
   simulateChance(chance);
   // Node makes a context of its own when a reader is released first. That context isn't the program's, so it is made

@@ -163,9 +163,13 @@ const ALL = [
   // Limits of time that are met only if a thread does nothing for so long.
   right("watchdog/right.mjs", { late: /no answer in 500 ms/ }),
   right("watchdog/ticks.mjs", { late: /answers in 200 ms/ }),
-  wrong("watchdog/two-questions.mjs", failed(/a timer of \d questions was left/, ["two-questions.mjs", "questions was left"])),
+  wrong("watchdog/two-questions.mjs", failed(/no answer to [34] in 500 ms/, ["two-questions.mjs", "throw new Error"])),
   right("heartbeat/right.mjs"),
   wrong("heartbeat/first-only.mjs", failed(/no beat for [45]\d{3}/, ["first-only.mjs", THROWS])),
+  right("interval/right.mjs"),
+  right("interval/counts.mjs"),
+  wrong("interval/loses-wake-up.mjs",
+    stuck(["loses-wake-up.mjs", "const beats"], ["loses-wake-up.mjs", "Atomics.waitAsync"])),
   right("cache/right.mjs"),
   wrong("cache/asks-twice.mjs", failed(/the answer to b is number [23], for [ab]/, ["asks-twice.mjs", THROWS])),
 
