@@ -223,6 +223,8 @@ export interface Outcome {
    * messages. `event` says how many events of the trace come before.
    */
   tasks?: { event: number; agent: number; text: string; source: string | null }[];
+  /** For the same run: the number of each message, and what is in it, shortened. */
+  messages?: [number, string][];
   /** For a program's run: each thread's file and where it was started; empty for the first one. */
   threads?: string[];
   /** Which agent moved with each draw, in order (plus 16: by a real answer); of the shortest run, and of a program. */

@@ -42,6 +42,7 @@
  * of the blocks are which bytes of the program
  * @property {number[]} [senders] of a program: which thread has sent each message
  * @property {Task[]} [tasks] of a program: what its event loops have begun besides messages
+ * @property {[number, string][]} [messages] of a program: the number of each message, and what is in it, shortened
  * @property {string} [script] its text, in a page that can change the schedule
  * @property {About} [about] how the run was made
  * @property {Command} [command] that makes the run again; undefined: none does

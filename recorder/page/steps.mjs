@@ -62,6 +62,8 @@ export class Stepper {
     this.next = 0;
     /** @type {Set<number>} the messages of a program that were sent */
     this.sent = new Set();
+    /** @type {Map<number, string>} what is in them */
+    this.messages = new Map(data.messages ?? []);
   }
 
   /** @returns {Step[]} */
@@ -223,7 +225,8 @@ export class Stepper {
     // A thread may send to itself.
     const isSent = senders[message] === agent && !this.sent.has(message);
     if (isSent) this.sent.add(message);
-    return `${isSent ? "sends" : "receives"} message ${message}`;
+    const text = this.messages.get(message) ?? "";
+    return `${isSent ? "sends" : "receives"} message ${message}${text === "" ? "" : `: ${text}`}`;
   }
 
   /** @param {Entry} entry @param {string} sentence */

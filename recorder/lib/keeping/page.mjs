@@ -116,6 +116,7 @@ export function pageData(outcome, facts, module) {
     }),
     ...(tasks.length === 0 ? {} : { tasks: tasks.map(({ before, agent, text, source }) =>
       ({ before, agent, text, place: placeNumbers.get(source) ?? -1 })) }),
+    ...(outcome.messages === undefined || outcome.messages.length === 0 ? {} : { messages: outcome.messages }),
     races: /** @type {[number, number][]} */ (racing.map((pair) => pair.map((event) => numbers.get(event)))),
   };
 }

@@ -1,5 +1,5 @@
-// What each thread of a program is, and what keeps it alive while its event loop has nothing to do: texts of each thread,
-// in shared memory. The thread writes them as it begins and before it rests. The code that reports the run reads them.
+// What each thread of a program is, what keeps it alive while its event loop has nothing to do, and how it has ended:
+// texts of each thread, in shared memory. The thread writes them. The code that reports the run reads them.
 
 import { uncurried } from "../primordials.mjs";
 
@@ -8,12 +8,16 @@ const encode = uncurried(TextEncoder.prototype.encodeInto);
 const encoder = new TextEncoder();
 const bufferFrom = Buffer.from;
 
-const HALF = 4_096;
-const BYTES = 8 + 2 * HALF;
-
-// What keeps it, and what it is.
+// What keeps it, what it is, how it has ended, and which top-level await it has begun last.
 const KEPT = 0;
 const NAME = 1;
+const END = 2;
+const AWAIT = 3;
+const TEXTS = 4;
+
+const TEXT_BYTES = 4_096;
+const HEAD = 4 * TEXTS;
+const BYTES = HEAD + TEXTS * TEXT_BYTES;
 
 export class Keepers {
   /** @returns {SharedArrayBuffer} */
@@ -23,8 +27,8 @@ export class Keepers {
 
   /** @param {SharedArrayBuffer} memory of one thread */
   constructor(memory) {
-    this.lengths = new Int32Array(memory, 0, 2);
-    this.texts = [bufferFrom(memory, 8, HALF), bufferFrom(memory, 8 + HALF, HALF)];
+    this.lengths = new Int32Array(memory, 0, TEXTS);
+    this.texts = Array.from({ length: TEXTS }, (_, at) => bufferFrom(memory, HEAD + at * TEXT_BYTES, TEXT_BYTES));
   }
 
   /** @param {string} text */
@@ -47,10 +51,29 @@ export class Keepers {
     return this.#read(KEPT);
   }
 
+  /** @param {string} text how it has ended, if by an error or an exit code */
+  setEnd(text) {
+    this.#write(END, text);
+  }
+
+  /** @returns {string} nothing if it hasn't ended so */
+  end() {
+    return this.#read(END);
+  }
+
+  /** @param {string} place of the top-level await that begins */
+  setAwait(place) {
+    this.#write(AWAIT, place);
+  }
+
+  /** @returns {string} nothing if none has begun, or it wasn't noted */
+  awaited() {
+    return this.#read(AWAIT);
+  }
+
   /** A run begins. */
   clear() {
-    this.lengths[KEPT] = 0;
-    this.lengths[NAME] = 0;
+    this.lengths.fill(0);
   }
 
   /** @param {number} which @param {string} text */

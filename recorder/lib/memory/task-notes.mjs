@@ -1,6 +1,6 @@
-// The tasks that the event loops of a program's threads begin: timers, immediates, and results of slow functions.
-// They are no accesses of a run, so they have a list of their own beside its log, in shared memory. They are noted in
-// runs that note their lines of code.
+// The tasks that the event loops of a program's threads begin: timers, immediates, and results of slow functions. And
+// what is in its messages. They are no accesses of a run, so they have a list of their own beside its log, in shared
+// memory. They are noted in runs that note their lines of code.
 
 import { uncurried } from "../primordials.mjs";
 
@@ -12,6 +12,7 @@ const bufferFrom = Buffer.from;
 /** Room for thousands of tasks; what isn't written to takes no memory. */
 const BYTES = 2 ** 20;
 const HEAD = 4;
+const TASK_PARTS = 4;
 
 /**
  * @typedef {object} Task
@@ -40,8 +41,18 @@ export class TaskNotes {
 
   /** @param {Task} task that begins now; if there is no room for it, it isn't noted */
   note({ event, agent, text, place }) {
+    this.#add([event, agent, text, place]);
+  }
+
+  /** @param {number} number of a message @param {string} text what is in it, in words */
+  noteMessage(number, text) {
+    this.#add([number, text]);
+  }
+
+  /** @param {unknown[]} parts */
+  #add(parts) {
     const { used, bytes } = this;
-    const line = `${JSON.stringify([event, agent, text, place])}\n`;
+    const line = `${JSON.stringify(parts)}\n`;
     // A character takes three bytes at most.
     if (used[0] + 3 * line.length > bytes.length) return;
     used[0] += encode(encoder, line, bytes.subarray(used[0])).written;
@@ -49,10 +60,18 @@ export class TaskNotes {
 
   /** @returns {Task[]} in their order */
   list() {
+    const tasks = this.#all().filter((parts) => parts.length === TASK_PARTS);
+    return tasks.map(([event, agent, text, place]) => ({ event, agent, text, place }));
+  }
+
+  /** @returns {[number, string][]} the number of each message, and what is in it */
+  messages() {
+    return /** @type {[number, string][]} */ (this.#all().filter((parts) => parts.length !== TASK_PARTS));
+  }
+
+  /** @returns {any[][]} */
+  #all() {
     const lines = bufferFrom(this.bytes.slice(0, this.used[0]).buffer).toString("utf8").split("\n").slice(0, -1);
-    return lines.map((line) => {
-      const [event, agent, text, place] = JSON.parse(line);
-      return { event, agent, text, place };
-    });
+    return lines.map((line) => JSON.parse(line));
   }
 }

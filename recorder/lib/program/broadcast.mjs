@@ -51,6 +51,7 @@ function cast({ ports, moves, mesh, buffers }, from, value, called) {
     const number = count === 0 ? first : moves.sendNow();
     count += 1;
     const envelope = { value: bare, kind: 0, number, ports: [], ids: [] };
+    ports.world.noted(number, envelope.kind, bare);
     if (owner === agent) ports.queueOf(id).push({ ...envelope, value: structuredClone(bare) });
     else mesh.hand(owner, { kind: "broadcast", id, envelope });
     table.addWaiting(id, 1);

@@ -11,6 +11,9 @@ import { KIND } from "./ports.mjs";
 /** The exit code of a thread whose module is still being evaluated when nothing keeps it alive. */
 const UNSETTLED = 13;
 
+/** Why it has that. */
+export const UNSETTLED_WHY = "has a top-level await that never settles";
+
 /** That of a thread that throws what nobody catches. */
 const THREW = 1;
 
@@ -26,9 +29,15 @@ const LISTENER_THREW = 7;
  * @property {() => string} here where the program's code is
  * @property {() => never} leave leaves all code of the program that runs now
  * @property {() => void} closeSockets makes others see that the thread's sockets are closed
+ * @property {import("../memory/keepers.mjs").Keepers} keepers get how the thread has ended
+ * @property {(text: string, place?: string) => void} note notes what the thread does
+ * @property {() => string} printed what the thread has written to standard error last
  */
 
 /** @typedef {"uncaughtException" | "unhandledRejection"} Origin */
+
+/** A place in a stack. */
+const PLACE = /((?:file|data|blob):[^\s()]+:\d+:\d+)\)?$/m;
 
 /** @type {any} node's, with members that it doesn't document */
 const own = process;
@@ -112,12 +121,12 @@ export class Ends {
   leave() {
     const before = Number(own.exitCode ?? 0);
     if (!this.isEvaluated) own.exitCode ??= UNSETTLED;
-    const why = this.isEvaluated ? "" : "has a top-level await that never settles";
+    const why = this.isEvaluated ? "" : UNSETTLED_WHY;
     this.#emitExit(doesOtherwise("unsettledAtExit") ? Number(own.exitCode ?? 0) : before);
     const code = Number(own.exitCode ?? 0);
     const { agent, player: { table: { board } } } = this.leaving;
     if (agent !== 0) {
-      this.#depart(code);
+      this.#depart(code, why === "" ? "" : `it ${why}`);
       board.pass(agent);
       return;
     }
@@ -141,7 +150,7 @@ export class Ends {
    */
   exit(given) {
     if (given.length > 0) own.exitCode = given[0];
-    const where = `calls process.exit at ${this.leaving.here()}`;
+    const where = `calls process.exit at ${this.leaving.here()}${this.#printedText()}`;
     // A listener of `exit` exits once more.
     if (this.isOver) this.#go(Number(own.exitCode ?? 0), where);
     this.#end(Number(own.exitCode ?? 0), where);
@@ -152,6 +161,7 @@ export class Ends {
     if (this.isOver) return;
     const what = origin === "unhandledRejection" ? "threw (a rejection that nobody handles)" : "threw";
     const text = `${what} ${described(thrown)}`;
+    this.leaving.note(text.split("\n")[0].replace(/^threw/, "throws"), PLACE.exec(text)?.[1]);
     this.#report(thrown);
     own.exitCode = THREW;
     this.#end(THREW, text);
@@ -192,7 +202,7 @@ export class Ends {
   #go(code, text) {
     const { agent, player: { part, table: { board } }, leave } = this.leaving;
     if (agent !== 0) {
-      this.#depart(code);
+      this.#depart(code, text);
       this.leaving.closeSockets();
       board.pass(agent);
       return leave();
@@ -210,9 +220,16 @@ export class Ends {
     part.isPlaying = false;
   }
 
-  /** @param {number} code of a thread that another one has started */
-  #depart(code) {
-    const { agent, player: { part, table: { board } }, ports, threads } = this.leaving;
+  /** @returns {string} what the thread has written to standard error before it exits, in words; nothing if it hasn't */
+  #printedText() {
+    const printed = this.leaving.printed();
+    return printed === "" ? "" : `, after it wrote to standard error:\n${printed}`;
+  }
+
+  /** @param {number} code of a thread that another one has started @param {string} text why, if that isn't its natural end */
+  #depart(code, text) {
+    const { agent, keepers, player: { part, table: { board } }, ports, threads } = this.leaving;
+    if (code !== 0) keepers.setEnd(text);
     ports.send(this.parentPort, code, [], undefined, KIND.EXIT);
     threads.closePorts(agent);
     threads.endChildren(agent);

@@ -31,24 +31,7 @@ const STEP = Object.freeze({ GOES_ON: 0, IS_OVER: 1, READS: 2, LOOKS: 3, TURNS: 
 /** What is under way if an answer is held back. */
 const HELD = Object.freeze({ isSome: true, byThemselves: false, texts: ["an answer"] });
 
-/**
- * @typedef {object} Served
- * @property {import("./moves.mjs").Moves} moves
- * @property {import("./ports.mjs").Ports} ports
- * @property {import("./port-events.mjs").PortEvents} events
- * @property {import("./timers.mjs").Timers} timers
- * @property {import("./wait-async.mjs").WaitAsync} waits
- * @property {import("./ends.mjs").Ends} ends
- * @property {import("../memory/keepers.mjs").Keepers} keepers
- * @property {(why: string) => never} refuse ends the run
- * @property {() => never} leave leaves all code of the run
- * @property {() => void} goHome is called when the thread's part in the run is over, and none of its code goes on
- * @property {Set<{ refed: boolean, where: string }>} children workers that this thread has started
- * @property {import("../memory/task-notes.mjs").TaskNotes} notes of tasks that begin
- * @property {() => string | undefined} here where the program's code is
- * @property {import("./looking.mjs").Looking} looking
- * @property {boolean} hasPhases whether timers that are due come before all else in each turn of the loop, as in node
- */
+/** @typedef {import("./served.mjs").Served} Served */
 
 export class Loop {
   /** @type {{ text: string, place: string | undefined, act: () => void }[]} */
@@ -99,8 +82,8 @@ export class Loop {
     return this.served.moves.board.words[WORD.NOTES_SOURCES] === 1;
   }
 
-  /** @param {string} text what begins now @param {string} [place] where it was made */
-  #note(text, place = "") {
+  /** @param {string} text what begins now, or is done @param {string} [place] where it was made, or is done */
+  note(text, place = "") {
     const { notes, moves: { agent, player } } = this.served;
     if (this.#notes) notes.note({ event: player.table.log.length, agent, text, place });
   }
@@ -344,7 +327,7 @@ export class Loop {
     if (task !== undefined) {
       acts.push(() => {
         this.#tasks.shift();
-        this.#note(task.text, task.place);
+        this.note(task.text, task.place);
         task.act();
       });
     }
@@ -377,7 +360,7 @@ export class Loop {
     } else {
       const timer = armed.nextTimer();
       vain?.turns(timer?.where);
-      if (timer !== undefined && vain?.isShown) this.#note(`runs ${taskText(timer)}`, timer.where);
+      if (timer !== undefined && vain?.isShown) this.note(`runs ${taskText(timer)}`, timer.where);
       armed.runTimer();
     }
   };
@@ -386,7 +369,7 @@ export class Loop {
   #runImmediate() {
     const { timers: armed } = this.served;
     const immediate = armed.nextImmediate();
-    if (immediate !== undefined) this.#note(`runs ${taskText(immediate)}`, immediate.where);
+    if (immediate !== undefined) this.note(`runs ${taskText(immediate)}`, immediate.where);
     try {
       armed.runImmediate();
     } finally {

@@ -66,6 +66,7 @@ export const KIND = Object.freeze({ MESSAGE: 0, CLOSE: 1, ONLINE: 2, ERROR: 3, E
  * @property {() => string} here where the program's code is
  * @property {(why: string) => never} refuse ends the run
  * @property {(name: string, act: () => void) => void} later does something as a task of its own
+ * @property {(number: number, kind: number, value: unknown) => void} noted notes what is in a message that is sent
  */
 
 /** @param {any} items @returns {any[]} a list of them: node, too, asks an array for no iterator */
@@ -176,6 +177,7 @@ export class Ports {
     }
     const number = called === undefined ? moves.sendNow() : moves.send(called, this.#goesTo(id ^ 1));
     const ids = ports.map((each) => this.known(each).id);
+    this.world.noted(number, kind, bare);
     post(port, { value: bare, kind, number, ports, ids }, list);
     for (let at = 0; at < ports.length; at += 1) this.leave(ports[at]);
     const peer = id ^ 1;

@@ -5,12 +5,27 @@
 import fs from "node:fs";
 import process from "node:process";
 import { Writable } from "node:stream";
+import { withoutOwn } from "../agent/stack.mjs";
 import { put } from "../primordials.mjs";
 
 const { writeSync } = fs;
 /** @type {(act: () => void) => void} */
 const later = /** @type {any} */ (process).nextTick;
 const textFrom = Buffer.from;
+
+/** What isn't more than so many lines is kept of what a thread has written to standard error last. */
+const MOST_LINES = 4;
+
+/** @type {{ text: string }} */
+const last = { text: "" };
+
+/** @returns {string} what this thread has written to standard error last: a few lines, without frames of the recorder */
+export const lastError = () => withoutOwn(last.text.trimEnd()).split("\n").slice(0, MOST_LINES).join("\n");
+
+/** Nothing was written yet. */
+export function forgetError() {
+  last.text = "";
+}
 
 /** @param {string} text */
 function print(text) {
@@ -48,6 +63,7 @@ export function printAtOnce(isShown, name, onPrint) {
     /** @type {(chunk: string | Uint8Array, encoding?: any, done?: any) => boolean} */
     const write = (chunk, encoding, done) => {
       onPrint();
+      if (stream === "stderr" && chunk.length > 0) last.text = textOf(chunk, encoding);
       if (chunk.length > 0 && isShown()) print(namedLines(textOf(chunk, encoding), name()));
       const callback = typeof encoding === "function" ? encoding : done;
       if (typeof callback === "function") later(callback);

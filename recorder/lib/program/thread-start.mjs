@@ -62,3 +62,10 @@ export function takenStart({ mesh, ports, moves }) {
   moves.receive(number);
   return { start, parentPort: moved[moved.length - 1] };
 }
+
+/** @param {string} url @returns {string} the last part of its path */
+const fileName = (url) =>
+  (/^(?:data|blob):/.test(url) ? `a ${url.slice(0, 5)} URL` : url.slice(url.lastIndexOf("/") + 1));
+
+/** @param {Start} start @returns {string} what the thread is, for people */
+export const threadName = ({ url, isCode }) => (isCode ? "evaluated code" : fileName(url));

@@ -30,6 +30,7 @@ import { Stores } from "../memory/stores.mjs";
 import { TaskNotes } from "../memory/task-notes.mjs";
 import { onceMore } from "../processes/garbage.mjs";
 import { SourceNames } from "../run/source-names.mjs";
+import { Awaits } from "./awaits.mjs";
 import { Buffers } from "./buffers.mjs";
 import { restoreBuiltins } from "./builtins.mjs";
 import { Children } from "./children.mjs";
@@ -41,16 +42,17 @@ import { Looking } from "./looking.mjs";
 import { Loop } from "./loop.mjs";
 import { listingOf } from "./member.mjs";
 import { Mesh } from "./mesh.mjs";
+import { messageText } from "./message-text.mjs";
 import { installMicrotasks } from "./microtasks.mjs";
 import { Moves } from "./moves.mjs";
 import { NODE } from "./node-surroundings.mjs";
 import { PortTable } from "../board/port-table.mjs";
 import { Ports } from "./ports.mjs";
-import { printAtOnce } from "./printing.mjs";
+import { forgetError, lastError, printAtOnce } from "./printing.mjs";
 import { RealWork } from "./real-work.mjs";
 import { installRefusals } from "./refusals.mjs";
 import { refuseRest } from "./surface.mjs";
-import { takenStart } from "./thread-start.mjs";
+import { takenStart, threadName } from "./thread-start.mjs";
 import { Threads } from "./threads.mjs";
 import { Timers } from "./timers.mjs";
 import { putTwins } from "./twins.mjs";
@@ -78,6 +80,7 @@ const { port, origin, web, isRelaxed, memory: shared, plan, rules } = /** @type 
 const { setImmediate: turnLater } = nodeTimers;
 const surroundings = web ? WEB : NODE;
 const chance = new Chance();
+const awaits = new Awaits();
 const placeNames = new SourceNames(origin);
 
 /**
@@ -207,22 +210,29 @@ function partsOf(player, blocks, mesh) {
   /** @type {import("./unwinding.mjs").Late} */
   const late = {};
   const later = (/** @type {string} */ name, /** @type {() => void} */ act) => late.loop?.later(name, act);
-  const ports = new Ports({ agent, table, moves, buffers, mesh, here, refuse, later });
+  const notes = new TaskNotes(shared.tasks);
+  const noted = (/** @type {number} */ number, /** @type {number} */ kind, /** @type {unknown} */ value) => {
+    if (board.words[WORD.NOTES_SOURCES] === 1) notes.noteMessage(number, messageText(kind, value));
+  };
+  const ports = new Ports({ agent, table, moves, buffers, mesh, here, refuse, later, noted });
   const isShown = () => board.words[WORD.IS_SILENT] === 0 && isPlaying();
   const spawned = new Children(new Pids(shared.pids[agent]), isShown);
   const real = new RealWork(new Notes(shared.notes[agent]), spawned, here);
   const leave = leaveOf(player, late);
   const closeSockets = () => real.close();
-  const ends = new surroundings.Ends({ agent, player, ports, threads: all, here, leave, closeSockets });
+  const keepers = new Keepers(shared.keepers[agent]);
+  const note = (/** @type {string} */ text, /** @type {string | undefined} */ place) => late.loop?.note(text, place);
+  const ends = new surroundings.Ends({
+    agent, player, ports, threads: all, here, leave, closeSockets, keepers, note, printed: lastError,
+  });
   const drain = () => late.loop?.drain();
   const events = new surroundings.PortEvents({ ports, uncaught: (thrown) => ends.uncaught(thrown), drain });
   const timers = new Timers({ now: () => board.clock.now(), here: sourceOfCall });
   const children = new Set();
-  const keepers = new Keepers(shared.keepers[agent]);
   const waits = new WaitAsync({ moves, buffers, isPlaying, refuse });
   const loop = new Loop({
     moves, ports, events, timers, waits, ends, keepers, children, refuse, goHome: () => late.goHome?.(), leave,
-    notes: new TaskNotes(shared.tasks), here: sourceHere, hasPhases: surroundings.hasPhases, looking: new Looking(timers.classes),
+    notes, here: sourceHere, hasPhases: surroundings.hasPhases, looking: new Looking(timers.classes),
   });
   Object.assign(late, { loop, ends });
   return {
@@ -264,10 +274,6 @@ function installReplacements({ moves, buffers, waits, ends, events, timers, late
   keepProcess();
 }
 
-/** @param {string} url @returns {string} the last part of its path */
-const fileName = (url) =>
-  (/^(?:data|blob):/.test(url) ? `a ${url.slice(0, 5)} URL` : url.slice(url.lastIndexOf("/") + 1));
-
 /**
  * A block gets the names by which people and pilots know it.
  * @param {Player} player
@@ -280,9 +286,6 @@ function nameBlock({ agent, table: { board, lengths } }, block, place, count) {
   if (place === "" || !(board.places instanceof NamedPlaces)) return;
   board.places.name(block, `${agent} ${place} ${count}`, lengths[block], board.words[WORD.IS_PILOT] === 1);
 }
-
-/** @param {Start} start @returns {string} what the thread is, for people */
-const threadName = ({ url, isCode }) => (isCode ? "evaluated code" : fileName(url));
 
 /** @returns {string} the thread, before what it prints */
 function printedName() {
@@ -297,10 +300,12 @@ function printedName() {
  * @param {import("./node-surroundings.mjs").ProgramGraph} graph
  */
 function begin(parts, graph) {
-  const { moves: { agent }, mesh, ends, keepers, loop } = parts;
+  const { moves: { agent, board }, mesh, ends, keepers, loop } = parts;
   const { start, parentPort } = agent === 0
     ? { start: surroundings.mainStart(mesh.main), parentPort: null } : takenStart(parts);
   self.start = start;
+  forgetError();
+  if (board.words[WORD.NOTES_SOURCES] === 1) awaits.begin(keepers);
   keepers.setName(start.where === "" ? "" : `${threadName(start)}, started at ${start.where}`);
   if (agent !== 0) ends.parentPort = parentPort;
   surroundings.begin(parts, start, parentPort);
@@ -319,6 +324,7 @@ function begin(parts, graph) {
  */
 function clear(parts) {
   restoreBuiltins();
+  awaits.stop();
   const { buffers, waits, ports, timers, loop, ends, children, late } = parts;
   buffers.clear();
   late.wasm?.clear();

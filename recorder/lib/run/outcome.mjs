@@ -32,6 +32,7 @@
  * @property {string} [noTrace] why there is no trace, though it was wanted
  * @property {import("./source-names.mjs").SourceText[]} [sources] the code of each file that the trace names
  * @property {Task[]} [tasks] of a program that has its trace: what its event loops have begun besides messages
+ * @property {[number, string][]} [messages] of the same run: the number of each message, and what is in it, shortened
  * @property {string[]} [threads] of a program: what each thread is, its file and where it was started; empty: the first
  * @property {number[]} [row] which agent moved with each draw, in order, if that is asked for
  * @property {string} [onlyIf] of a failing run in which a timed wait has ended early: what time must pass for that

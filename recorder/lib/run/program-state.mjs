@@ -144,6 +144,23 @@ export class ProgramState {
   }
 
   /**
+   * How those threads have ended that did so by an error or an exit code.
+   * @param {string} ending of the run
+   * @returns {{ agent: number, text: string }[]}
+   */
+  ends(ending) {
+    if (ending !== "stuck" && ending !== "deadlock") return [];
+    const ends = this.threads.map((agent) => ({ agent, text: this.keepers[agent].end() }));
+    return ends.filter(({ text }) => text !== "");
+  }
+
+  /** @param {string} detail @returns {string} where the top-level await is of which it says that it never settles, if it is known */
+  awaitText(detail) {
+    const place = this.keepers[0].awaited();
+    return place !== "" && /has a top-level await that never settles$/.test(detail) ? `, at ${place}` : "";
+  }
+
+  /**
    * @param {(text: string) => string} withNames names the places in a text
    * @returns {import("./program-names.mjs").ProgramNames} what the threads and the blocks of the run are called
    */

@@ -141,6 +141,7 @@ class Referee {
     if (isReal) await this.#addSources(wanted, outcome, found, { hasSources, isFirst });
     const again = isFirst && this.#mayRemember(wanted, found)
       ? await this.#inFreshThreads(wanted, outcome, found) : undefined;
+    learnDetail(outcome, again);
     const hasLines = again === undefined ? hasSources : maker.log.hasRoom();
     if (!isReal) await this.#addSources(wanted, outcome, found, { hasSources: hasLines, isFirst });
     Object.assign(outcome, covering);
@@ -228,8 +229,9 @@ class Referee {
     // A program's output is shown once.
     const isSilent = wanted.isSilent || this.options.isProgram;
     const again = await maker.made({ ...againAs(wanted, outcome), isSilent }, true);
-    const same = areSame(reporter.brief(wanted, await maker.judgedAgain(again, found)), outcome)
-      && again.stray === undefined;
+    const brief = reporter.brief(wanted, await maker.judgedAgain(again, found));
+    const same = areSame(brief, outcome) && again.stray === undefined;
+    learnDetail(outcome, brief);
     await this.#replace(again);
     if (same) reporter.addSources(outcome, wantsTrace);
     else if (wantsTrace) outcome.noTrace = `${ANOTHER_WAY}: ${outcome.real === undefined ? BY_AGENTS : OTHER_INPUT}`;
@@ -260,6 +262,15 @@ function nameIn(outcome, { names }) {
   if (names === undefined) return;
   outcome.detail = namedText(outcome.detail, names);
   outcome.threads = names.threads;
+}
+
+/**
+ * A run that was made once more and noted its lines may know more about how it ended: where an await is.
+ * @param {Outcome} outcome
+ * @param {{ detail: string }} [again]
+ */
+function learnDetail(outcome, again) {
+  if (outcome.ending === "failed" && again?.detail.startsWith(outcome.detail)) outcome.detail = again.detail;
 }
 
 /** @param {Made} found @returns {import("./outcome.mjs").Aside} */

@@ -8,6 +8,7 @@ import { Log } from "../memory/log.mjs";
 import { Memory } from "../memory/memory.mjs";
 import { Notes } from "../memory/notes.mjs";
 import { Stores } from "../memory/stores.mjs";
+import { thrownIn } from "./failure.mjs";
 import { initialStores } from "./initial.mjs";
 import { PILOT_SECONDS } from "./pilots.mjs";
 import { isRacy } from "./races.mjs";
@@ -125,9 +126,8 @@ export class RunMaker {
     const endless = gone.filter((agent) => !board.turn.isParked(agent));
     const racy = options.ordinary === "watch" && isRacy(this.log, plan.agents, plan.buffers.length);
     const isWhole = this.program !== undefined;
-    const named = isBound || isWhole ? sourceNames.withNames(result.detail) : this.#named(result.detail);
-    const idle = (this.program?.idle(result.ending) ?? []).map((line) => sourceNames.withNames(line));
-    const lines = [named, ...idle].filter((line) => line !== "");
+    const named = isBound || isWhole ? sourceNames.withNames(this.#placed(result.detail)) : this.#named(result.detail);
+    const lines = [named, ...this.#standstillLines(result.ending)].filter((line) => line !== "");
     const detail = stray === undefined ? lines.join("\n") : strayText(stray, named);
     const notes = this.agents.flatMap((agent) => this.notes[agent].read().map((note) => ({ ...note, agent })));
     const unseen = notes.filter(({ kind }) => kind !== "real");
@@ -248,6 +248,22 @@ export class RunMaker {
     const { ending, detail } = await this.#ended();
     if (!board.turn.isBack(0, GRACE_MILLISECONDS)) await this.replace([0]);
     return ending === "finished" ? this.#named(detail) : `${ENDLESS}: ${this.sourceNames.withNames(detail)}`;
+  }
+
+  /** @param {string} detail @returns {string} with where the await is that it is about, if that was noted */
+  #placed(detail) {
+    return `${detail}${this.program?.awaitText(detail) ?? ""}`;
+  }
+
+  /** @param {string} ending @returns {string[]} which threads of a program have ended by an error, and which have nothing to do */
+  #standstillLines(ending) {
+    const { program, sourceNames } = this;
+    const ends = (program?.ends(ending) ?? []).map(({ agent, text }) => {
+      const { message, sources } = thrownIn(text, sourceNames);
+      const where = sources.length === 0 ? "" : `, at ${sources[0]}`;
+      return `agent ${agent} ended: ${sourceNames.withNames(message[0])}${where}`;
+    });
+    return [...ends, ...(program?.idle(ending) ?? []).map((line) => sourceNames.withNames(line))];
   }
 
   /** @param {string} detail of code that failed @returns {string} in which places that the recorder found are named */

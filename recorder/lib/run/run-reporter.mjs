@@ -201,7 +201,9 @@ export class RunReporter {
     outcome.accesses = accessesIn(written.run.log, written.run.lengths);
     const tasks = this.#tasks();
     outcome.sources = sourceNames.textsOf([...placesIn(log, names), ...tasks.flatMap(({ source }) => source ?? [])]);
-    if (this.maker.program !== undefined) outcome.tasks = tasks;
+    if (this.maker.program === undefined) return;
+    outcome.tasks = tasks;
+    outcome.messages = this.maker.program.tasks.messages();
   }
 
   /** @returns {string} what a trace begins with if a verdict on its events could be wrong, or else nothing */

@@ -38,7 +38,7 @@ const NOT_CHECKED = "the process of its job ended before it was checked";
  * @param {Checked} outcome
  * @returns {Checked}
  */
-function lightened({ script, report, trace, accesses, sources, tasks, bytes, answers, row, ...rest }) {
+function lightened({ script, report, trace, accesses, sources, tasks, messages, bytes, answers, row, ...rest }) {
   return rest;
 }
 

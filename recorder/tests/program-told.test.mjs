@@ -1,0 +1,107 @@
+// What a run of a program says besides where it stands: which thread has ended by an error, what was in messages, what was
+// written to standard error before an exit, and which await never settles.
+
+import assert from "node:assert/strict";
+import { describe, it } from "node:test";
+import { runsOf } from "./helpers/whole-programs.mjs";
+
+/** @param {any} context @param {Record<string, string>} files @returns {Promise<any>} the first run */
+async function runOf(context, files) {
+  const [outcome] = await runsOf(context, files, { seeds: [1], options: { trace: true } });
+  return outcome;
+}
+
+const DIES = {
+  "main.mjs": `import { Worker } from "node:worker_threads";
+    const words = new Int32Array(new SharedArrayBuffer(4));
+    new Worker(new URL("./w.mjs", import.meta.url), { workerData: words });
+    Atomics.wait(words, 0, 0);`,
+  "w.mjs": `import { workerData as words } from "node:worker_threads";
+    if (words.length === 1) throw new Error("the reason");`,
+};
+
+describe("a thread that has ended by an error", () => {
+  it("is named with its error and line, in a deadlock's detail and among the tasks", async (context) => {
+    const { ending, detail, tasks, messages } = await runOf(context, DIES);
+    assert.equal(ending, "deadlock");
+    assert.match(detail, /^agent 1 \(w\.mjs, started at main\.mjs:3:5\) ended: threw Error: the reason, at w\.mjs:2:\d+\nagent 0 waits at/);
+    assert.ok(tasks.some(({ agent, text, source }) => agent === 1 && text === "throws Error: the reason" && /^w\.mjs:2:\d+$/.test(source)));
+    assert.deepEqual(messages.map(([, text]) => text).slice(1), ["online", "error, Error: the reason", "exit with code 1"]);
+  });
+
+  it("is named if the others are stuck, also by an exit code", async (context) => {
+    const { ending, detail } = await runOf(context, {
+      "main.mjs": `import { Worker } from "node:worker_threads";
+        new Worker("process.exit(3)", { eval: true });
+        new MessageChannel().port1.on("message", () => {});`,
+    });
+    assert.equal(ending, "stuck");
+    assert.match(detail, /^agent 1 \(.*\) ended: calls process\.exit at \[worker eval\]:1:9/);
+  });
+
+  it("isn't named if it ended well", async (context) => {
+    const main = `import { Worker } from "node:worker_threads";
+      new Worker("0", { eval: true });
+      new MessageChannel().port1.on("message", () => {});`;
+    const { ending, detail } = await runOf(context, { "main.mjs": main });
+    assert.deepEqual([ending, /ended/.test(detail)], ["stuck", false]);
+  });
+});
+
+describe("messages", () => {
+  it("are shown with what is in them", async (context) => {
+    const { messages } = await runOf(context, {
+      "main.mjs": `const { port1, port2 } = new MessageChannel();
+        port1.postMessage({ id: 1, words: new Int32Array(new SharedArrayBuffer(4)) });
+        port2.once("message", () => { port2.close(); process.exitCode = 1; });`,
+    });
+    assert.deepEqual(messages[0], [0, "{ id: 1, words: Int32Array }"]);
+  });
+
+  it("are shortened", async (context) => {
+    const { messages } = await runOf(context, {
+      "main.mjs": `const { port1, port2 } = new MessageChannel();
+        const deep = { a: { b: { c: 1 } } };
+        for (const value of ["a".repeat(60), [1, 2n, null, undefined, true, "six", 7], deep, new Map(), new RangeError("far")]) {
+          port1.postMessage(value);
+        }
+        port2.on("message", () => {});
+        setTimeout(() => { process.exit(1); });`,
+    });
+    assert.deepEqual(messages.slice(0, 5).map(([, text]) => text), [
+      `"${"a".repeat(40)}.."`, "[1, 2n, null, undefined, true, ..]", "{ a: { b: {..} } }", "Map", "RangeError: far",
+    ]);
+  });
+});
+
+describe("an exit", () => {
+  it("shows what was written to standard error before, and its line", async (context) => {
+    const { detail } = await runOf(context, {
+      "main.mjs": `async function main() { throw new Error("the balance is 3"); }
+        main().catch((problem) => { console.error(problem); process.exit(1); });`,
+    });
+    assert.match(detail, new RegExp(["^agent 0 exited with code 1: it calls process\\.exit at main\\.mjs:2:69",
+      "after it wrote to standard error:\\nError: the balance is 3\\n    at main \\(main\\.mjs:1:31\\)"].join(", ")));
+    assert.doesNotMatch(detail, /recorder\/lib|node:internal/);
+  });
+
+  it("shows nothing that was written in an earlier run", async (context) => {
+    const main = `const words = new Int32Array(new SharedArrayBuffer(4));
+      if (process.argv[2] === "prints") console.error("once");
+      process.exit(2);`;
+    const outcomes = await runsOf(context, { "main.mjs": main }, { seeds: [1, 2] });
+    assert.deepEqual(outcomes.map(({ detail }) => detail.replace(/ at .*$/s, "")), Array(2).fill("agent 0 exited with code 2: it calls process.exit"));
+  });
+
+  it("with code 13 shows the await that never settles", async (context) => {
+    const { detail } = await runOf(context, {
+      "main.mjs": `import "./first.mjs";
+        setTimeout(async () => { await 4; });
+        await 1;
+        await new Promise(() => {});
+        console.log("never");`,
+      "first.mjs": "await 2;",
+    });
+    assert.match(detail, /^agent 0 exited with code 13: it has a top-level await that never settles, at main\.mjs:4:\d+$/);
+  });
+});
