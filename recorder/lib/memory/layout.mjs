@@ -61,7 +61,7 @@ export const WORD = Object.freeze({
   MORE_ANSWERS: 43,
   /** Which agent has met a limit, and whether it spins, as `End` keeps them. */
   MET: 44,
-  /** Of a program: which agents are held at a wait or a notify, a bit for each. */
+  /** Of a program: which agents are held at a wait or a notify, and how many draws of one came in a row, as `Late` keeps them. */
   LATE: 45,
   /** Of a program: how many callbacks of timers have run in a row, in vain so far. */
   VAIN: 46,

@@ -13,6 +13,13 @@ const IS_HELD = 0.5;
 /** In one of so many draws nobody is held any longer. Else one that waits in a loop for a held one might go on for ever. */
 const RENEWAL = 256;
 
+/** Nor is anybody after so many draws of one agent in a row: an agent that makes more calls alone meets a limit. */
+const MOST_ALIKE = 200;
+
+// The word LATE: a bit for each agent that is held, and above these how many draws of one agent came in a row.
+const HELD = 0xffff;
+const ALIKE_BITS = 16;
+
 // Messages and event loops aren't held.
 const FIRST_MESSAGE = placeNumber(MESSAGES, 0);
 
@@ -52,7 +59,7 @@ export class Late {
   /** @param {import("./able.mjs").Able} able those that can move: the held ones are left out, if there are others */
   hold(able) {
     const { words, random } = this;
-    if (words[WORD.LATE] === 0) return;
+    if ((words[WORD.LATE] & HELD) === 0) return;
     if (random.below(RENEWAL) === 0) this.begin();
     if (this.#areHeld(able)) this.#free(this.#first(able));
     for (let at = able.count - 1; at >= 0; at -= 1) {
@@ -62,7 +69,12 @@ export class Late {
 
   /** @param {number} next who moves now: if it writes, waits there are held no longer */
   moves(next) {
-    if (this.words[WORD.LATE] === 0 || (this.#does(next) & FLAG.WRITES) === 0) return;
+    const { words } = this;
+    const held = words[WORD.LATE] & HELD;
+    if (held === 0) return;
+    const alike = next === words[WORD.LAST] ? (words[WORD.LATE] >>> ALIKE_BITS) + 1 : 0;
+    words[WORD.LATE] = alike < MOST_ALIKE ? (alike << ALIKE_BITS) | held : 0;
+    if ((this.#does(next) & FLAG.WRITES) === 0) return;
     for (let agent = 0; agent < this.agents; agent += 1) if (this.asked.conflict(agent, next)) this.#free(agent);
   }
 
