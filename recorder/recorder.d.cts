@@ -59,10 +59,7 @@ export interface RunOptions {
   strategy?: "mixed" | "uniform" | "partial-order" | `switch:${number}`;
   /** Whether who moves next is drawn before each call, not only before those by which agents meet in pilot runs. */
   everywhere?: boolean;
-  /**
-   * From 0 to 1: the share of draws that may end a timed wait early, while something else can move. 0: time passes only
-   * if nothing else can move. "never": no timed wait ends by itself. Else 0.05.
-   */
+  /** The share of draws that may end a timed wait early. 0: none; "never": no timed wait ends; else 0.05. */
   timeouts?: number | "never";
   /** How many moves the run may have, 1 to 100,000; else 100,000. */
   maxMoves?: number;
@@ -115,10 +112,7 @@ export interface OfProgram {
   module?: undefined;
   /** Whether a run that is stuck fails; else "fail". It is stuck if nothing can move and something keeps it alive. */
   stuck?: "fail" | "allow";
-  /**
-   * By how many milliseconds the run's clock may be ahead of what waits, since a timer or a timed wait has ended early; 0:
-   * none does; else 100.
-   */
+  /** By how many milliseconds the run's clock may be ahead of what waits, by early ends; 0: by none; else 100. */
   early?: number;
   /** Whether the program is for browsers: its main module stands for a page; else it is for node. */
   web?: boolean;
@@ -218,10 +212,7 @@ export interface Outcome {
   noTrace?: string;
   /** The code of each file that the trace names; null if it can't be read, or is longer than 2^20 characters. */
   sources?: { file: string; text: string | null }[];
-  /**
-   * For a program's run that has its trace: the timers, immediates and other tasks that event loops have begun, besides
-   * messages. `event` says how many events of the trace come before.
-   */
+  /** For a program's run with its trace: timers, immediates and other tasks, each behind so many events of the trace. */
   tasks?: { event: number; agent: number; text: string; source: string | null }[];
   /** For the same run: the number of each message, and what is in it, shortened. */
   messages?: [number, string][];

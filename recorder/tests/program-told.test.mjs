@@ -26,7 +26,7 @@ describe("a thread that has ended by an error", () => {
     assert.equal(ending, "deadlock");
     assert.match(detail, /^agent 1 \(w\.mjs, started at main\.mjs:3:5\) ended: threw Error: the reason, at w\.mjs:2:\d+\nagent 0 waits at/);
     assert.ok(tasks.some(({ agent, text, source }) => agent === 1 && text === "throws Error: the reason" && /^w\.mjs:2:\d+$/.test(source)));
-    assert.deepEqual(messages.map(([, text]) => text).slice(1), ["online", "error, Error: the reason", "exit with code 1"]);
+    assert.deepEqual(messages.map(([, text]) => text), ["online", "error, Error: the reason", "exit with code 1"]);
   });
 
   it("is named if the others are stuck, also by an exit code", async (context) => {

@@ -57,26 +57,34 @@ export class Accesses {
   note(place, from, to, writes, made) {
     const { board, log, memory } = this.table;
     this.count += 1;
-    const notesSources = board.words[WORD.NOTES_SOURCES] === 1;
+    const notesLine = board.words[WORD.NOTES_SOURCES] === 1 && this.#notesLine(place.block, from, to);
     const repeats = this.repeats.note(place, from, to, writes);
     const isNew = repeats === REPEATED.NEW;
     if (!isNew) {
       if (repeats === REPEATED.SPINS) return NOTED.SPINS;
-      if (!notesSources || this.repeats.again > MOST_REPEATS) return NOTED.YES;
+      if (!notesLine || this.repeats.again > MOST_REPEATS) return NOTED.YES;
     }
     const what = writes ? WRITE : READ;
-    if (!notesSources && log.extend(what, this.agent, place.block, from, to, place, this.since)) {
+    if (!notesLine && log.extend(what, this.agent, place.block, from, to, place, this.since)) {
       this.repeats.add(place, from, to, writes);
       return NOTED.YES;
     }
-    if (!log.hasRoom()) return notesSources && !(writes && isNew) ? NOTED.YES : NOTED.FULL;
-    const source = notesSources ? numberHere(this.table.sources) : 0;
+    if (!log.hasRoom()) return notesLine && !(writes && isNew) ? NOTED.YES : NOTED.FULL;
+    const source = notesLine ? numberHere(this.table.sources) : 0;
     const flags = (writes ? FLAG.WRITES : FLAG.READS) | (isNew ? 0 : FLAG.AGAIN);
     log.append(what, this.agent, NO_CALL, flags, made, place.block, from, to, place, source);
     // Nobody else moves until it is read.
-    if (notesSources && !writes && isElement(place, from, to)) log.addValue(memory.real[place.block], from, to);
+    if (notesLine && !writes && isElement(place, from, to)) log.addValue(memory.real[place.block], from, to);
     this.repeats.add(place, from, to, writes);
     return NOTED.YES;
+  }
+
+  /** @param {number} block @param {number} from @param {number} to @returns {boolean} whether an access there notes its line */
+  #notesLine(block, from, to) {
+    const { board: { noted, words } } = this.table;
+    if (words[WORD.LINES_LEFT] === 0) return noted.has(block, from, to);
+    words[WORD.LINES_LEFT] -= 1;
+    return true;
   }
 
   /**

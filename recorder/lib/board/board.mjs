@@ -8,6 +8,7 @@ import { KnownPlaces } from "../memory/known-places.mjs";
 import { LOOP, ORDER, PHASE, WORD, wordsFor } from "../memory/layout.mjs";
 import { FLAG } from "../memory/log.mjs";
 import { NamedPlaces } from "../memory/named-places.mjs";
+import { NotedPlaces } from "../memory/noted-places.mjs";
 import { Random } from "../memory/random.mjs";
 import { Answers } from "./answers.mjs";
 import { AsyncWaiters } from "./async-waiters.mjs";
@@ -41,6 +42,7 @@ const TEXT_BYTES = 16_384;
  * @property {SharedArrayBuffer} lags
  * @property {SharedArrayBuffer} vain
  * @property {SharedArrayBuffer} places
+ * @property {SharedArrayBuffer} noted
  * @property {import("./row.mjs").RowMemory} row
  * @property {SharedArrayBuffer} [waiters] of a program: for the waits of Atomics.waitAsync
  * @property {SharedArrayBuffer} [names] of a program: the names by which pilots know its memory
@@ -60,6 +62,7 @@ export class Board {
       lags: Lags.memory(agents),
       vain: Vain.memory(agents),
       places: KnownPlaces.memory(),
+      noted: NotedPlaces.memory(),
       row: Row.memory(),
     };
   }
@@ -79,6 +82,7 @@ export class Board {
     this.line = new Line(this.words, agents, this.waiters, lags);
     this.journal = new Journal(this.words, new Float64Array(memory.views), agents);
     const { places, names } = memory;
+    this.noted = new NotedPlaces(memory.noted);
     this.places = names === undefined ? new KnownPlaces(places) : new NamedPlaces(places, names);
     this.deadlines = new Deadlines(memory.early, this.words, this.clock, this.spins, agents, lags);
     this.vain = isProgram ? new Vain(memory.vain, this.words, agents) : undefined;

@@ -65,6 +65,8 @@ export const WORD = Object.freeze({
   LATE: 45,
   /** Of a program: how many callbacks of timers have run in a row, in vain so far. */
   VAIN: 46,
+  /** In a run that notes lines of code: how many more ordinary accesses note theirs wherever they are. */
+  LINES_LEFT: 47,
 });
 
 /** Words of each agent; each agent has a line of the processor's cache for itself. */

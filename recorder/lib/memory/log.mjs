@@ -158,7 +158,7 @@ export class Log {
     const at = event * EACH;
     if (events[at + TO] !== from || (events[at + HEAD] & BEFORE_CALL) !== head) return false;
     if (events[at + BLOCK] !== block || events[at + OFFSET] !== view.offset) return false;
-    if (events[at + LENGTH] !== view.length) return false;
+    if (events[at + LENGTH] !== view.length || events[at + SOURCE] !== 0) return false;
     events[at + TO] = to;
     return true;
   }

@@ -211,20 +211,17 @@ function partsOf(player, blocks, mesh) {
   const late = {};
   const later = (/** @type {string} */ name, /** @type {() => void} */ act) => late.loop?.later(name, act);
   const notes = new TaskNotes(shared.tasks);
-  const noted = (/** @type {number} */ number, /** @type {number} */ kind, /** @type {unknown} */ value) => {
-    if (board.words[WORD.NOTES_SOURCES] === 1) notes.noteMessage(number, messageText(kind, value));
-  };
-  const ports = new Ports({ agent, table, moves, buffers, mesh, here, refuse, later, noted });
+  const ports = new Ports({ agent, table, moves, buffers, mesh, here, refuse, later, noted: notingOf(board, notes) });
   const isShown = () => board.words[WORD.IS_SILENT] === 0 && isPlaying();
   const spawned = new Children(new Pids(shared.pids[agent]), isShown);
   const real = new RealWork(new Notes(shared.notes[agent]), spawned, here);
   const leave = leaveOf(player, late);
   const closeSockets = () => real.close();
   const keepers = new Keepers(shared.keepers[agent]);
-  const note = (/** @type {string} */ text, /** @type {string | undefined} */ place) => late.loop?.note(text, place);
-  const ends = new surroundings.Ends({
-    agent, player, ports, threads: all, here, leave, closeSockets, keepers, note, printed: lastError,
-  });
+  /** @type {import("./ends.mjs").Leaving["note"]} */
+  const note = (text, place) => late.loop?.note(text, place);
+  const about = { keepers, note, printed: lastError };
+  const ends = new surroundings.Ends({ agent, player, ports, threads: all, here, leave, closeSockets, ...about });
   const drain = () => late.loop?.drain();
   const events = new surroundings.PortEvents({ ports, uncaught: (thrown) => ends.uncaught(thrown), drain });
   const timers = new Timers({ now: () => board.clock.now(), here: sourceOfCall });
@@ -273,6 +270,11 @@ function installReplacements({ moves, buffers, waits, ends, events, timers, late
   listAgain();
   keepProcess();
 }
+
+/** @param {Board} board @param {TaskNotes} notes @returns {import("./ports.mjs").World["noted"]} */
+const notingOf = (board, notes) => (number, kind, value) => {
+  if (board.words[WORD.NOTES_SOURCES] === 1) notes.noteMessage(number, messageText(kind, value));
+};
 
 /**
  * A block gets the names by which people and pilots know it.

@@ -308,6 +308,24 @@ export function isRacy(log, agents, blocks = FIRST_MORE) {
   return found;
 }
 
+/**
+ * Calls back for accesses of a run that race: for each two once, as a rule.
+ * @param {Log} log
+ * @param {number} agents how many
+ * @param {number} blocks how many numbers of blocks there are
+ * @param {(one: number, other: number) => boolean} onPair gets the positions of both in the log; returns whether to go on
+ */
+export function forRacing(log, agents, blocks, onPair) {
+  let lastOne = NONE;
+  let lastOther = NONE;
+  judge.judge(log, agents, (one, other) => {
+    if (one === lastOne && other === lastOther) return true;
+    lastOne = one;
+    lastOther = other;
+    return onPair(one, other);
+  }, rangesOf(log, blocks));
+}
+
 // A line's number: which agent, what it does, and its place in the code or, in odd numbers, the view.
 const AGENT_BITS = 4;
 const DEED_BITS = 3;

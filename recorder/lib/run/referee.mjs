@@ -11,7 +11,8 @@ import { Meetings } from "./meetings.mjs";
 import { FirstFailing } from "./order.mjs";
 import { PILOTS, Pilots } from "./pilots.mjs";
 import { namedText } from "./program-names.mjs";
-import { RunMaker } from "./run-maker.mjs";
+import { forRacing } from "./races.mjs";
+import { LINES, RunMaker } from "./run-maker.mjs";
 import { RunReporter } from "./run-reporter.mjs";
 import { areSame } from "./same.mjs";
 import { SourceNames } from "./source-names.mjs";
@@ -49,8 +50,10 @@ class Referee {
     this.reporter = new RunReporter(given, this.maker);
     this.meetings = options.wantsMeetings ? new Meetings(sourceNames) : undefined;
     this.notesAlways = options.trace || this.meetings !== undefined;
-    /** Whether the next run notes its lines of code at once. If the run before raced, the next one may race too. */
-    this.notesNext = this.notesAlways;
+    /** Which lines of code the next run notes at once. If the run before raced, the next one may race there, too. */
+    this.linesNext = this.#linesAfter(false, false);
+    /** Whether there are accesses that race and whose lines can't be found. */
+    this.mayLackLines = false;
     /** The trace of a failing run is made if it may be the first one: others aren't kept. */
     this.firstFailing = new FirstFailing();
     /** How many runs were made since all threads were started anew. */
@@ -115,17 +118,17 @@ class Referee {
   /** @param {Wanted} wanted @returns {Promise<Sent>} the outcome of a seed */
   async #one(wanted) {
     const { maker, maker: { log }, reporter, meetings } = this;
-    let hasSources = this.notesNext;
-    let found = await maker.made(wanted, hasSources);
+    let lines = this.linesNext;
+    let found = await maker.made(wanted, lines);
     /** @type {import("./outcome.mjs").Covering} */
     const covering = meetings === undefined
       ? {} : { meetings: meetings.add(log, reporter.sources), unplaced: meetings.unplaced };
-    const isCut = hasSources && !log.hasRoom();
+    const isCut = lines !== LINES.NONE && !log.hasRoom();
     if (isCut) {
       // Not all accesses have noted their lines, so another run is judged, which notes each of them once.
       await maker.replace(found.gone);
-      hasSources = false;
-      found = await maker.made(wanted, false);
+      lines = LINES.NONE;
+      found = await maker.made(wanted, lines);
     }
     found = await maker.judged(found);
     const outcome = reporter.brief(wanted, found);
@@ -138,17 +141,44 @@ class Referee {
     await this.#replace(found);
     const isReal = outcome.real !== undefined;
     // A run in fresh threads may get other input, so its lines aren't those of this one.
-    if (isReal) await this.#addSources(wanted, outcome, found, { hasSources, isFirst });
+    if (isReal) await this.#addSources(wanted, outcome, found, { lines, isFirst });
     const again = isFirst && this.#mayRemember(wanted, found)
       ? await this.#inFreshThreads(wanted, outcome, found) : undefined;
-    learnDetail(outcome, again);
-    const hasLines = again === undefined ? hasSources : maker.log.hasRoom();
-    if (!isReal) await this.#addSources(wanted, outcome, found, { hasSources: hasLines, isFirst });
+    learnDetail(outcome, again?.again);
+    if (again !== undefined) lines = maker.log.hasRoom() ? LINES.OF_FIRST : LINES.NONE;
+    if (!isReal) await this.#addSources(wanted, outcome, found, { lines, isFirst });
     Object.assign(outcome, covering);
     if (outcome.ending === "race") outcome.detail = outcome.races.map(({ text }) => text).join("\n");
     nameIn(outcome, found);
-    this.notesNext = this.notesAlways || ((found.racy || isReal) && !isCut);
+    this.linesNext = this.#linesAfter(found.racy && !isCut, isReal && !isCut);
     return { outcome, judgement, taken, aside: { ...asideOf(found), ...(again === undefined ? {} : { again }) } };
+  }
+
+  /** @param {boolean} isRacy @param {boolean} isReal what a run was @returns {number} which lines the next one notes */
+  #linesAfter(isRacy, isReal) {
+    if (this.notesAlways || isReal) return LINES.ALL;
+    return isRacy ? LINES.OF_RACES : LINES.NONE;
+  }
+
+  /** Where the accesses are that race in the run of the log, accesses note their lines from now on. */
+  #noteRaces() {
+    const { maker: { board, log }, plan } = this;
+    forRacing(log, plan.agents, plan.buffers.length, (one, other) => {
+      const from = Math.max(log.fromAt(one), log.fromAt(other));
+      board.noted.add(log.blockAt(one), from, Math.min(log.toAt(one), log.toAt(other)));
+      return true;
+    });
+  }
+
+  /** @returns {boolean} whether an access that races in the run of the log has noted no line, though it could */
+  #lacksLines() {
+    const { maker: { log }, plan } = this;
+    let lacks = false;
+    forRacing(log, plan.agents, plan.buffers.length, (one, other) => {
+      lacks = log.sourceAt(one) === 0 || log.sourceAt(other) === 0;
+      return !lacks;
+    });
+    return lacks && !this.mayLackLines;
   }
 
   /** All threads are started anew. */
@@ -180,8 +210,10 @@ class Referee {
     const { maker, reporter } = this;
     const acts = reporter.acts(outcome, found);
     const before = Log.from(maker.log.taken());
+    maker.board.noted.clear();
+    if (found.racy) this.#noteRaces();
     await this.#startAnew();
-    const made = await maker.judged(await maker.made({ ...againAs(wanted, outcome), isSilent: true }, true));
+    const made = await maker.judged(await maker.made({ ...againAs(wanted, outcome), isSilent: true }, LINES.OF_FIRST));
     const other = reporter.brief(wanted, made);
     const again = { ...other, acts: reporter.acts(other, made) };
     const place = reporter.placeOf(firstDifferent(before, maker.log));
@@ -194,10 +226,11 @@ class Referee {
   async #tried(wanted) {
     const { maker, reporter } = this;
     const { wantsLines = false } = wanted;
-    const found = await maker.judged(await maker.made(wanted, wantsLines));
+    const found = await maker.judged(await maker.made(wanted, wantsLines ? LINES.OF_RACES : LINES.NONE));
     const outcome = reporter.brief(wanted, found);
     await this.#replace(found);
-    if (wantsLines) await this.#addSources(wanted, outcome, found, { hasSources: maker.log.hasRoom(), isFirst: false });
+    const lines = maker.log.hasRoom() ? LINES.OF_RACES : LINES.NONE;
+    if (wantsLines) await this.#addSources(wanted, outcome, found, { lines, isFirst: false });
     nameIn(outcome, found);
     return { outcome, aside: asideOf(found) };
   }
@@ -207,15 +240,16 @@ class Referee {
    * @param {Wanted} wanted
    * @param {Outcome} outcome
    * @param {Made} found
-   * @param {{ hasSources: boolean, isFirst: boolean }} known whether its accesses have noted their lines; whether it
-   * may be the first failing run
+   * @param {{ lines: number, isFirst: boolean }} known which of the log's accesses have noted their lines; whether it may
+   * be the first failing run
    */
-  async #addSources(wanted, outcome, found, { hasSources, isFirst }) {
+  async #addSources(wanted, outcome, found, { lines, isFirst }) {
     const { maker, reporter } = this;
     if (found.isUnseen) return;
     const wantsTrace = this.#isTraceWanted(wanted, isFirst);
     if (!found.racy && !wantsTrace) return;
-    if (hasSources) {
+    const areThere = lines >= (wantsTrace ? LINES.OF_FIRST : LINES.OF_RACES);
+    if (areThere && (lines !== LINES.OF_RACES || !this.#lacksLines())) {
       reporter.addSources(outcome, wantsTrace);
       return;
     }
@@ -226,9 +260,14 @@ class Referee {
       if (wantsTrace) outcome.noTrace = goneText(found.endless);
       return;
     }
+    if (wantsTrace) maker.board.noted.clear();
+    if (found.racy) this.#noteRaces();
+    if (wanted.isFresh) await this.#startAnew();
     // A program's output is shown once.
     const isSilent = wanted.isSilent || this.options.isProgram;
-    const again = await maker.made({ ...againAs(wanted, outcome), isSilent }, true);
+    const how = wantsTrace ? LINES.OF_FIRST : LINES.OF_RACES;
+    const again = await maker.made({ ...againAs(wanted, outcome), isSilent }, how);
+    this.mayLackLines ||= found.racy && this.#lacksLines();
     const brief = reporter.brief(wanted, await maker.judgedAgain(again, found));
     const same = areSame(brief, outcome) && again.stray === undefined;
     learnDetail(outcome, brief);

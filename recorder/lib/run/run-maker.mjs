@@ -75,6 +75,12 @@ const NOT_SYNCHRONOUS = /^(?:agent \d+ )?(?:goes on later|returned a promise), /
 
 const NOTHING_TRIED = "no agent has made a call of Atomics, or another access that is seen, on the recorded buffers: nothing was tried";
 
+/**
+ * Which accesses of a run note their lines of code: how many of the ordinary ones do, wherever they are. Those in the
+ * board's `noted` places do besides, and so does each call of Atomics, except with `NONE`.
+ */
+export const LINES = Object.freeze({ NONE: -1, OF_RACES: 0, OF_FIRST: 4_096, ALL: 2 ** 30 });
+
 export class RunMaker {
   /**
    * @param {Given} given
@@ -98,10 +104,10 @@ export class RunMaker {
   /**
    * One run, by a seed, or by a row.
    * @param {Wanted} wanted
-   * @param {boolean} notesSources whether each access notes its line of code
+   * @param {number} lines one of `LINES`: which accesses note their lines of code
    * @returns {Promise<Made>}
    */
-  async made(wanted, notesSources) {
+  async made(wanted, lines) {
     const { board, memory, plan, options, sourceNames } = this;
     this.#clear(wanted);
     board.words[WORD.IS_SILENT] = wanted.isSilent === true ? 1 : 0;
@@ -112,7 +118,8 @@ export class RunMaker {
       const nothing = { ...none, bytes: memory.hex(), initial };
       return { ending: "failed", detail: `init ${problem}`, ...nothing };
     }
-    board.words[WORD.NOTES_SOURCES] = notesSources ? 1 : 0;
+    board.words[WORD.NOTES_SOURCES] = lines === LINES.NONE ? 0 : 1;
+    board.words[WORD.LINES_LEFT] = lines;
     board.begin(wanted.seed);
     const result = await this.#ended();
     if (this.program !== undefined) this.agents = this.program.learn();
@@ -127,8 +134,8 @@ export class RunMaker {
     const racy = options.ordinary === "watch" && isRacy(this.log, plan.agents, plan.buffers.length);
     const isWhole = this.program !== undefined;
     const named = isBound || isWhole ? sourceNames.withNames(this.#placed(result.detail)) : this.#named(result.detail);
-    const lines = [named, ...this.#standstillLines(result.ending)].filter((line) => line !== "");
-    const detail = stray === undefined ? lines.join("\n") : strayText(stray, named);
+    const told = [named, ...this.#standstillLines(result.ending)].filter((line) => line !== "");
+    const detail = stray === undefined ? told.join("\n") : strayText(stray, named);
     const notes = this.agents.flatMap((agent) => this.notes[agent].read().map((note) => ({ ...note, agent })));
     const unseen = notes.filter(({ kind }) => kind !== "real");
     const real = notes.filter(({ kind }) => kind === "real");
