@@ -208,3 +208,23 @@ test("a row that is too long to be known whole isn't kept, and it is said so", (
   assert.deepEqual(kept(MOST_DRAWS), [`not kept: seed-7.program.json: the run has ${MOST_DRAWS} draws or more`]);
   assert.deepEqual([kept(MOST_DRAWS - 1), keeper.names], [[], ["seed-7.program.json"]]);
 });
+
+test("a run in fresh threads is shortened, shown with its lines, kept and replayed in fresh threads", async (context) => {
+  // In threads that are kept the second run would find another number in the global.
+  const { file, folder, name } = await kept(programOf(context, {
+    "main.mjs": `import { Worker } from "node:worker_threads";
+      const words = new Int32Array(new SharedArrayBuffer(8));
+      globalThis.times = (globalThis.times ?? 0) + 1;
+      for (let time = 1; time < globalThis.times; time += 1) Atomics.add(words, 1, 1);
+      new Worker(new URL("./worker.mjs", import.meta.url), { workerData: words });
+      if (Atomics.load(words, 0) === 0) Atomics.wait(words, 1, globalThis.times - 1);`,
+    "worker.mjs": `import { workerData as words } from "node:worker_threads";
+      Atomics.store(words, 0, 1);
+      Atomics.notify(words, 1);`,
+  }), ["--fresh"]);
+  assert.deepEqual(JSON.parse(readFileSync(file, "utf8")).options, { fresh: true });
+  assert.match(readFileSync(join(folder, `${name}.words`), "utf8"), /wait\(Int32_b0, 1, 0\) waits .*, at main\.mjs:6:\d+$/m);
+  const { status, stdout, stderr } = recorded(["--replay", file]);
+  assert.deepEqual([status, stderr], [1, ""]);
+  assert.match(stdout, /^1 of 1 run failed: 1 deadlock$/m);
+});

@@ -118,7 +118,8 @@ export class Replaying {
   async one(seed, options) {
     const long = { seconds: DEBUGGED_SECONDS, loadSeconds: DEBUGGED_SECONDS };
     const limits = isDebugged() ? long : { seconds: this.options.seconds };
-    const only = { first: seed, last: seed, jobs: 1, fresh: false, trace: true };
+    const { fresh, isProgram } = this.options;
+    const only = { first: seed, last: seed, jobs: 1, fresh: isProgram === true && fresh, trace: true };
     const checking = { sabsim: this.sabsim, checkEvery: 1 };
     const all = { ...this.options, ...limits, ...only, ...checking, ...options };
     const runs = new Runs(/** @type {any} */ (all), { job: new Job() });

@@ -7,7 +7,7 @@ import { fileURLToPath, pathToFileURL } from "node:url";
 import { SCRIPT_LIMITS } from "../../script/limits.mjs";
 import { MOST_DRAWS, moverOf } from "../board/row.mjs";
 import { Refused } from "../options/refused.mjs";
-import { optionsOf } from "../options/table.mjs";
+import { OPTIONS, optionsOf } from "../options/table.mjs";
 import { HERE } from "../processes/platform.cjs";
 import { Windows } from "../run/windows.mjs";
 import { rowOf, stretchesOf } from "../shorter/stretches.mjs";
@@ -30,8 +30,9 @@ import { PROGRAM_ENDING } from "./keep.mjs";
 /** @param {number[]} row */
 const digestOf = (row) => createHash("sha256").update(row.join()).digest("hex").slice(0, 16);
 
-/** The options on which a run depends, except what is run. */
-const RULES = optionsOf("record").filter(([name, { isShared }]) => isShared && name !== "program");
+/** The options on which a run depends, except what is run. A single run is made in fresh threads if many are. */
+const RULES = Object.entries({ ...Object.fromEntries(optionsOf("record")), fresh: OPTIONS.fresh })
+  .filter(([name, { isShared }]) => isShared && name !== "program");
 
 /**
  * Keeps what makes a run of a program again.
