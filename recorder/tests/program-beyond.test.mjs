@@ -11,7 +11,7 @@ import { programOf, runsOf } from "./helpers/whole-programs.mjs";
 
 const BEYOND = "a thread made more than 1000 calls, which no script can have: sabsim judges only the trace of such a run";
 
-const MISSED = "it has more than 4,096 messages, the most that can be told apart: unordered accesses may be missed";
+const MISSED = "it has more than 16,384 messages, the most that can be told apart: unordered accesses may be missed";
 
 /** @param {string} act of the worker, done again and again @param {string} last what main does at the end */
 const filesOf = (act, last) => ({
@@ -33,13 +33,13 @@ const { port1 } = new MessageChannel();
 for (let at = 0; at < ${count}; at += 1) port1.postMessage(at);`;
 
   it("order more than the program does, so the run says that unordered accesses may be missed", async (context) => {
-    const [enough] = await runsOf(context, { "main.mjs": sends(4_096) });
+    const [enough] = await runsOf(context, { "main.mjs": sends(16_384) });
     assert.deepEqual([enough.ending, enough.noScript], ["finished", BEYOND]);
-    const [crowded] = await runsOf(context, { "main.mjs": sends(4_097) });
+    const [crowded] = await runsOf(context, { "main.mjs": sends(16_385) });
     assert.equal(crowded.ending, "finished");
     assert.equal(crowded.noScript, MISSED);
     assert.equal(crowded.trace?.split("\n")[0], JSON.stringify({ unseen: MISSED }));
-    const { stdout } = await recorded(programOf(context, { "main.mjs": sends(4_097) }), "1..1", "--check", "0");
+    const { stdout } = await recorded(programOf(context, { "main.mjs": sends(16_385) }), "1..1", "--check", "0");
     assert.ok(stdout.split("\n").includes(`1 run has no script: ${MISSED}`), stdout);
   });
 });

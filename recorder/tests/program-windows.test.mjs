@@ -402,13 +402,13 @@ describe("windows", () => {
     ]);
     // 40,000 and 25,533 are 65,533, so 4 bytes more have no room there; 40,000 have it in the second one.
     assert.deepEqual(placesOf(windows), [[0, 0, 0], [64_000, 1, 0], [128_000, 0, 40_000], [192_000, 1, 40_000]]);
-    assert.deepEqual(windows?.lengths(), [65_533, 40_004, 0, 16_384]);
+    assert.deepEqual(windows?.lengths(16_384), [65_533, 40_004, 0, 16_384]);
   });
 
   it("have room for 3,072 pages that are apart, and for no more", () => {
     const pages = (/** @type {number} */ length) =>
       Array.from({ length }, (_, at) => stretch(128 * at, 128 * at + 64));
-    assert.deepEqual(Windows.packed(pages(3_072))?.lengths(), [65_536, 65_536, 65_536, 16_384]);
+    assert.deepEqual(Windows.packed(pages(3_072))?.lengths(16_384), [65_536, 65_536, 65_536, 16_384]);
     assert.equal(Windows.packed(pages(3_073)), undefined);
   });
 

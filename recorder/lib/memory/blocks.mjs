@@ -10,10 +10,14 @@ import { FIRST_MORE, MoreBlocks } from "./more-blocks.mjs";
 
 const { Int32Array, Uint8Array, SharedArrayBuffer } = globalThis;
 
-/** The block for messages, how many bytes it has, and how many places. */
+/**
+ * The block for messages, how many bytes it has, and how many places. Few runs have more than a quarter of these: others
+ * have only as many.
+ */
 export const MESSAGES = SCRIPT_LIMITS.blocks - 1;
-export const MESSAGE_BYTES = 16_384;
+export const MESSAGE_BYTES = SCRIPT_LIMITS.bytes;
 export const MESSAGE_PLACES = MESSAGE_BYTES / 4;
+export const FEW_MESSAGES = MESSAGE_PLACES / 4;
 
 /**
  * The places by which strategies know what a move of an event loop or a message conflicts with, before the message has a
@@ -32,6 +36,9 @@ export const MOST_BYTES = SCRIPT_LIMITS.bytes;
 
 /** In place of a view's kind: what a buffer had in it when it became a block, as a write of its thread. */
 export const HELD = KINDS.length + 2;
+
+/** @param {number} messages how many a run has @returns {number} how many bytes its block for messages has */
+export const messageBytes = (messages) => (messages > FEW_MESSAGES ? MESSAGE_BYTES : 4 * FEW_MESSAGES);
 
 const NO_BYTES = new Uint8Array(0);
 
@@ -151,13 +158,17 @@ export class Blocks {
     this.lengths[block] = length;
   }
 
-  /** The referee learns about all blocks that were made. */
-  refresh() {
+  /**
+   * The referee learns about all blocks that were made.
+   * @param {number} messages how many the run has
+   */
+  refresh(messages) {
     const { words, more } = this;
     for (let block = 0; block < words[COUNT]; block += 1) this.#learn(block, words[LENGTHS + block]);
     for (const block of more.numbers()) this.#learn(block, more.known(block).length);
     // Nobody writes there.
-    this.memory.known[MESSAGES] = new Uint8Array(this.copies[MESSAGES]);
+    this.lengths[MESSAGES] = messageBytes(messages);
+    this.memory.known[MESSAGES] = new Uint8Array(this.copies[MESSAGES], 0, this.lengths[MESSAGES]);
   }
 
   /** @param {number} block @param {number} length */
@@ -174,7 +185,7 @@ export class Blocks {
     for (let block = 0; block < SCRIPT_LIMITS.blocks; block += 1) {
       memory.real[block] = NO_BYTES;
       memory.known[block] = NO_BYTES;
-      lengths[block] = block === MESSAGES ? MESSAGE_BYTES : 0;
+      lengths[block] = block === MESSAGES ? messageBytes(0) : 0;
     }
     memory.real.length = SCRIPT_LIMITS.blocks;
     memory.known.length = SCRIPT_LIMITS.blocks;

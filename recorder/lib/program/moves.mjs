@@ -4,7 +4,7 @@
 
 import { CALL_NUMBERS, CONSTRUCTORS, KINDS, SIZES } from "../../script/kinds.mjs";
 import { LEAVE, TIME_UP } from "../board/journal.mjs";
-import { LOOP_PLACES, MESSAGES, MESSAGE_PLACES, PORT_PLACES } from "../memory/blocks.mjs";
+import { FEW_MESSAGES, LOOP_PLACES, MESSAGES, MESSAGE_PLACES, PORT_PLACES } from "../memory/blocks.mjs";
 import { LOOP, NOWHERE, PHASE, WORD } from "../memory/layout.mjs";
 import { FLAG } from "../memory/log.mjs";
 import { byteOf } from "../memory/memory.mjs";
@@ -19,7 +19,12 @@ const INT32 = KINDS.indexOf("Int32");
 export const toThread = (agent) => LOOP_PLACES + agent;
 
 /** @param {number} port that is being sent itself @returns {number} what a message to it goes to */
-export const toPort = (port) => PORT_PLACES + (port % (MESSAGE_PLACES - PORT_PLACES));
+export const toPort = (port) => PORT_PLACES + (port % (FEW_MESSAGES - PORT_PLACES));
+
+/** @param {number} message @returns {{ index: number, length: number }} its place, and how long the view is that has it */
+const placeOf = (message) => ({
+  index: message % MESSAGE_PLACES, length: message % MESSAGE_PLACES < FEW_MESSAGES ? FEW_MESSAGES : MESSAGE_PLACES,
+});
 
 /** What a message to all channels of a name goes to: the event loop of any thread may have one. */
 export const TO_CHANNELS = -1;
@@ -52,7 +57,7 @@ export class Moves {
     if (to === TO_CHANNELS) call.bytes = 4 * (PORT_PLACES - LOOP_PLACES);
     this.count();
     this.player.make(call, this.view, called, () => {
-      call.index = words[WORD.MESSAGES] % MESSAGE_PLACES;
+      Object.assign(call, placeOf(words[WORD.MESSAGES]));
       words[WORD.MESSAGES] += 1;
     });
     return words[WORD.MESSAGES] - 1;
@@ -77,8 +82,8 @@ export class Moves {
    * @param {() => boolean} [isChanged] whether it is changed; it is called when the thread has the turn
    */
   touchLength(block, called, isChanged) {
-    const view = { kind: INT32, block: MESSAGES, offset: 0, length: MESSAGE_PLACES };
-    const reads = { call: CALL_NUMBERS.load, ...view, index: block % MESSAGE_PLACES, operands: [], limit: undefined };
+    const view = { kind: INT32, block: MESSAGES, offset: 0, length: FEW_MESSAGES };
+    const reads = { call: CALL_NUMBERS.load, ...view, index: block % FEW_MESSAGES, operands: [], limit: undefined };
     /** @type {Call} */
     const call = isChanged === undefined ? reads : { ...reads, call: CALL_NUMBERS.add, operands: [0] };
     this.count();
@@ -332,9 +337,6 @@ export class Moves {
 
   /** @param {number} message @returns {Call} */
   #edge(message) {
-    return {
-      call: CALL_NUMBERS.notify, kind: INT32, block: MESSAGES, offset: 0, length: MESSAGE_PLACES,
-      index: message % MESSAGE_PLACES, operands: [], limit: 0,
-    };
+    return { call: CALL_NUMBERS.notify, kind: INT32, block: MESSAGES, offset: 0, ...placeOf(message), operands: [], limit: 0 };
   }
 }

@@ -4,7 +4,7 @@ import { SCRIPT_LIMITS } from "../../script/limits.mjs";
 import { AsyncWaiters } from "../board/async-waiters.mjs";
 import { memoryOf } from "../board/group-memory.mjs";
 import { MAKE, MOVES } from "../board/journal.mjs";
-import { Blocks, MESSAGE_BYTES, MOST_BLOCKS, MOST_BYTES } from "../memory/blocks.mjs";
+import { Blocks, MESSAGES, MESSAGE_BYTES, MOST_BLOCKS, MOST_BYTES, messageBytes } from "../memory/blocks.mjs";
 import { Keepers } from "../memory/keepers.mjs";
 import { NamedPlaces } from "../memory/named-places.mjs";
 import { Pids } from "../memory/pids.mjs";
@@ -15,8 +15,12 @@ import { PortTable } from "../board/port-table.mjs";
 /** How many calls a thread can make: more than a script can have, and no more than a run has moves for. */
 const MOST_CALLS = Math.ceil(SCRIPT_LIMITS.moves / MOVES[MAKE]) + 1;
 
-/** How long each block can be; the last one is for messages. */
-const longest = () => [...Array.from({ length: MOST_BLOCKS }, () => MOST_BYTES), MESSAGE_BYTES];
+/** How long each block can be; the last one is for messages, and as long as it is if there are few. */
+const longest = () => [...Array.from({ length: MOST_BLOCKS }, () => MOST_BYTES), messageBytes(0)];
+
+/** @param {SharedArrayBuffer[]} buffers @returns {SharedArrayBuffer[]} the same, with room for all messages */
+const withMessages = (buffers) =>
+  buffers.map((buffer, block) => (block === MESSAGES ? new SharedArrayBuffer(MESSAGE_BYTES) : buffer));
 
 /**
  * @param {number} agents how many threads there can be
@@ -35,6 +39,8 @@ export function programMemory(plan, logEvents) {
   const memory = memoryOf(plan, logEvents);
   return {
     ...memory,
+    buffers: withMessages(memory.buffers),
+    copies: withMessages(memory.copies),
     board: { ...memory.board, waiters: AsyncWaiters.memory(), names: NamedPlaces.names() },
     records: Array.from({ length: plan.agents }, () => Records.memory(MOST_CALLS)),
     blocks: Blocks.memory(),

@@ -3,7 +3,7 @@
 
 import { ENDS, helpersView } from "../../script/helpers.mjs";
 import { KINDS, SIZES } from "../../script/kinds.mjs";
-import { MESSAGES, MESSAGE_BYTES } from "../memory/blocks.mjs";
+import { FEW_MESSAGES, MESSAGES } from "../memory/blocks.mjs";
 import { FLAG } from "../memory/log.mjs";
 
 /** @typedef {import("../../script/text.mjs").Done} Done */
@@ -58,7 +58,7 @@ export class Helpers {
 
   /** @param {number} helper @returns {import("./transcript.mjs").Range} that view; messages have the block's first places */
   rangeOf(helper) {
-    const offset = MESSAGE_BYTES - (helper - this.first + 1) * VIEW_BYTES;
+    const offset = 4 * FEW_MESSAGES - (helper - this.first + 1) * VIEW_BYTES;
     return { kind: INT32, block: MESSAGES, offset, length: PLACES };
   }
 

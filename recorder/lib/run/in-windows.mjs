@@ -73,11 +73,11 @@ export function windowsOf({ log, records, lengths }) {
 
 /** Says where the views, calls and events of a run are in its windows. */
 class Placing {
-  /** @param {Windows} windows @param {Run["records"]} records */
-  constructor(windows, records) {
+  /** @param {Windows} windows @param {Run} run */
+  constructor(windows, { records, lengths }) {
     this.windows = windows;
     this.records = records;
-    this.lengths = windows.lengths();
+    this.lengths = windows.lengths(lengths[MESSAGES]);
   }
 
   /**
@@ -175,7 +175,7 @@ function kindsIn(log, windows) {
  */
 function runIn(windows, run, names) {
   const { log, records } = run;
-  const placing = new Placing(windows, records);
+  const placing = new Placing(windows, run);
   return {
     ...run,
     log: log.moved((event) => placing.event(event)),
@@ -235,8 +235,8 @@ function storesIn(kinds, windows, stores, { more }) {
 }
 
 /** @param {Windows} windows @param {Blocks} blocks @returns {string[]} the bytes at the end, in hexadecimal digits */
-function bytesIn(windows, { memory: { known } }) {
-  const blocks = windows.lengths().map((length) => Buffer.alloc(length));
+function bytesIn(windows, { memory: { known }, lengths }) {
+  const blocks = windows.lengths(lengths[MESSAGES]).map((length) => Buffer.alloc(length));
   for (const { buffer, from, to, block, byte } of windows.list) {
     blocks[block].set(known[buffer].subarray(from, to), byte);
   }

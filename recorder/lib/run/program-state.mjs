@@ -2,7 +2,7 @@
 // what keeps idle threads alive.
 
 import { PortTable } from "../board/port-table.mjs";
-import { Blocks, MESSAGES, MESSAGE_PLACES, MOST_BLOCKS, MOST_BYTES } from "../memory/blocks.mjs";
+import { Blocks, FEW_MESSAGES, MESSAGES, MESSAGE_PLACES, MOST_BLOCKS, MOST_BYTES } from "../memory/blocks.mjs";
 import { Keepers } from "../memory/keepers.mjs";
 import { WORD } from "../memory/layout.mjs";
 import { TaskNotes } from "../memory/task-notes.mjs";
@@ -22,6 +22,10 @@ const CUT_ASYNC = "a notify came where a thread that has ended had waited by Ato
 const MORE_MEMORY = `its threads share more than ${MOST_BLOCKS} buffers, one of more than ${MOST_BYTES} bytes, or one `
   + `that grows, and touch more pages of ${PAGE_BYTES} bytes than a script and a trace have room for: the `
   + "recorder alone judges such a run";
+
+/** The last of the first places are those by which threads hand over waits in a script. */
+const CROWDED_ASYNC = `it has more than ${digits(FEW_MESSAGES)} messages beside waits of Atomics.waitAsync: sabsim judges only the `
+  + "trace of such a run";
 
 /** Two messages then have one place, as if the later one was sent after the earlier one was received. */
 const CROWDED = `it has more than ${digits(MESSAGE_PLACES)} messages, the most that can be told apart: unordered accesses `
@@ -78,7 +82,7 @@ export class ProgramState {
   /** A run has ended: its plan is known. @returns {number[]} the threads that took part */
   learn() {
     const { plan, board, blocks } = this;
-    blocks.refresh();
+    blocks.refresh(board.words[WORD.MESSAGES]);
     plan.agents = board.words[WORD.JOINED];
     plan.canBlock.length = plan.agents;
     // The first one of a program for browsers can't.
@@ -112,6 +116,7 @@ export class ProgramState {
   whyNoScript(written) {
     if (written === undefined) return MORE_MEMORY;
     if (this.ports.isCut()) return CUT;
+    if (this.board.words[WORD.MESSAGES] > FEW_MESSAGES && (this.board.waiters?.joined ?? 0) > 0) return CROWDED_ASYNC;
     if (this.board.waiters?.hasMissed) return CUT_ASYNC;
     return written.windows !== undefined && written.stores.isLost() ? LOST : undefined;
   }

@@ -3,7 +3,7 @@
 // one after another. If no block has room for all of these pages, they are cut between two that no access crosses. Two
 // bytes of the program never get the same byte there.
 
-import { MESSAGES, MESSAGE_BYTES, MOST_BLOCKS, MOST_BYTES } from "../memory/blocks.mjs";
+import { MESSAGES, MOST_BLOCKS, MOST_BYTES } from "../memory/blocks.mjs";
 
 /** How many bytes a page has: a multiple of each element's, so that elements stay aligned. */
 export const PAGE_BYTES = 64;
@@ -131,11 +131,11 @@ export class Windows {
     return overlap(ofBuffers) || overlap(ofBlocks);
   }
 
-  /** @returns {number[]} the lengths of the script's blocks; the last one is for messages, and stays as it is */
-  lengths() {
+  /** @param {number} messages the length of the block for messages, which stays as it is @returns {number[]} those of the script's blocks */
+  lengths(messages) {
     const lengths = Array.from({ length: MESSAGES }, () => 0);
     for (const { from, to, block, byte } of this.list) lengths[block] = byte + to - from;
-    return [...lengths, MESSAGE_BYTES];
+    return [...lengths, messages];
   }
 
   /**

@@ -72,6 +72,7 @@ const ALL = [
   wrong("hand-over/waits-elsewhere.mjs", deadlock(["waits-elsewhere.mjs", "Atomics.wait(words, 1, 0)"])),
   right("message/right.mjs"),
   wrong("message/too-soon.mjs", race(["too-soon.mjs", "data[0] = 7"], ["worker.mjs", "data[1] = data[0] * data[0]"])),
+  wrong("message/two-talks.mjs", race(["two-talks.mjs", "const found"], ["writes.mjs", "byte[0] = 1"])),
   right("message/after-exit.mjs"),
   wrong("message/before-exit.mjs",
     race(["before-exit.mjs", "const last"], ["fills.mjs", "data[at] = at / 2"]),
