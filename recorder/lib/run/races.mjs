@@ -17,6 +17,7 @@ import { FLAG } from "../memory/log.mjs";
 import { FIRST_MORE } from "../memory/more-blocks.mjs";
 import { ByteRanges } from "./byte-ranges.mjs";
 import { Numbers } from "./numbers.mjs";
+import { Lines, Pairs } from "./race-lines.mjs";
 
 /** @typedef {import("../memory/log.mjs").Log} Log */
 
@@ -312,69 +313,23 @@ export function isRacy(log, agents, blocks = FIRST_MORE) {
  * Calls back for accesses of a run that race: for each two once, as a rule.
  * @param {Log} log
  * @param {number} agents how many
- * @param {number} blocks how many numbers of blocks there are
- * @param {(one: number, other: number) => boolean} onPair gets the positions of both in the log; returns whether to go on
+ * @param {OnRace} onPair
+ * @param {ByteRanges} [ranges]
  */
-export function forRacing(log, agents, blocks, onPair) {
+function forPairs(log, agents, onPair, ranges) {
   let lastOne = NONE;
   let lastOther = NONE;
-  judge.judge(log, agents, (one, other) => {
+  judge.judge(log, agents, (one, other, place) => {
+    // Two ranges meet on many bytes.
     if (one === lastOne && other === lastOther) return true;
     lastOne = one;
     lastOther = other;
-    return onPair(one, other);
-  }, rangesOf(log, blocks));
+    return onPair(one, other, place);
+  }, ranges);
 }
 
-// A line's number: which agent, what it does, and its place in the code or, in odd numbers, the view.
-const AGENT_BITS = 4;
-const DEED_BITS = 3;
-const DEEDS = FLAG.READS | FLAG.WRITES | FLAG.ATOMIC;
-
-/** Numbers of the lines of code of a run's accesses; if a line isn't known, the view stands for it. */
-class Lines {
-  /** @param {Log} log */
-  constructor(log) {
-    this.log = log;
-    /** @type {Map<string, number>} */
-    this.views = new Map();
-  }
-
-  /** @param {number} event @returns {number} the same if agent, line and what is done are the same */
-  of(event) {
-    const { log } = this;
-    const source = log.sourceAt(event);
-    const place = source > 0 ? source * 2 : this.#viewOf(event) * 2 + 1;
-    return (((place << DEED_BITS) | (log.flagsAt(event) & DEEDS)) << AGENT_BITS) | log.agentAt(event);
-  }
-
-  /** @param {number} event */
-  #viewOf(event) {
-    const { kind, block, offset, length } = this.log.at(event);
-    const key = [kind, block, offset, length].join(" ");
-    const known = this.views.get(key);
-    if (known !== undefined) return known;
-    this.views.set(key, this.views.size);
-    return this.views.size - 1;
-  }
-}
-
-/** Pairs of numbers. */
-class Pairs {
-  constructor() {
-    /** @type {Map<number, Set<number>>} */
-    this.seconds = new Map();
-  }
-
-  /** @param {number} first @param {number} second @returns {boolean} whether it wasn't there */
-  add(first, second) {
-    const known = this.seconds.get(first);
-    if (known === undefined) this.seconds.set(first, new Set([second]));
-    else if (known.has(second)) return false;
-    else known.add(second);
-    return true;
-  }
-}
+/** @type {(log: Log, agents: number, blocks: number, onPair: OnRace) => void} the same, by how many numbers of blocks there are */
+export const forRacing = (log, agents, blocks, onPair) => forPairs(log, agents, onPair, rangesOf(log, blocks));
 
 /** @param {number} place the number of a byte @returns {{ block: number, byte: number }} */
 const placeAt = (place) => ({ block: Math.floor(place / SCRIPT_LIMITS.bytes), byte: place % SCRIPT_LIMITS.bytes });
@@ -393,13 +348,7 @@ export function racesOf(log, agents, blocks = FIRST_MORE) {
   const lines = new Lines(log);
   const pairs = new Pairs();
   const ranges = rangesOf(log, blocks);
-  let lastOne = NONE;
-  let lastOther = NONE;
-  judge.judge(log, agents, (one, other, place) => {
-    // Two ranges meet on many bytes.
-    if (one === lastOne && other === lastOther) return true;
-    lastOne = one;
-    lastOther = other;
+  forPairs(log, agents, (one, other, place) => {
     if (pairs.add(lines.of(one), lines.of(other))) {
       races.push({ one, other, ...(ranges?.placeOf(place) ?? placeAt(place)) });
     }
