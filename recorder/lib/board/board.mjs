@@ -101,7 +101,7 @@ export class Board {
     this.#prepare(ORDER.PLAY);
     this.line.begin(this.rules.starts);
     this.waiters?.begin();
-    this.words[WORD.JOINED] = this.strategy.starts;
+    this.words[WORD.JOINED] = this.rules.starts ?? this.rules.agents;
     this.words[WORD.MESSAGES] = 0;
     this.words[WORD.MAY_REST] = 0;
     this.journal.begin();

@@ -187,6 +187,11 @@ export class Row {
     return this.state[HOW] === EXACT ? this.#exactNext() : this.#lenientNext();
   }
 
+  /** @returns {number} who is to move next by the row, or `NOBODY` if it has come to its end */
+  wanted() {
+    return this.state[AT] < this.state[LENGTH] ? moverOf(this.forced[this.state[AT]]) : NOBODY;
+  }
+
   /**
    * Takes note of a draw.
    * @param {number} drawn who moves next, and whether that is a real answer

@@ -10,6 +10,7 @@ import { Able } from "./strategy/able.mjs";
 import { Asked } from "./strategy/asked.mjs";
 import { Late } from "./strategy/late.mjs";
 import { Slow } from "./strategy/slow.mjs";
+import { Starts } from "./strategy/starts.mjs";
 import { STRATEGIES } from "./strategy/table.mjs";
 import { NEVER, PILOT_WAYS } from "./strategy/ways.mjs";
 
@@ -85,7 +86,7 @@ export class Strategy {
   constructor(words, rules, random, places, row, deadlines, answers) {
     this.words = words;
     this.rules = rules;
-    this.starts = rules.starts ?? rules.agents;
+    this.starts = new Starts(words, rules.starts ?? rules.agents, () => deadlines.clock.seed());
     /** In how many draws a time may be up early. */
     this.share = rules.timeouts === NEVER || rules.early === 0 ? 0 : rules.timeouts;
     this.random = random;
@@ -104,8 +105,8 @@ export class Strategy {
   begin(seed, isPilot = false) {
     const { words } = this;
     words[WORD.LAST] = NOBODY_MOVES;
-    words[WORD.STARTED] = 0;
     words[WORD.IS_PILOT] = isPilot ? 1 : 0;
+    this.starts.begin();
     words[WORD.STRATEGY] = seed % (isPilot ? this.pilotWays : this.ways).length;
     const all = (this.share > 0 ? HASTY : 0) | (this.ways.length > 1 ? SLOW | (isPilot ? 0 : LATE) : 0);
     const changes = this.rules.early === undefined ? 0 : changesOf(seed);
@@ -140,12 +141,25 @@ export class Strategy {
     if (this.#isLate) this.late.asks(agent, from, to, how);
   }
 
-  /** @returns {number} the next agent that hasn't been started, or `NOBODY_MOVES` */
+  /**
+   * @returns {number} an agent that begins now, or `NOBODY_MOVES`: one that is due, that is to move next by the row, or
+   * any if nobody else can go on
+   */
   nextToStart() {
-    const { words } = this;
-    if (words[WORD.STARTED] >= this.starts) return NOBODY_MOVES;
-    words[WORD.STARTED] += 1;
-    return words[WORD.STARTED] - 1;
+    const { row, starts } = this;
+    if (starts.areAll) return NOBODY_MOVES;
+    const wanted = row.isForced() ? row.wanted() : NOBODY_MOVES;
+    const isWanted = wanted !== NOBODY_MOVES && !starts.hasBegun(wanted);
+    return isWanted || starts.isDue || !this.#canGoOn() ? starts.next() : NOBODY_MOVES;
+  }
+
+  /** @returns {boolean} whether an agent that has begun can go on by itself, and does more than read the same again */
+  #canGoOn() {
+    const { deadlines, rules: { agents } } = this;
+    for (let agent = 0; agent < agents; agent += 1) {
+      if (deadlines.isReady(agent) && !deadlines.spins.spins(agent)) return true;
+    }
+    return false;
   }
 
   /** @returns {number} who moves next; `NOBODY_MOVES` if nobody can, `STRAYS` if a row can't be followed */
