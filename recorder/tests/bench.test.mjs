@@ -81,6 +81,14 @@ test("both recorders make the runs of a module and of a program, by turns", inCl
   for (const row of rows) assert.match(row, /^\| [a-z-]+ \| \d+\.\d\d \| \d+\.\d\d \| \d+\.\d{3} \| \d+\.\d\d to \d+\.\d\d \|$/);
 });
 
+test("right programs pass, and what isn't right is refused", () => {
+  const right = fileURLToPath(new URL("../bench/right.mjs", import.meta.url));
+  const run = (/** @type {string[]} */ ...words) => spawnSync(process.execPath, [right, ...words], { encoding: "utf8" });
+  const { status, stdout } = run("--seeds", "3", "--only", "once,exits/r");
+  assert.deepEqual([status, stdout], [0, "exits/right: 0 of 3 failed\nonce/right: 0 of 3 failed\n"]);
+  assert.equal(run("--seeds", "0").status, 2);
+});
+
 test("a program that isn't there, and a commit that isn't named, are errors", () => {
   assert.match(turns("HEAD", "pol").stderr, /there is no program pol: it is one of mutex-naive, bounded-queue, /);
   assert.match(turns().stderr, /name a commit, such as HEAD/);
