@@ -177,6 +177,19 @@ describe("late waits and notifies", () => {
     assert.ok(share(0) > 0.5, `${share(0)}`);
   });
 
+  it("aren't held while one thread makes hundreds of calls alone", () => {
+    for (const seed of lateSeeds) {
+      const board = asking({ seed });
+      const reads = () => board.strategy.asks(0, 800, 804, FLAG.READS);
+      board.strategy.asks(1, 400, 404, FLAG.READS | WAITERS);
+      board.strategy.asks(2, 400, 404, WAITERS);
+      reads();
+      const alone = drawn(board, 250).findIndex((next) => next !== 0);
+      assert.ok(alone >= 0, `seed ${seed}`);
+      reads();
+    }
+  });
+
   it("find a late notify after many reads in a share of these seeds", async (context) => {
     const fileFor = (name) => readFileSync(new URL(`./programs/bridge/${name}`, import.meta.url), "utf8");
     const files = Object.fromEntries(["bridge.mjs", "worker.mjs"].map((name) => [name, fileFor(name)]));
