@@ -4,7 +4,7 @@
 import v8 from "node:v8";
 import { framesHere, isAgentsFile } from "../agent/frames.mjs";
 
-const { promiseHooks } = v8;
+const { promiseHooks } = /** @type {any} */ (v8);
 
 /** How many frames are looked at: an await is in the innermost one. */
 const FRAMES = 3;
@@ -23,7 +23,7 @@ export class Awaits {
       if (frame === undefined || !isOfModule(frame)) return;
       keepers.setAwait(`${frame.getFileName()}:${frame.getLineNumber()}:${frame.getColumnNumber()}`);
     };
-    this.#stop = /** @type {any} */ (promiseHooks.onInit(note));
+    this.#stop = promiseHooks.onInit(note);
   }
 
   /** A run has ended. */

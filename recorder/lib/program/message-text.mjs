@@ -28,7 +28,7 @@ function objectText(value, depth) {
   if (isView(value) || (!isArray(value) && !isPlain)) return className(value);
   if (depth === MOST_DEPTH) return isArray(value) ? "[..]" : "{..}";
   const keys = ownKeys(value).filter((/** @type {unknown} */ key) => typeof key === "string" && key !== "length");
-  const parts = keys.slice(0, MOST_PARTS).map((/** @type {string} */ key) => {
+  const parts = keys.slice(0, MOST_PARTS).map((/** @type {any} */ key) => {
     const own = getOwnPropertyDescriptor(value, key);
     const text = own !== undefined && "value" in own ? valueText(own.value, depth + 1) : "..";
     return isArray(value) ? text : `${key}: ${text}`;
