@@ -45,16 +45,16 @@ function download(name, room) {
 }
 
 /**
- * Downloads the archive of a package.
- * @param {string} name of the package, and perhaps of its suite: zlib1g/sid
- * @param {string} room the folder for it
+ * Downloads the archives of packages.
+ * @param {string[]} names of the packages, and perhaps of their suites: zlib1g/sid
+ * @param {string} room the folder for them
  */
-function downloadPackage(name, room) {
+function downloadPackages(names, room) {
   try {
-    run("apt-get", ["download", name], room);
+    run("apt-get", ["download", ...names], room);
   } catch (problem) {
     if (!(problem instanceof NotFetched) || !NO_PACKAGE.test(problem.message)) throw problem;
-    throw new NotFetched(`apt-get has no package ${name} in its lists. Run \`apt-get update\` as root`);
+    throw new NotFetched(`apt-get has no package ${names.join(" ")} in its lists. Run \`apt-get update\` as root`);
   }
 }
 
@@ -130,9 +130,9 @@ const FETCH = {
   node: fetchNode,
   deb: (source, into, room) => {
     const { name, files, strip = 0 } = source;
-    downloadPackage(name ?? "", room);
+    downloadPackages((name ?? "").split(" "), room);
     const words = ["-C", into, `--strip-components=${strip}`, ...files];
-    run("sh", ["-c", `dpkg-deb --fsys-tarfile *.deb | tar x "$@"`, "sh", ...words], room);
+    run("sh", ["-c", `for deb in *.deb; do dpkg-deb --fsys-tarfile "$deb" | tar x "$@" || exit; done`, "sh", ...words], room);
     finish(source, into);
   },
   source: (source, into, room) => {
@@ -165,14 +165,14 @@ export function fetchSource(source) {
 }
 
 /**
- * The program with which a product is tried. A page is put beside the code, as on a site.
+ * The program with which a product is tried. A page is put beside the code, as on a site, and so is a project.
  * @param {import("./table.mjs").Product} product
  * @returns {string} its path
  */
-export function programOf({ main, site }) {
+export function programOf({ main, site, project = site }) {
   const own = new URL(main, import.meta.url);
-  if (site === undefined) return fileURLToPath(own);
-  const into = fileURLToPath(new URL(`${site}/`, FETCHED));
+  if (project === undefined) return fileURLToPath(own);
+  const into = fileURLToPath(new URL(`${project}/`, FETCHED));
   const from = dirname(fileURLToPath(own));
   for (const name of readdirSync(from)) writeAnew(join(into, name), readFileSync(join(from, name), "utf8"));
   return join(into, basename(main));

@@ -98,7 +98,8 @@ export const parseScript = inside("deps/acorn/acorn/dist/acorn", { parse: "funct
 
 /** The standard streams of a Worker, on both sides of a port, and what they send there. */
 export const {
-  ReadableWorkerStdio, WritableWorkerStdio, kIncrementsPortRef, kStdioWantsMoreDataCallback, kWaitingStreams, messageTypes,
+  ReadableWorkerStdio, WritableWorkerStdio, kIncrementsPortRef, kStdioWantsMoreDataCallback, kWaitingStreams,
+  messageTypes,
 } = inside("worker/io", {
   ReadableWorkerStdio: "function", WritableWorkerStdio: "function", kIncrementsPortRef: "symbol",
   kStdioWantsMoreDataCallback: "symbol", kWaitingStreams: "symbol", messageTypes: "object",
@@ -267,7 +268,7 @@ const TESTS = "test";
 /**
  * Makes node's runner of tests once more, by node's own code, and has programs find it as `node:test`. Node's own has
  * ended with the first run.
- * @param {(name: string, where: any, details: any, directive: any) => void} failed is called when a test or a suite fails
+ * @param {(name: string, where: any, details: any, directive: any) => void} failed is called if a test or suite fails
  * @param {() => never} run in place of the function that runs files in processes of their own
  * @returns {() => void} stops what it has begun
  */
@@ -280,7 +281,8 @@ export function freshTests(failed, run) {
     hooks.push(hook);
     return hook;
   };
-  const load = compiledAnew((id) => OF_TESTS.test(id), new Map([["async_hooks", { ...publicHooks, createHook: keeping }]]));
+  const ofThis = new Map([["async_hooks", { ...publicHooks, createHook: keeping }]]);
+  const load = compiledAnew((id) => OF_TESTS.test(id), ofThis);
   const { TestsStream: { prototype } } = load("internal/test_runner/tests_stream");
   const { fail } = prototype;
   /** @this {any} @param {any[]} given */
@@ -294,6 +296,43 @@ export function freshTests(failed, run) {
   own.syncExports();
   own.module?.setExport("default", own.exports);
   return () => hooks.forEach((hook) => hook.disable());
+}
+
+/** The modules that `crypto.subtle` is made of, besides those of keys and of errors. */
+const OF_SUBTLE = /^internal\/crypto\/(?!keys|util|hashnames|webidl|webcrypto_util|x509|random|certificate)/;
+
+/** The names of what node does for `crypto.subtle` in threads of its own, and can do at once. */
+const JOB = /Job$/;
+
+/**
+ * Makes node's `crypto.subtle` once more, by node's own code. What it did in other threads is done at once.
+ * @param {(act: () => void) => void} later does something in a task of its own
+ * @returns {any}
+ */
+export function subtleOver(later) {
+  const own = internalBinding("crypto");
+  const { kCryptoJobSync, kCryptoJobWebCrypto } = own;
+  const jobs = Object.keys(own).filter((name) => JOB.test(name)).map((name) => [name, class extends own[name] {
+    #mode;
+
+    /** @param {number} mode @param {any[]} given */
+    constructor(mode, ...given) {
+      super(kCryptoJobSync, ...given);
+      this.#mode = mode;
+    }
+
+    run() {
+      const [problem, result] = super.run();
+      if (this.#mode === kCryptoJobSync) return [problem, result];
+      if (this.#mode !== kCryptoJobWebCrypto) return later(() => this.ondone(problem, result));
+      const cause = "The operation failed for an operation-specific reason";
+      return new Promise((resolve, reject) => later(() => (problem === undefined ? resolve(result)
+        : reject(new DOMException(cause, /** @type {any} */ ({ name: "OperationError", cause: problem }))))));
+    }
+  }]);
+  const binding = { ...own, ...Object.fromEntries(jobs) };
+  const bindingOf = (/** @type {string} */ name) => (name === "crypto" ? binding : internalBinding(name));
+  return compiledAnew((id) => OF_SUBTLE.test(id), new Map(), bindingOf)("internal/crypto/webcrypto").crypto.subtle;
 }
 
 if (lacking.length > 0) {

@@ -46,7 +46,8 @@ function install({ locks, ends }, graph) {
   if (!("locks" in threads)) return;
   const { manager } = lockManager(locks);
   member(threads, "locks", manager);
-  defineProperty(Navigator.prototype, "locks", { configurable: true, enumerable: true, get: () => manager });
+  const { Navigator: { prototype } } = /** @type {any} */ (globalThis);
+  defineProperty(prototype, "locks", { configurable: true, enumerable: true, get: () => manager });
 }
 
 /**
@@ -63,8 +64,8 @@ function begin(parts, start, parentPort) {
   const values = HERE.ignoresCase && agent === 0 ? ignoringCase(start.env) : start.env;
   const env = envOf(values, start.sharesEnv, refuse);
   const { execArgv, resourceLimits, threadName } = start;
-  const place = { agent, workerData, parentPort, argv: argvOf(start), execArgv, env, environment, threadName, resourceLimits };
-  installThreads(place, {
+  const place = { agent, workerData, parentPort, argv: argvOf(start), execArgv, env, environment };
+  installThreads({ ...place, threadName, resourceLimits }, {
     Worker: workerClass({ ...parts, environment }), MessageChannel: channelClass(ports),
     receiveMessageOnPort: receiverOf(ports, moves),
     BroadcastChannel: broadcastClass({ ports, moves, mesh, buffers }),

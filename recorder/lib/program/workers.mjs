@@ -85,7 +85,8 @@ function checkKinds({ argv, execArgv, env, name }) {
 }
 
 /** Words of node's command line that say how errors and warnings are shown, and nothing else. */
-const OF_TEXTS = /^--(?:no-)?(?:enable-source-maps|warnings|deprecation|pending-deprecation|trace-(?:[a-z-]+))$|^--stack-trace-limit=\d+$/;
+const OF_TEXTS = new RegExp("^--(?:no-)?(?:enable-source-maps|warnings|deprecation|pending-deprecation|trace-[a-z-]+)$"
+  + "|^--stack-trace-limit=\\d+$");
 
 /** @param {any} options @param {(why: string) => never} refuse @returns {string[]} */
 function execArgvOf({ execArgv }, refuse) {
@@ -107,8 +108,9 @@ const LEAST_OLD = 2;
 
 /** @param {any} options @returns {Limits} */
 function limitsOf({ resourceLimits }) {
+  /** @type {Limits} */
   const limits = { ...LIMITS };
-  for (const name of /** @type {(keyof typeof LIMITS)[]} */ (Object.keys(LIMITS))) {
+  for (const name of Object.keys(LIMITS)) {
     const given = resourceLimits?.[name];
     if (typeof given === "number") limits[name] = name === "maxOldGenerationSizeMb" ? Math.max(given, LEAST_OLD) : given;
   }
