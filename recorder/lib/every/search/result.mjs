@@ -137,7 +137,7 @@ const inOrder = (one, other) => one.automaton - other.automaton || one.id - othe
 
 /** @param {string} one @param {string} other @returns {number} their order by their bytes in UTF-8 */
 function inBytes(one, other) {
-  const [bytes, others] = [one, other].map((text) => hexOf(Buffer.from(text), 0, Buffer.byteLength(text)));
+  const [bytes, others] = [one, other].map((text) => Buffer.from(text).toString("hex"));
   if (bytes === others) return 0;
   return bytes < others ? -1 : 1;
 }
