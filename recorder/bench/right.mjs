@@ -10,21 +10,24 @@
 import { fileURLToPath } from "node:url";
 import { parseArgs } from "node:util";
 import { explore } from "../recorder.mjs";
-import { PROGRAMS, urlOf } from "../tests/programs/table.mjs";
 
-/** @typedef {import("../tests/programs/table.mjs").Program} Program */
+/** @typedef {{ main: string, name: string, right: boolean, isWeb?: boolean, isEndless?: boolean, notYet?: string }} Program */
+
+/** What the tests know of their programs is data here: it is read when this runs. */
+const FOLDER = new URL("../tests/programs/", import.meta.url);
+const TABLE = new URL("table.mjs", FOLDER).href;
 
 const SEEDS = 1_000;
 
-/** @param {string[]} words of the command line */
-function askedFor(words) {
+/** @param {string[]} words of the command line @param {Program[]} known */
+function askedFor(words, known) {
   const text = /** @type {const} */ ({ type: "string" });
   const { values } = parseArgs({ args: words, options: { seeds: text, jobs: text, only: text } });
   const { seeds = `${SEEDS}`, jobs = "1", only = "" } = values;
   const [most, side] = [Number(seeds), Number(jobs)];
   if (!(most > 0) || !(side > 0)) throw new Error("--seeds and --jobs must be numbers above 0");
   const names = only.split(",");
-  const all = PROGRAMS.filter(({ right, notYet }) => right && notYet === undefined);
+  const all = known.filter(({ right, notYet }) => right && notYet === undefined);
   return { seeds: most, jobs: side, programs: all.filter(({ name }) => names.some((each) => name.startsWith(each))) };
 }
 
@@ -35,7 +38,7 @@ function askedFor(words) {
  */
 async function failuresOf(program, { seeds, jobs }) {
   const options = {
-    program: fileURLToPath(urlOf(program)), seeds, jobs, checkEvery: 0, programOutput: /** @type {const} */ ("none"),
+    program: fileURLToPath(new URL(program.main, FOLDER)), seeds, jobs, checkEvery: 0, programOutput: /** @type {const} */ ("none"),
     web: program.isWeb === true, ...(program.isEndless ? { stuck: /** @type {const} */ ("allow") } : {}),
   };
   const failures = [];
@@ -48,7 +51,7 @@ async function failuresOf(program, { seeds, jobs }) {
 async function main() {
   let asked;
   try {
-    asked = askedFor(process.argv.slice(2));
+    asked = askedFor(process.argv.slice(2), (await import(TABLE)).PROGRAMS);
   } catch (problem) {
     console.error(`right: ${/** @type {Error} */ (problem).message}`);
     process.exitCode = 2;
