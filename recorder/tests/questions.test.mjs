@@ -18,8 +18,8 @@ const ANSWERS = new Map(SECTION.trim().split(/^- /m).slice(1).map((text) => {
 
 test("each question has an answer", () => {
   assert.deepEqual([...ANSWERS.keys()], [
-    "Mac and Windows?", "Code for browsers?", "Wasm, Rust or C++ threads?", "How fast?", "VS Code?", "jest or vitest?",
-    "All schedules?", "How sure am I?",
+    "Mac and Windows?", "Code for browsers?", "Wasm, Rust or C++ threads?", "Limits of time?", "How fast?", "VS Code?",
+    "jest or vitest?", "All schedules?", "How sure am I?",
   ]);
   for (const [question, answer] of ANSWERS) assert.ok(answer.length > 40, question);
 });

@@ -329,15 +329,7 @@ function clear(parts) {
   restoreBuiltins();
   awaits.stop();
   const { buffers, waits, locks, ports, timers, loop, ends, children, late } = parts;
-  buffers.clear();
-  late.wasm?.clear();
-  waits.clear();
-  locks.clear();
-  ports.clear();
-  timers.clear();
-  loop.clear();
-  ends.clear();
-  children.clear();
+  for (const part of [buffers, late.wasm, waits, locks, ports, timers, loop, ends, children]) part?.clear();
   surroundings.clear(parts);
   restoreProcess();
 }
