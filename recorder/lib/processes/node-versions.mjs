@@ -43,8 +43,8 @@ export const LATER = Object.freeze([{
     tls: { harmless: "getCACertificates getCertificateCompressionAlgorithms setDefaultCACertificates" },
     v8: { harmless: "getCppHeapStatistics isStringOneByteRepresentation", refused: "startCpuProfile" },
     worker_threads: {
-      simulated: "threadName",
-      harmless: "isInternalThread isMarkedAsUntransferable markAsUncloneable",
+      simulated: "markAsUncloneable threadName",
+      harmless: "isInternalThread isMarkedAsUntransferable",
       // Its methods are those of `navigator.locks`.
       refused: "locks",
     },

@@ -183,6 +183,7 @@ export class Ends {
   /** @param {number} code that listeners of `exit` get */
   #emitExit(code) {
     this.isOver = true;
+    own._exiting = true;
     try {
       emit("exit", code);
     } catch (thrown) {

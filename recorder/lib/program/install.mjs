@@ -62,6 +62,8 @@ export function installCloning(buffers) {
  * @property {unknown} workerData
  * @property {any} parentPort null in the first thread
  * @property {string[]} argv
+ * @property {string[]} execArgv
+ * @property {Record<string, number>} resourceLimits
  * @property {Record<string, string | undefined> | undefined} env
  * @property {Map<unknown, unknown>} environment
  * @property {string} threadName
@@ -72,12 +74,13 @@ export function installCloning(buffers) {
  * @param {Place} place
  * @param {Record<string, unknown>} classes of `worker_threads`
  */
-export function installThreads({ agent, workerData, parentPort, argv, env, environment, threadName }, classes) {
+export function installThreads(place, classes) {
+  const { agent, workerData, parentPort, environment, threadName } = place;
   for (const [name, each] of Object.entries(classes)) member(threads, name, each);
   member(threads, "isMainThread", agent === 0);
   member(threads, "threadId", agent);
   if ("threadName" in threads) member(threads, "threadName", threadName);
-  if (agent === 0) member(threads, "resourceLimits", {});
+  member(threads, "resourceLimits", place.resourceLimits);
   member(threads, "workerData", workerData);
   member(threads, "parentPort", parentPort);
   member(threads, "getEnvironmentData", (/** @type {unknown} */ key) => environment.get(key));
@@ -90,8 +93,9 @@ export function installThreads({ agent, workerData, parentPort, argv, env, envir
   }
   /** @type {any} */
   const own = process;
-  own.argv = argv;
-  if (env !== undefined) own.env = env;
+  own.argv = place.argv;
+  own.execArgv = place.execArgv;
+  if (place.env !== undefined) own.env = place.env;
 }
 
 /**
@@ -115,7 +119,6 @@ const listening = new Map();
 export function keepProcess() {
   /** @type {any} */
   const own = process;
-  own.execArgv = [];
   for (const name of own.eventNames()) listening.set(name, own.rawListeners(name));
 }
 

@@ -95,6 +95,14 @@ export const { decorateErrorStack, SideEffectFreeRegExpPrototypeSymbolReplace } 
 /** Reads the text of a classic script. */
 export const parseScript = inside("deps/acorn/acorn/dist/acorn", { parse: "function" }).parse;
 
+/** The standard streams of a Worker, on both sides of a port, and what they send there. */
+export const {
+  ReadableWorkerStdio, WritableWorkerStdio, kIncrementsPortRef, kStdioWantsMoreDataCallback, kWaitingStreams, messageTypes,
+} = inside("worker/io", {
+  ReadableWorkerStdio: "function", WritableWorkerStdio: "function", kIncrementsPortRef: "symbol",
+  kStdioWantsMoreDataCallback: "symbol", kWaitingStreams: "symbol", messageTypes: "object",
+});
+
 /** What a Blob has of its bytes. */
 export const { isBlob, kHandle } = inside("blob", { isBlob: "function", kHandle: "symbol" });
 

@@ -12,6 +12,7 @@ import { envOf, ignoringCase } from "./process-env.mjs";
 import { ProgramModules } from "./program-modules.mjs";
 import { receiverOf } from "./receiving.mjs";
 import { argvOf, evaluated } from "./start.mjs";
+import { beginStdio, clearStdio } from "./stdio.mjs";
 import { workerClass } from "./workers.mjs";
 
 const firstEnv = { ...process.env };
@@ -46,13 +47,16 @@ function begin(parts, start, parentPort) {
   const { workerData, environment } = ports.unpacked({ workerData: start.workerData, environment: start.environment });
   const values = HERE.ignoresCase && agent === 0 ? ignoringCase(start.env) : start.env;
   const env = envOf(values, start.sharesEnv, refuse);
-  const { threadName } = start;
-  installThreads({ agent, workerData, parentPort, argv: argvOf(start), env, environment, threadName }, {
+  const { execArgv, resourceLimits, threadName } = start;
+  const place = { agent, workerData, parentPort, argv: argvOf(start), execArgv, env, environment, threadName, resourceLimits };
+  installThreads(place, {
     Worker: workerClass({ ...parts, environment }), MessageChannel: channelClass(ports),
     receiveMessageOnPort: receiverOf(ports, moves),
     BroadcastChannel: broadcastClass({ ports, moves, mesh, buffers }),
   });
-  if (agent !== 0) ports.send(parentPort, undefined, [], undefined, KIND.ONLINE);
+  if (agent === 0) return;
+  beginStdio(ports, start.stdio);
+  ports.send(parentPort, undefined, [], undefined, KIND.ONLINE);
 }
 
 /** @type {Surroundings} */
@@ -65,10 +69,10 @@ export const NODE = {
   serve: servePorts,
   install: () => {},
   mainStart: ({ program, args }) => ({
-    url: program, isCode: false, workerData: null, argv: args, env: { ...firstEnv }, sharesEnv: false,
-    environment: new Map(), threadName: "", where: "",
+    url: program, isCode: false, workerData: null, argv: args, execArgv: [], env: { ...firstEnv }, sharesEnv: false,
+    environment: new Map(), threadName: "", resourceLimits: {}, where: "",
   }),
   begin,
   evaluated,
-  clear: () => {},
+  clear: clearStdio,
 };

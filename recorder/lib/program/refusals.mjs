@@ -4,6 +4,7 @@
 import process from "node:process";
 import { isCalledByAgents } from "../agent/frames.mjs";
 import { defineProperty } from "../primordials.mjs";
+import { standardInput } from "./stdio.mjs";
 
 /** @typedef {(why: string) => never} Refuse */
 
@@ -13,6 +14,9 @@ import { defineProperty } from "../primordials.mjs";
  */
 export function installRefusals(refuse) {
   // Node itself, and what lists the members of its modules, gets none.
-  const get = () => (isCalledByAgents(get) ? refuse("read process.stdin, which isn't simulated") : undefined);
+  const get = () => {
+    if (!isCalledByAgents(get)) return undefined;
+    return standardInput() ?? refuse("read process.stdin, which isn't simulated");
+  };
   defineProperty(process, "stdin", { configurable: true, get });
 }

@@ -3,17 +3,20 @@
 // structured clone calls them. So memory that one of them returns is found.
 
 import { types } from "node:util";
+import threads from "node:worker_threads";
 import { memoryNumber } from "../agent/ordinary/context.mjs";
 import { wrappedView } from "../agent/ordinary/data-view.mjs";
 import { wrapped } from "../agent/ordinary/elements.mjs";
 import { WHOLLY, mirrored, reaches } from "../agent/ordinary/reach.mjs";
 import { anyWatchedOf } from "../agent/ordinary/watched.mjs";
 import {
-  bufferBehind, create, defineProperty, getOwnPropertyDescriptor, getPrototypeOf, isArray, mapSet, ownKeys, tagOf,
+  bufferBehind, create, defineProperty, getOwnPropertyDescriptor, getPrototypeOf, isArray, isObject,
+  likeEngine, mapSet, ownKeys, tagOf, weakHas, weakSet,
 } from "../primordials.mjs";
 import { Buffers, bufferIn } from "./buffers.mjs";
+import { member } from "./member.mjs";
 
-const { Array: EngineArray, Map: EngineMap } = globalThis;
+const { Array: EngineArray, Map: EngineMap, WeakMap: EngineWeakMap } = globalThis;
 /** @type {(value: unknown, options: unknown) => any} */
 const engineClone = /** @type {any} */ (globalThis).structuredClone;
 const { isView } = ArrayBuffer;
@@ -39,6 +42,25 @@ const OTHERS = [
   types.isProxy, types.isMap, types.isSet, types.isNativeError, types.isDate, types.isRegExp, types.isBoxedPrimitive,
   types.isAnyArrayBuffer, isView,
 ];
+
+/** @type {WeakMap<object, boolean>} objects that the program has marked: no clone of them can be made */
+const uncloneable = new EngineWeakMap();
+let isAnyMarked = false;
+
+/** Notes which objects are marked: a copy of one wouldn't have the mark. Node 20 has no such marks. */
+export function installMarks() {
+  const { markAsUncloneable: engine } = /** @type {any} */ (threads);
+  if (engine === undefined) return;
+  member(threads, "markAsUncloneable", likeEngine((/** @type {any} */ given) => {
+    engine(given);
+    if (!isObject(given)) return;
+    isAnyMarked = true;
+    weakSet(uncloneable, given, true);
+  }, engine));
+}
+
+/** @param {any} inner @returns {boolean} */
+const isMarked = (inner) => isObject(inner) && weakHas(uncloneable, inner);
 
 /** @param {any} object @param {string | symbol} key @returns {boolean} whether structured clone takes a property */
 const isTaken = (object, key) => typeof key === "string" && getOwnPropertyDescriptor(object, key)?.enumerable === true;
@@ -81,6 +103,8 @@ const settled = (value, made) => mirrored(value, made, {
  * @returns {unknown}
  */
 function bare(given, met) {
+  // The engine throws for such an object, and wouldn't for a copy.
+  if (isAnyMarked && reaches(given, WHOLLY, false, isMarked)) return given;
   if (!reaches(given, WHOLLY, false, (inner) => isMemory(inner) || hasGetter(inner))) return given;
   const value = settled(given, new EngineMap());
   return mirrored(value, new EngineMap(), {

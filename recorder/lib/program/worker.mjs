@@ -55,6 +55,7 @@ import { refuseRest } from "./surface.mjs";
 import { takenStart, threadName } from "./thread-start.mjs";
 import { Threads } from "./threads.mjs";
 import { Timers } from "./timers.mjs";
+import { installMarks } from "./values.mjs";
 import { putTwins } from "./twins.mjs";
 import { leaveOf } from "./unwinding.mjs";
 import { WaitAsync } from "./wait-async.mjs";
@@ -257,6 +258,7 @@ function installReplacements({ moves, buffers, waits, ends, events, timers, late
   putTwins({ later, isPlaying });
   installMemory((buffer) => buffers.made(buffer, sourceOfCall()));
   installCloning(buffers);
+  installMarks();
   installGrowing(buffers, moves, isPlaying);
   globalThis.Atomics = atomics;
   waits.install(Atomics);

@@ -13,6 +13,7 @@ import { deserializeError } from "./internals.mjs";
 import { nodeError } from "./node-error.mjs";
 import { KIND, itemsOf } from "./ports.mjs";
 import { sharedEnv } from "./process-env.mjs";
+import { WorkersStdio, isAnyPiped, pipedOf } from "./stdio.mjs";
 import { startThread } from "./thread-start.mjs";
 import { sent } from "./values.mjs";
 
@@ -35,8 +36,11 @@ const { prototype: engine } = /** @type {any} */ (threads.Worker);
  * @property {boolean} isCode
  * @property {any} workerData
  * @property {string[]} argv
+ * @property {string[]} execArgv
  * @property {Record<string, string | undefined>} env
  * @property {boolean} sharesEnv whether it is that of the thread that starts it
+ * @property {Limits} resourceLimits
+ * @property {import("./stdio.mjs").Given} stdio
  * @property {string} threadName
  * @property {Map<unknown, unknown>} environment
  * @property {string} where it was started
@@ -80,15 +84,35 @@ function checkKinds({ argv, execArgv, env, name }) {
   if (name && typeof name !== "string") throw wrong("name", "of type string");
 }
 
-/** The options of a Worker that aren't simulated. */
-const REFUSED = Object.freeze(["stdin", "stdout", "stderr"]);
+/** Words of node's command line that say how errors and warnings are shown, and nothing else. */
+const OF_TEXTS = /^--(?:no-)?(?:enable-source-maps|warnings|deprecation|pending-deprecation|trace-(?:[a-z-]+))$|^--stack-trace-limit=\d+$/;
 
-/** @param {any} options @param {(why: string) => never} refuse */
-function needsSimulated(options, refuse) {
-  REFUSED.forEach((name) => {
-    if (options[name]) refuse(`started a Worker with the option ${name}, which isn't simulated`);
-  });
-  if (options.execArgv?.length > 0) refuse("started a Worker with execArgv, which isn't simulated");
+/** @param {any} options @param {(why: string) => never} refuse @returns {string[]} */
+function execArgvOf({ execArgv }, refuse) {
+  const words = itemsOf(execArgv ?? process.execArgv).map(String);
+  const other = words.find((word) => !OF_TEXTS.test(word));
+  if (other !== undefined) refuse(`started a Worker with ${other} in execArgv, which isn't simulated`);
+  return words;
+}
+
+/** @typedef {Record<string, number>} Limits */
+
+/** Those that a thread has by default, on any machine. No thread is held to its limits. */
+const LIMITS = Object.freeze({
+  maxYoungGenerationSizeMb: 48, maxOldGenerationSizeMb: 4_096, codeRangeSizeMb: 0, stackSizeMb: 4,
+});
+
+/** Node gives a thread at least so much. */
+const LEAST_OLD = 2;
+
+/** @param {any} options @returns {Limits} */
+function limitsOf({ resourceLimits }) {
+  const limits = { ...LIMITS };
+  for (const name of /** @type {(keyof typeof LIMITS)[]} */ (Object.keys(LIMITS))) {
+    const given = resourceLimits?.[name];
+    if (typeof given === "number") limits[name] = name === "maxOldGenerationSizeMb" ? Math.max(given, LEAST_OLD) : given;
+  }
+  return limits;
 }
 
 /**
@@ -101,18 +125,24 @@ function needsSimulated(options, refuse) {
 function started(starting, file, options, called) {
   const url = urlOf(file, options);
   checkKinds(options);
-  needsSimulated(options, starting.refuse);
+  const execArgv = execArgvOf(options, starting.refuse);
   const given = { workerData: options.workerData, environment: starting.environment };
   /** @type {any} in node these are one message, so what is in both is one thing */
   const { workerData, environment } = sent(given, starting.buffers);
   const sharesEnv = options.env === SHARE_ENV;
+  const piped = pipedOf(options);
+  const { port1, port2 } = isAnyPiped(piped) ? starting.ports.channel() : NO_PORTS;
   const start = {
-    url, isCode: options.eval === true, workerData, argv: itemsOf(options.argv ?? []).map(String),
+    url, isCode: options.eval === true, workerData, argv: itemsOf(options.argv ?? []).map(String), execArgv,
     env: sharesEnv ? sharedEnv() : { ...(options.env ?? process.env) }, sharesEnv, environment,
-    threadName: nameOf(options),
+    threadName: nameOf(options), resourceLimits: limitsOf(options), stdio: { ...piped, port: port2 },
   };
-  return startThread(starting, start, itemsOf(options.transferList ?? []), called);
+  const transferList = itemsOf(options.transferList ?? []).concat(port2 ?? []);
+  const thread = startThread(starting, start, transferList, called);
+  return { ...thread, stdio: new WorkersStdio(starting.ports, port1, piped, options) };
 }
+
+const NO_PORTS = Object.freeze({ port1: undefined, port2: undefined });
 
 /** @type {Starting | undefined} a thread has one part in a run */
 let starting;
@@ -130,20 +160,24 @@ class Worker extends EventEmitter {
   #own;
   #isAlive = true;
   #name;
+  #limits;
+  #stdio;
   /** @type {((code: number | undefined) => void)[]} */
   #awaiting = [];
 
   /** @param {unknown} file @param {any} [options] */
   constructor(file, options = {}) {
     super();
-    const { agent, port, where } = started(world(), file, options ?? {}, new.target);
+    const { agent, port, where, stdio } = started(world(), file, options ?? {}, new.target);
     this.#agent = agent;
     this.#port = port;
     this.#own = { refed: true, where };
     this.#name = nameOf(options ?? {});
     this.threadId = agent;
-    /** @type {any} */ (this).stdin = null;
-    this.resourceLimits = {};
+    this.#limits = limitsOf(options ?? {});
+    this.#stdio = stdio;
+    // As in node before a thread's loop begins.
+    this.performance = { eventLoopUtilization: () => ({ idle: 0, active: 0, utilization: 0 }) };
     const { ports, children } = world();
     children.add(this.#own);
     ports.known(port).taker = (envelope) => this.#take(envelope);
@@ -154,6 +188,22 @@ class Worker extends EventEmitter {
   /** @param {unknown} value @param {unknown} [transfer] */
   postMessage(value, transfer) {
     if (this.#isAlive) world().ports.send(this.#port, value, transfer, this.postMessage);
+  }
+
+  get stdin() {
+    return this.#stdio.stdin;
+  }
+
+  get stdout() {
+    return this.#stdio.printed("stdout", world().refuse);
+  }
+
+  get stderr() {
+    return this.#stdio.printed("stderr", world().refuse);
+  }
+
+  get resourceLimits() {
+    return this.#isAlive ? { ...this.#limits } : {};
   }
 
   ref() {
@@ -207,6 +257,7 @@ class Worker extends EventEmitter {
     this.threadId = -1;
     world().children.delete(this.#own);
     world().ports.known(this.#port).closed = true;
+    this.#stdio.end();
     this.emit("exit", code);
     this.#awaiting.forEach((done) => done(code));
   }
@@ -214,10 +265,10 @@ class Worker extends EventEmitter {
 
 /** What isn't simulated of a Worker, though later versions of node alone have some of it. */
 const NOT_SIMULATED = Object.freeze([
-  "cpuUsage", "getHeapSnapshot", "getHeapStatistics", "startCpuProfile", "startHeapProfile", "stderr", "stdout",
+  "cpuUsage", "getHeapSnapshot", "getHeapStatistics", "startCpuProfile", "startHeapProfile",
 ]);
 
-for (const name of NOT_SIMULATED.filter((each) => each in engine).concat("performance")) {
+for (const name of NOT_SIMULATED.filter((each) => each in engine)) {
   // Node itself, and what lists its members, gets none.
   const get = () => (isCalledByAgents(get) ? world().refuse(`read Worker.${name}, which isn't simulated`) : undefined);
   defineProperty(Worker.prototype, name, { configurable: true, get });
