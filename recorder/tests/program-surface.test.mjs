@@ -40,14 +40,11 @@ for (const version of LATER) {
   });
 }
 
-whereNodeHasIt(isSince(24))("locks of other threads are refused by their names, and never node's own", () => {
+whereNodeHasIt(isSince(24))("what only later versions have is refused by its name", () => {
   const found = inProcess(`
-    const { locks } = require("worker_threads");
-    console.log(JSON.stringify([locks === navigator.locks, by(() => locks.request("name", () => {})),
-      by(() => navigator.locks.query()), by(() => new Blob([]).textStream()),
+    console.log(JSON.stringify([by(() => new Blob([]).textStream()),
       by(() => performance.eventLoopUtilization()), by(() => require("perf_hooks").eventLoopUtilization())]));`);
-  assert.deepEqual(found, [true, "navigator.locks.request", "navigator.locks.query", "Blob.textStream",
-    "Performance.eventLoopUtilization", "Performance.eventLoopUtilization"]);
+  assert.deepEqual(found, ["Blob.textStream", "Performance.eventLoopUtilization", "Performance.eventLoopUtilization"]);
 });
 
 test("no name is of two kinds, and each kind is one of four", () => {
@@ -85,7 +82,7 @@ test("kinds are found with and without node:", () => {
   assert.equal(kindOf("node:net", "isIP"), "harmless");
   assert.equal(kindOf("fs", "readFile"), "simulated");
   assert.equal(kindOf("child_process", "spawn"), "real");
-  assert.equal(kindOf("inspector", "anything"), "refused");
+  assert.equal(kindOf("inspector", "open"), "refused");
   assert.equal(kindOf("node:test", "test"), "refused");
   assert.equal(kindOf("test", "test"), undefined);
   assert.equal(kindOf("fs", "nothing"), undefined);

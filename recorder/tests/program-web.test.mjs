@@ -151,6 +151,17 @@ describe("how a run ends", () => {
     ]);
   });
 
+  it("stuck, if nobody releases a lock, with its name and the line of the request", async () => {
+    const [{ ending, detail }] = await webRuns({
+      "main.mjs": `await navigator.locks.request("a", () => navigator.locks.request("b", () => {
+  return navigator.locks.request("a", () => {});
+}));`,
+    });
+    assert.equal(ending, "stuck");
+    const kept = "agent 0 has nothing to do, and is kept alive by a top-level await that nothing settles";
+    assert.equal(detail, `${kept}; it awaits the lock "a", requested at main.mjs:2:26`);
+  });
+
   it("deadlock, if a worker sleeps for ever, with its name and line", async () => {
     const [{ ending, detail }] = await webRuns({
       "main.mjs": "const worker = new Worker(`w.js`);\nworker.postMessage(new Int32Array(new SharedArrayBuffer(4)));",
@@ -285,15 +296,13 @@ describe("what browsers don't have", () => {
       ["fetch(import.meta.url, { method: `POST` });", `fetched ${own} by POST`, "1:1"],
       ["new Worker(`https://example.org/w.js`);", "started a Worker of https://example.org/w.js", "1:1"],
       ["try { new SharedWorker(`w.js`); } catch {}", "called SharedWorker", "1:7"],
-      ["if (navigator.locks) {\n  navigator.locks.request(`a`);\n}", "called navigator.locks.request", "2:19"],
-      ["navigator.locks.query().catch(() => {});", "called navigator.locks.query", "1:17"],
     ];
     for (const [main, what, place] of outcomes) {
       const [{ ending, detail }] = await webRuns({ "main.mjs": main });
       assert.deepEqual([ending, detail], ["failed", `agent 0 ${what}, which isn't simulated, at main.mjs:${place}`]);
     }
-    const [inWorker] = await webRuns({ "main.mjs": workerOf("\nnavigator.locks.request(`a`, () => {});") });
-    assert.match(inWorker.detail, /^agent 1 \(.*\) called navigator\.locks\.request, which isn't .*, at .*:2:17$/);
+    const [inWorker] = await webRuns({ "main.mjs": workerOf("\nfetch(`data:,a`).catch(() => {});") });
+    assert.match(inWorker.detail, /^agent 1 \(.*\) fetched data:,a, which isn't .*, at .*:2:1$/);
   });
 
   it("is still there without --web, and what browsers have isn't", async (context) => {

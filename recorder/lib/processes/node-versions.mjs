@@ -29,6 +29,8 @@ export const LATER = Object.freeze([{
     fs: { simulated: "glob", harmless: "globSync mkdtempDisposableSync", refused: "Utf8Stream" },
     "fs/promises": { simulated: "glob", refused: "mkdtempDisposable" },
     http: { harmless: "CloseEvent MessageEvent", refused: "WebSocket setGlobalProxyFromEnv" },
+    inspector: { refused: "NetworkResources DOMStorage" },
+    "inspector/promises": { refused: "NetworkResources DOMStorage" },
     module: {
       harmless: `stripTypeScriptTypes constants enableCompileCache flushCompileCache getCompileCacheDir findPackageJSON
         getSourceMapsSupport setSourceMapsSupport`,
@@ -43,10 +45,8 @@ export const LATER = Object.freeze([{
     tls: { harmless: "getCACertificates getCertificateCompressionAlgorithms setDefaultCACertificates" },
     v8: { harmless: "getCppHeapStatistics isStringOneByteRepresentation", refused: "startCpuProfile" },
     worker_threads: {
-      simulated: "markAsUncloneable threadName",
+      simulated: "locks markAsUncloneable threadName",
       harmless: "isInternalThread isMarkedAsUntransferable",
-      // Its methods are those of `navigator.locks`.
-      refused: "locks",
     },
     zlib: {
       simulated: "zstdCompress zstdDecompress",
@@ -65,7 +65,6 @@ export const LATER = Object.freeze([{
   methods: {
     "Blob.prototype": "textStream",
     "SubtleCrypto.prototype": "decapsulateBits decapsulateKey encapsulateBits encapsulateKey getPublicKey",
-    "navigator.locks.constructor.prototype": "query request",
   },
 }]);
 

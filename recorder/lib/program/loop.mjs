@@ -150,7 +150,7 @@ export class Loop {
    * @returns {number} one of `STEP`
    */
   #step(holds) {
-    const { ends, moves, keepers, waits } = this.served;
+    const { ends, moves, keepers, waits, locks } = this.served;
     this.drain();
     if (ends.isDone()) return STEP.IS_OVER;
     const active = resources();
@@ -161,7 +161,7 @@ export class Loop {
     } else {
       const kept = this.#keepers().concat(moves.silentTexts(pending));
       if (kept.length === 0) return this.#endsNow();
-      keepers.write([kept.join("; "), ...waits.texts()].join("; it awaits "));
+      keepers.write([kept.join("; "), ...waits.texts(), ...locks.texts()].join("; it awaits "));
       this.#mayLook = true;
       moves.board.vain?.rests(moves.agent, this.#places);
       if (!moves.idle(this.#untilTimer(), pending)) return STEP.IS_OVER;

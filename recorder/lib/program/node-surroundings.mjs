@@ -2,10 +2,14 @@
 // The file `web/surroundings.mjs` has the same for a program of browsers.
 
 import process from "node:process";
+import threads from "node:worker_threads";
+import { defineProperty } from "../primordials.mjs";
 import { HERE } from "../processes/platform.cjs";
 import { broadcastClass } from "./broadcast.mjs";
 import { Ends } from "./ends.mjs";
 import { installThreads } from "./install.mjs";
+import { lockManager } from "./locks.mjs";
+import { member } from "./member.mjs";
 import { PortEvents, servePorts } from "./port-events.mjs";
 import { KIND, channelClass } from "./ports.mjs";
 import { envOf, ignoringCase } from "./process-env.mjs";
@@ -33,6 +37,15 @@ const firstEnv = { ...process.env };
  * @property {(start: any, graph: any, parts: any) => Promise<unknown>} evaluated evaluates the thread's module
  * @property {(parts: any) => void} clear leaves nothing of a run
  */
+
+/** @param {import("./worker.mjs").Parts} parts of a thread */
+function install({ locks }) {
+  // Later versions of node have locks between threads.
+  if (!("locks" in threads)) return;
+  const { manager } = lockManager(locks);
+  member(threads, "locks", manager);
+  defineProperty(Navigator.prototype, "locks", { configurable: true, enumerable: true, get: () => manager });
+}
 
 /**
  * Gives the thread's code what it is in a run.
@@ -67,7 +80,7 @@ export const NODE = {
   PortEvents,
   atomics: () => Atomics,
   serve: servePorts,
-  install: () => {},
+  install,
   mainStart: ({ program, args }) => ({
     url: program, isCode: false, workerData: null, argv: args, execArgv: [], env: { ...firstEnv }, sharesEnv: false,
     environment: new Map(), threadName: "", resourceLimits: {}, where: "",

@@ -7,6 +7,7 @@
  * @property {import("./port-events.mjs").PortEvents} events
  * @property {import("./timers.mjs").Timers} timers
  * @property {import("./wait-async.mjs").WaitAsync} waits
+ * @property {import("./locks.mjs").Locks} locks
  * @property {import("./ends.mjs").Ends} ends
  * @property {import("../memory/keepers.mjs").Keepers} keepers
  * @property {(why: string) => never} refuse ends the run

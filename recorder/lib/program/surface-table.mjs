@@ -95,8 +95,8 @@ export const MODULES = withLater({
     real: "connect createServer createSecureServer performServerHandshake",
   },
   https: { harmless: "Agent globalAgent", real: "Server createServer get request" },
-  inspector: "refused",
-  "inspector/promises": "refused",
+  inspector: { harmless: "url", refused: "open close waitForDebugger console Session Network" },
+  "inspector/promises": { harmless: "url", refused: "open close waitForDebugger console Session Network" },
   module: {
     harmless: `_cache _pathCache _extensions globalPaths wrap wrapper _debug isBuiltin _readPackage _findPath _stat
       _nodeModulePaths _resolveLookupPaths _load _resolveFilename createRequire _initPaths _preloadModules

@@ -12,6 +12,7 @@ import { toThread } from "./moves.mjs";
  * @property {import("./mesh.mjs").Mesh} mesh
  * @property {import("./buffers.mjs").Buffers} buffers
  * @property {import("./threads.mjs").Threads} threads
+ * @property {import("./locks.mjs").Locks} locks
  * @property {() => string} here where the program's code is
  * @property {(why: string) => never} refuse ends the run
  */
@@ -28,13 +29,14 @@ import { toThread } from "./moves.mjs";
  * @returns {{ agent: number, port: any, where: string }} its number, the port to it, and where it was started
  */
 export function startThread(starting, given, transferList, called) {
-  const { ports, moves, mesh, buffers, threads, here, refuse } = starting;
+  const { ports, moves, mesh, buffers, threads, locks, here, refuse } = starting;
   const { words } = moves.board;
   const number = moves.send(called, toThread(words[WORD.JOINED]));
   const agent = words[WORD.JOINED];
   if (agent === SCRIPT_LIMITS.agents) refuse(`started a Worker more than the ${agent} threads that a run can have`);
   mesh.needs(agent + 1);
   buffers.handTo(agent);
+  locks.handTo(agent);
   const { port1, port2 } = ports.channel();
   const moved = transferList.filter((each) => ports.metaOf(each) !== undefined).concat(port2);
   const ids = moved.map((each) => ports.known(each).id);

@@ -4,6 +4,9 @@
 import { AGENT_WORD, PHASE, WORD, wordOf } from "../memory/layout.mjs";
 
 export class Threads {
+  /** @type {(agent: number) => void} is called when a thread ends */
+  onEnd = () => {};
+
   /**
    * @param {number} agent
    * @param {import("../board/board.mjs").Board} board
@@ -60,6 +63,7 @@ export class Threads {
   closePorts(agent) {
     const { table, moves, board } = this;
     board.waiters?.endOf(agent);
+    this.onEnd(agent);
     for (let port = 0; port < table.count; port += 1) {
       if (table.owner(port) !== agent || table.isClosed(port)) continue;
       table.close(port);

@@ -40,6 +40,7 @@ import {
 } from "./install.mjs";
 import { Looking } from "./looking.mjs";
 import { Loop } from "./loop.mjs";
+import { Locks } from "./locks.mjs";
 import { listingOf } from "./member.mjs";
 import { Mesh } from "./mesh.mjs";
 import { messageText } from "./message-text.mjs";
@@ -227,14 +228,15 @@ function partsOf(player, blocks, mesh) {
   const events = new surroundings.PortEvents({ ports, uncaught: (thrown) => ends.uncaught(thrown), drain });
   const timers = new Timers({ now: () => board.clock.now(), here: sourceOfCall });
   const children = new Set();
+  const locks = new Locks({ ports, moves, mesh, threads: all, later, refuse, isAtOnce: surroundings.hasPhases });
   const waits = new WaitAsync({ moves, buffers, isPlaying, refuse });
   const loop = new Loop({
-    moves, ports, events, timers, waits, ends, keepers, children, refuse, goHome: () => late.goHome?.(), leave,
+    moves, ports, events, timers, waits, locks, ends, keepers, children, refuse, goHome: () => late.goHome?.(), leave,
     notes, here: sourceHere, hasPhases: surroundings.hasPhases, looking: new Looking(timers.classes),
   });
   Object.assign(late, { loop, ends });
   return {
-    moves, waits, buffers, ports, ends, events, timers, loop, children, threads: all, mesh, later, late, keepers, here,
+    moves, waits, locks, buffers, ports, ends, events, timers, loop, children, threads: all, mesh, later, late, keepers, here,
     refuse, real, spawned, isShown,
   };
 }
@@ -329,10 +331,11 @@ function begin(parts, graph) {
 function clear(parts) {
   restoreBuiltins();
   awaits.stop();
-  const { buffers, waits, ports, timers, loop, ends, children, late } = parts;
+  const { buffers, waits, locks, ports, timers, loop, ends, children, late } = parts;
   buffers.clear();
   late.wasm?.clear();
   waits.clear();
+  locks.clear();
   ports.clear();
   timers.clear();
   loop.clear();

@@ -1,6 +1,7 @@
 // The global object of a thread of a browser: what only node has is taken away, and what browsers have is put there.
 
 import { apply, deleteProperty, likeEngine, put, setPrototypeOf } from "../../primordials.mjs";
+import { lockManager } from "../locks.mjs";
 import { hide } from "./hidden.mjs";
 import { ErrorEvent, PromiseRejectionEvent, putHandler, putMethods } from "./targets.mjs";
 
@@ -23,6 +24,9 @@ const LOCATION = Object.freeze([
 class WorkerGlobalScope extends EngineTarget {}
 class DedicatedWorkerGlobalScope extends WorkerGlobalScope {}
 class Window extends EngineTarget {}
+for (const each of [WorkerGlobalScope, DedicatedWorkerGlobalScope, Window]) {
+  put(each.prototype, Symbol.toStringTag, each.name);
+}
 
 /** @type {any} */
 const scope = globalThis;
@@ -46,6 +50,48 @@ function putTimers(functions) {
     };
     put(scope, name, likeEngine(numbered, start));
   }
+}
+
+/** For how long an idle page says that it has nothing to do, at most. */
+const IDLE_MILLISECONDS = 50;
+
+/** What the callback of an idle page gets. */
+class IdleDeadline {
+  #left;
+
+  /** @param {() => number} left how many milliseconds are left */
+  constructor(left) {
+    this.#left = left;
+  }
+
+  get didTimeout() {
+    return false;
+  }
+
+  timeRemaining() {
+    return this.#left();
+  }
+}
+put(IdleDeadline.prototype, Symbol.toStringTag, "IdleDeadline");
+
+/** @param {import("../worker.mjs").Parts} parts of a page: what it does when it is idle is a task of its own */
+function putIdle({ later, moves: { board: { clock } } }) {
+  const cancelled = new Set();
+  let made = 0;
+  const requestIdleCallback = (/** @type {any} */ callback) => {
+    if (typeof callback !== "function") {
+      throw new EngineTypeError("Failed to execute 'requestIdleCallback' on 'Window': parameter 1 is not of type 'Function'.");
+    }
+    made += 1;
+    const number = made;
+    later("is idle", () => {
+      if (cancelled.delete(number)) return;
+      const end = clock.now() + IDLE_MILLISECONDS;
+      callback(new IdleDeadline(() => Math.max(0, end - clock.now())));
+    });
+    return number;
+  };
+  putAll({ requestIdleCallback, cancelIdleCallback: (/** @type {number} */ number) => void cancelled.add(number), IdleDeadline });
 }
 
 /** @param {string} given @returns {string} the URL of a script that a script imports */
@@ -93,21 +139,21 @@ export function installGlobals(parts, targets, run) {
   const refusing = (/** @type {string} */ name) => function () {
     refuse(`called ${name}, which isn't simulated`);
   };
-  const locks = Object.freeze({
-    request: refusing("navigator.locks.request"), query: refusing("navigator.locks.query"),
-  });
-  for (const name of OF_NODE) deleteProperty(scope, name);
+  const { manager: locks, classes } = lockManager(parts.locks);
+  for (const name of [...OF_NODE, Symbol.toStringTag]) deleteProperty(scope, name);
   for (const name of FOR_NODE) hide(scope, name);
   putTimers(timers.functions);
   putMethods(scope, targets);
   for (const name of ["error", "unhandledrejection"]) putHandler(scope, name, targets);
   putAll({
-    self: scope, ErrorEvent, PromiseRejectionEvent, crossOriginIsolated: true, isSecureContext: true,
+    ...classes, self: scope, ErrorEvent, PromiseRejectionEvent, crossOriginIsolated: true, isSecureContext: true,
     navigator: Object.freeze({ hardwareConcurrency: PROCESSORS, userAgent: "sabsim", language: "en-US", locks }),
     close: () => ends.close(), reportError: (/** @type {unknown} */ thrown) => ends.uncaught(thrown),
   });
-  if (agent === 0) putAll({ window: scope, Window, SharedWorker: refusing("SharedWorker") });
-  else putWorkersScope(parts, targets, run);
+  if (agent === 0) {
+    putAll({ window: scope, Window, SharedWorker: refusing("SharedWorker") });
+    putIdle(parts);
+  } else putWorkersScope(parts, targets, run);
   setPrototypeOf(scope, (agent === 0 ? Window : DedicatedWorkerGlobalScope).prototype);
 }
 

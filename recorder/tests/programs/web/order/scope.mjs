@@ -5,11 +5,12 @@ const NAMES = [
   "navigator", "crossOriginIsolated", "isSecureContext", "SharedArrayBuffer", "queueMicrotask", "structuredClone",
   "setTimeout", "clearInterval", "performance", "addEventListener", "window", "process", "require", "Buffer", "global",
   "setImmediate", "module", "exports", "__filename", "WorkerGlobalScope", "Window", "ErrorEvent", "fetch", "reportError",
-  "SharedWorker", "Blob", "Response",
+  "SharedWorker", "Blob", "Response", "requestIdleCallback", "cancelIdleCallback", "LockManager", "Lock",
 ];
 lines.push(...NAMES.map((name) => `${name} ${typeof globalThis[name]}`));
 lines.push(`${self === globalThis} ${self instanceof Window} ${self instanceof EventTarget} ${crossOriginIsolated}`);
 lines.push(`${typeof navigator.locks.request} ${typeof navigator.locks.query} ${fetch.name} ${fetch.length}`);
+lines.push(`${Object.prototype.toString.call(self)} ${Object.prototype.toString.call(navigator.locks)}`);
 lines.push(`${typeof new MessageChannel().port1.on} ${typeof new BroadcastChannel("a").unref}`);
 for (const type of ["module", "classic"]) {
   const worker = new Worker("../parts/scope.js?some#part", { type, name: `a ${type} worker` });

@@ -7,5 +7,6 @@ onmessage = ({ data, ports, target }) => {
     ...data.map((name) => `${name} ${typeof globalThis[name]}`),
     `${isScope} ${pathname.split("/").at(-1)}${search}${hash} ${`${location}`.endsWith("/scope.js?some#part")}`,
     `${self.name} ${ports.length} ${target === self} ${imported} ${typeof navigator.hardwareConcurrency}`,
+    Object.prototype.toString.call(self),
   ]);
 };

@@ -1,0 +1,98 @@
+// The locks of a run, by their names: who holds each, and who waits for it, in the order of the requests. Each thread
+// has such a table, and all make the same changes in the same order.
+
+/** @typedef {"exclusive" | "shared"} Mode */
+/** @typedef {{ agent: number, number: number, name: string, mode: Mode, port: number, where: string }} Request */
+/** @typedef {{ held: Request[], pending: Request[] }} Named */
+/** @typedef {"granted" | "stolen" | "missed"} Fate */
+/** @typedef {{ fate: Fate, request: Request }} Effect what a change means for the thread that has made a request */
+
+/** @param {Request} one @param {Request} other @returns {boolean} */
+const isSame = (one, other) => one.agent === other.agent && one.number === other.number;
+
+/** @param {Request} request @param {Request[]} held @returns {boolean} whether it may be held together with those */
+const fits = ({ mode }, held) => held.length === 0 || (mode === "shared" && held.every((each) => each.mode === "shared"));
+
+export class LockTable {
+  /** @type {Map<string, Named>} those that are held or waited for */
+  named = new Map();
+
+  /**
+   * @param {Request} request
+   * @param {{ ifAvailable: boolean, steal: boolean }} how
+   * @returns {Effect[]}
+   */
+  request(request, { ifAvailable, steal }) {
+    const named = this.named.get(request.name) ?? { held: [], pending: [] };
+    this.named.set(request.name, named);
+    if (steal) {
+      const stolen = named.held;
+      named.held = [request];
+      return [...stolen.map((each) => /** @type {Effect} */ ({ fate: "stolen", request: each })), { fate: "granted", request }];
+    }
+    if (ifAvailable && (named.pending.length > 0 || !fits(request, named.held))) return [{ fate: "missed", request }];
+    named.pending.push(request);
+    return this.#grant(request.name);
+  }
+
+  /**
+   * A lock is released, or isn't wanted any more.
+   * @param {Request} request
+   * @returns {Effect[]}
+   */
+  remove(request) {
+    this.#drop(request);
+    return this.#grant(request.name);
+  }
+
+  /**
+   * @param {number} agent that has ended
+   * @param {boolean} grants whether others get its locks now, and not only when the next change is made
+   * @returns {Effect[]}
+   */
+  removeOf(agent, grants) {
+    const those = this.all().filter((each) => each.agent === agent);
+    those.forEach((each) => this.#drop(each));
+    const names = [...new Set(those.map(({ name }) => name))];
+    return grants ? names.flatMap((name) => this.#grant(name)) : [];
+  }
+
+  /** @param {string} name @returns {Request[]} those that hold the lock */
+  heldOf(name) {
+    return this.named.get(name)?.held ?? [];
+  }
+
+  /** @param {Request} request @returns {boolean} whether it is held */
+  isHeld(request) {
+    return this.heldOf(request.name).some((each) => isSame(each, request));
+  }
+
+  /** @returns {Request[]} those that hold a lock or wait for one */
+  all() {
+    return [...this.named.values()].flatMap(({ held, pending }) => [...held, ...pending]);
+  }
+
+  /** @param {Request} request */
+  #drop(request) {
+    const named = this.named.get(request.name);
+    if (named === undefined) return;
+    const isOther = (/** @type {Request} */ each) => !isSame(each, request);
+    named.held = named.held.filter(isOther);
+    named.pending = named.pending.filter(isOther);
+  }
+
+  /** @param {string} name @returns {Effect[]} grants what may be held now, in the order of the requests */
+  #grant(name) {
+    /** @type {Effect[]} */
+    const effects = [];
+    const named = this.named.get(name);
+    if (named === undefined) return effects;
+    while (named.pending.length > 0 && fits(named.pending[0], named.held)) {
+      const request = /** @type {Request} */ (named.pending.shift());
+      named.held.push(request);
+      effects.push({ fate: "granted", request });
+    }
+    if (named.held.length === 0) this.named.delete(name);
+    return effects;
+  }
+}
