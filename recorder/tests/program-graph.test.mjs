@@ -443,7 +443,7 @@ test("graphs that are over are garbage: memory and time of a run stay", async ()
   const own = (name) => JSON.stringify(new URL(`../lib/program/${name}.mjs`, import.meta.url));
   const code = `
     import { ProgramModules } from ${own("program-modules")};
-    const graph = new ProgramModules(); const turn = () => new Promise((done) => setTimeout(done, 10));
+    const graph = new ProgramModules({ refuse: () => {} }); const turn = () => new Promise((done) => setTimeout(done, 10));
     const heaps = []; const times = [];
     for (let part = 0; part < 4; part += 1) {
       times.push(Infinity);

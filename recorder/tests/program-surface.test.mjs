@@ -83,7 +83,7 @@ test("kinds are found with and without node:", () => {
   assert.equal(kindOf("fs", "readFile"), "simulated");
   assert.equal(kindOf("child_process", "spawn"), "real");
   assert.equal(kindOf("inspector", "open"), "refused");
-  assert.equal(kindOf("node:test", "test"), "refused");
+  assert.equal(kindOf("node:test", "test"), "simulated");
   assert.equal(kindOf("test", "test"), undefined);
   assert.equal(kindOf("fs", "nothing"), undefined);
   assert.equal(kindOfGlobal("fetch"), "real");

@@ -55,6 +55,7 @@ export const LATER = Object.freeze([{
     },
   },
   schemes: {
+    "node:test": { simulated: "expectFailure getTestContext snapshot assert" },
     "node:sqlite": { harmless: "DatabaseSync Session StatementSync constants", refused: "backup" },
   },
   globals: {

@@ -59,6 +59,9 @@ export class Ends {
   /** Whether an error of this thread was sent there. */
   #hasReported = false;
 
+  /** @type {string[]} the tests of `node:test` that have failed, in words */
+  #failedTests = [];
+
   /** @param {Leaving} leaving */
   constructor(leaving) {
     this.leaving = leaving;
@@ -75,8 +78,6 @@ export class Ends {
   /** @param {unknown} thrown @param {Origin} [origin] */
   uncaught(thrown, origin = "uncaughtException") {
     if (this.isOver) return;
-    // What was thrown has left contexts of async_hooks open. Node, too, leaves all of them when it catches something.
-    leaveContexts();
     let isListenedTo = false;
     try {
       emit("uncaughtExceptionMonitor", thrown, origin);
@@ -89,7 +90,14 @@ export class Ends {
       // Only the first thread has a code of its own for it.
       this.#go(this.leaving.agent === 0 ? LISTENER_THREW : THREW, `threw in a listener of uncaughtException: ${described(problem)}`);
     }
+    // What was thrown has left contexts of async_hooks open, in which listeners are called. Then node leaves all of them.
+    leaveContexts();
     if (!isListenedTo) this.#fail(thrown, origin);
+  }
+
+  /** @param {import("./test-runner.mjs").FailedTest} failed a test of `node:test`: the thread's exit code will say so */
+  testFailed({ name, place, thrown }) {
+    this.#failedTests.push(`failed the test "${name}", at ${place}: ${described(thrown)}`);
   }
 
   /** The program's module of this thread is evaluated, or has thrown. */
@@ -131,7 +139,7 @@ export class Ends {
       return;
     }
     this.#give();
-    board.end.end(code === 0 ? "finished" : "failed", code === 0 ? "" : failedText(code, why));
+    board.end.end(code === 0 ? "finished" : "failed", code === 0 ? "" : this.#failedText(code, why));
   }
 
   /** Nothing of an earlier run is left. */
@@ -139,6 +147,7 @@ export class Ends {
     this.isOver = false;
     this.isEvaluated = false;
     this.#hasReported = false;
+    this.#failedTests = [];
     this.parentPort = undefined;
     own.exitCode = undefined;
     own._exiting = false;
@@ -210,7 +219,14 @@ export class Ends {
     }
     part.enter();
     if (code === 0) part.end("finished", "");
-    return part.end("failed", /^threw\b/.test(text) ? `agent 0 ${text}` : failedText(code, text));
+    return part.end("failed", /^threw\b/.test(text) ? `agent 0 ${text}` : this.#failedText(code, text));
+  }
+
+  /** @param {number} code of the first thread @param {string} why @returns {string} */
+  #failedText(code, why) {
+    const [first, ...others] = this.#failedTests;
+    if (first === undefined) return `agent 0 exited with code ${code}${why === "" ? "" : `: it ${why}`}`;
+    return `agent 0 ${first}${others.length === 0 ? "" : `\nand ${others.length} more failed`}`;
   }
 
   /** What the first thread has done is taken. */
@@ -240,6 +256,3 @@ export class Ends {
     board.line.become(agent, PHASE.FINISHED);
   }
 }
-
-/** @param {number} code @param {string} why */
-const failedText = (code, why) => `agent 0 exited with code ${code}${why === "" ? "" : `: it ${why}`}`;

@@ -1,6 +1,7 @@
 // What the recorder uses of node's inside: all of it is here, with what is needed of it. Only threads with the flags of
 // `graph-flags.cjs` have it. If this node lacks something, no thread of a program begins, and the error names all of it.
 
+import publicHooks from "node:async_hooks";
 import fs from "node:fs";
 import { createRequire } from "node:module";
 import process from "node:process";
@@ -202,6 +203,25 @@ export function freshLoader() {
 const { compileFunction } = internalBinding?.("builtins") ?? {};
 if (typeof compileFunction !== "function") lacking.push("compileFunction of the binding builtins");
 
+/**
+ * Compiles modules of node's own once more.
+ * @param {(id: string) => boolean} isOne whether a module is compiled; the others are node's
+ * @param {Map<string, any>} modules what they export, by their names; others than node's may be there before
+ * @param {(name: string) => any} bindingOf what of node isn't JavaScript, by its name
+ * @returns {(id: string) => any} what a module exports, by its name
+ */
+function compiledAnew(isOne, modules, bindingOf = internalBinding) {
+  const load = (/** @type {string} */ id) => {
+    if (modules.has(id)) return modules.get(id);
+    if (!isOne(id)) return required(id);
+    const module = { exports: {} };
+    compileFunction(id)(module.exports, load, module, process, bindingOf, primordials);
+    modules.set(id, module.exports);
+    return module.exports;
+  };
+  return load;
+}
+
 /** The modules that timers are made of. */
 const TIMERS = Object.freeze(["internal/timers", "timers", "timers/promises"]);
 
@@ -233,16 +253,47 @@ export function timersOver({ now, begins }) {
   const modules = new Map([
     ["internal/async_hooks", { ...asyncHooks, newAsyncId }], ["internal/event_target", required("internal/event_target")],
   ]);
-  const load = (/** @type {string} */ id) => {
-    if (modules.has(id)) return modules.get(id);
-    if (!TIMERS.includes(id)) return required(id);
-    const module = { exports: {} };
-    compileFunction(id)(module.exports, load, module, process, bindingOf, primordials);
-    modules.set(id, module.exports);
-    return module.exports;
-  };
+  const load = compiledAnew((id) => TIMERS.includes(id), modules, bindingOf);
   const [inside, timers, promises] = TIMERS.map(load);
   return { inside, timers, promises, counts };
+}
+
+/** The modules that node's runner of tests is made of. */
+const OF_TESTS = /^(?:test|internal\/test_runner\/(?!reporter\/).*)$/;
+
+/** By this a module of node's own becomes what `import` and `require` find. */
+const TESTS = "test";
+
+/**
+ * Makes node's runner of tests once more, by node's own code, and has programs find it as `node:test`. Node's own has
+ * ended with the first run.
+ * @param {(name: string, where: any, details: any, directive: any) => void} failed is called when a test or a suite fails
+ * @param {() => never} run in place of the function that runs files in processes of their own
+ * @returns {() => void} stops what it has begun
+ */
+export function freshTests(failed, run) {
+  const { createHook } = publicHooks;
+  /** @type {any[]} */
+  const hooks = [];
+  const keeping = (/** @type {object} */ callbacks) => {
+    const hook = createHook(callbacks);
+    hooks.push(hook);
+    return hook;
+  };
+  const load = compiledAnew((id) => OF_TESTS.test(id), new Map([["async_hooks", { ...publicHooks, createHook: keeping }]]));
+  const { TestsStream: { prototype } } = load("internal/test_runner/tests_stream");
+  const { fail } = prototype;
+  /** @this {any} @param {any[]} given */
+  prototype.fail = function (...given) {
+    const [, where, , name, details, directive] = given;
+    failed(name, where, details, directive);
+    return apply(fail, this, given);
+  };
+  const own = loadBuiltinModule(TESTS);
+  own.exports = Object.assign(load(TESTS), { run });
+  own.syncExports();
+  own.module?.setExport("default", own.exports);
+  return () => hooks.forEach((hook) => hook.disable());
 }
 
 if (lacking.length > 0) {

@@ -19,7 +19,8 @@ import { argvOf, evaluated } from "./start.mjs";
 import { beginStdio, clearStdio } from "./stdio.mjs";
 import { workerClass } from "./workers.mjs";
 
-const firstEnv = { ...process.env };
+/** The program is no test that a runner of tests has started, also if the recorder is one. */
+const { NODE_TEST_CONTEXT: _, ...firstEnv } = process.env;
 
 /** @typedef {{ begin(): void }} ProgramGraph a thread's modules; it forgets them for the next run */
 
@@ -38,8 +39,9 @@ const firstEnv = { ...process.env };
  * @property {(parts: any) => void} clear leaves nothing of a run
  */
 
-/** @param {import("./worker.mjs").Parts} parts of a thread */
-function install({ locks }) {
+/** @param {import("./worker.mjs").Parts} parts of a thread @param {ProgramModules} graph */
+function install({ locks, ends }, graph) {
+  graph.tests.onFailed = (failed) => ends.testFailed(failed);
   // Later versions of node have locks between threads.
   if (!("locks" in threads)) return;
   const { manager } = lockManager(locks);

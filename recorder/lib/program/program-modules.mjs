@@ -13,6 +13,7 @@ import {
   SideEffectFreeRegExpPrototypeSymbolReplace, freshLoader, kIsExecuting, loadBuiltinModule, makeRequireFunction,
   translators,
 } from "./internals.mjs";
+import { TestRunner } from "./test-runner.mjs";
 
 // Node makes a context of its own when it first needs one, for the text of an error. From now on it has one.
 SideEffectFreeRegExpPrototypeSymbolReplace(/a/, "", "");
@@ -111,10 +112,15 @@ export class ProgramModules {
   #loading = freshLoader();
   #places = new Places();
   #functions = new CompiledFunctions();
+  tests;
 
-  /** One for each thread: it replaces how the thread compiles CommonJS, and node's loader. */
-  constructor() {
+  /**
+   * One for each thread: it replaces how the thread compiles CommonJS, and node's loader.
+   * @param {{ refuse: (what: string) => void }} given `refuse` ends the run
+   */
+  constructor({ refuse }) {
     const owner = this;
+    this.tests = new TestRunner(refuse);
     const engineCompile = Modules.prototype._compile;
     /** @this {any} @param {string} text @param {string} file @param {string | undefined} format */
     Modules.prototype._compile = function (text, file, format) {
@@ -128,6 +134,7 @@ export class ProgramModules {
 
   /** Forgets all modules, for the next run. */
   begin() {
+    this.tests.clear();
     this.#loading = freshLoader();
     for (const file of Object.keys(Modules._cache)) delete Modules._cache[file];
     this.#places.forget();

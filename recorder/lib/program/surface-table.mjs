@@ -200,7 +200,8 @@ export const MODULES = withLater({
 
 /** @type {Readonly<Record<string, Row>>} the modules that are only there with `node:` */
 export const SCHEME_MODULES = withLater({
-  "node:test": "refused",
+  // What `run` does is refused by what makes the runner.
+  "node:test": { simulated: "after afterEach before beforeEach describe it run suite test mock skip todo only" },
   "node:test/reporters": "refused",
   "node:sea": "harmless",
 }, ({ schemes }) => schemes);

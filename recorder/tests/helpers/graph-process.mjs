@@ -6,7 +6,7 @@ import { ProgramModules } from "../../lib/program/program-modules.mjs";
 
 const [programs, runs] = process.argv.slice(2).map((word) => JSON.parse(word));
 let lines = [];
-const graph = new ProgramModules();
+const graph = new ProgramModules({ refuse: () => {} });
 const { log } = console;
 const { setTimeout } = globalThis;
 

@@ -21,7 +21,7 @@ let tasks = [];
 const isPlaying = () => playing;
 const refuse = (name) => { throw new Error(`refused: ${name}`); };
 const own = new Timers({ now: () => now });
-const graph = new ProgramModules();
+const graph = new ProgramModules({ refuse: () => {} });
 refuseRest({ refuse, isPlaying });
 putTwins({ isPlaying, later: (name, act) => tasks.push(act) });
 Object.assign(globalThis, own.functions);
