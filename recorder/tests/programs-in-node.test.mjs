@@ -5,7 +5,7 @@ import assert from "node:assert/strict";
 import { readFileSync, readdirSync } from "node:fs";
 import { before, describe, it, test } from "node:test";
 import { fileURLToPath } from "node:url";
-import { NOT_YET, ORDER, pathOf, runInNode, runsInRecorder } from "./programs/order.mjs";
+import { ORDER, pathOf, runInNode, runsInRecorder } from "./programs/order.mjs";
 import { PROGRAMS, placesOf, urlOf } from "./programs/table.mjs";
 import { withSignals } from "./helpers/needs.mjs";
 
@@ -100,11 +100,7 @@ describe("programs on the order of events print the same twice in node and under
       assert.deepEqual([other.lines, other.status], [one.lines, one.status]);
       const runs = inRecorder.get(name) ?? [];
       assert.equal(runs.length, SEEDS);
-      const notYet = NOT_YET[name];
-      for (const run of runs) {
-        if (notYet !== undefined) assert.ok(run.detail.includes(`called ${notYet}, which isn't simulated`), run.detail);
-        else assert.deepEqual([run.lines, codeOf(run)], [one.lines, one.status], run.detail);
-      }
+      for (const run of runs) assert.deepEqual([run.lines, codeOf(run)], [one.lines, one.status], run.detail);
     });
   }
 });

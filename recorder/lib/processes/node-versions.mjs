@@ -64,7 +64,6 @@ export const LATER = Object.freeze([{
     refused: "WebSocket",
   },
   methods: {
-    "Blob.prototype": "textStream",
     "SubtleCrypto.prototype": "decapsulateBits decapsulateKey encapsulateBits encapsulateKey getPublicKey",
   },
 }]);

@@ -6,9 +6,10 @@ import process from "node:process";
 import timers from "node:timers";
 import timersPromises from "node:timers/promises";
 import threads from "node:worker_threads";
-import { apply, construct, likeEngine, proxyOf, put } from "../primordials.mjs";
+import { apply, construct, isArray, likeEngine, proxyOf, put } from "../primordials.mjs";
 import { member } from "./member.mjs";
 import { nodeError } from "./node-error.mjs";
+import { demandTransferable } from "./ports.mjs";
 import { clonedValue } from "./values.mjs";
 
 const EngineShared = SharedArrayBuffer;
@@ -48,10 +49,14 @@ export function installMemory(made) {
   put(globalThis, "SharedArrayBuffer", StandIn);
 }
 
-/** @param {import("./buffers.mjs").Buffers} buffers of the thread, which clones of their objects have too */
-export function installCloning(buffers) {
+/**
+ * @param {import("./buffers.mjs").Buffers} buffers of the thread, which clones of their objects have too
+ * @param {(why: string) => never} refuse ends the run
+ */
+export function installCloning(buffers, refuse) {
   const engine = globalThis.structuredClone;
   member(globalThis, "structuredClone", likeEngine((/** @type {any[]} */ ...given) => {
+    if (isArray(given[1]?.transfer)) demandTransferable(given[1].transfer, refuse);
     return given.length === 0 ? apply(engine, undefined, given) : clonedValue(given[0], given[1], buffers);
   }, engine));
 }

@@ -6,6 +6,7 @@ import { AsyncResource } from "node:async_hooks";
 import threads from "node:worker_threads";
 import { copied, isArray, mapForEach, put, uncurried, weakGet, weakHas, weakSet } from "../primordials.mjs";
 import { NOBODYS } from "../board/port-table.mjs";
+import { FileHandle } from "./file-handle.mjs";
 import { toPort, toThread } from "./moves.mjs";
 import { nodeError } from "./node-error.mjs";
 import { received, sent } from "./values.mjs";
@@ -82,6 +83,20 @@ function listOf(transfer) {
   if (!isIterable(list)) throw notIterable("options.transfer");
   return itemsOf(list);
 }
+
+/** What node transfers by ports of its own, whose messages would come by no loop of the run. */
+const BY_OWN_PORTS = Object.freeze(["ReadableStream", "WritableStream", "TransformStream", "FileHandle"]);
+
+/** @param {any[]} list of what is transferred @param {(why: string) => never} refuse */
+export function demandTransferable(list, refuse) {
+  for (const each of list) {
+    const name = BY_OWN_PORTS.find((one) => isA(each, one));
+    if (name !== undefined) refuse(`transferred a ${name}, which isn't simulated`);
+  }
+}
+
+/** @param {any} value @param {string} name of a class of node's or of the recorder's @returns {boolean} */
+const isA = (value, name) => (name === "FileHandle" ? value instanceof FileHandle : value instanceof /** @type {any} */ (globalThis)[name]);
 
 /** @param {any} value */
 const isIterable = (value) => typeof value === "object" && value !== null && Symbol.iterator in value;
@@ -167,6 +182,7 @@ export class Ports {
     const { table, moves, buffers } = this.world;
     const { id, closed } = this.known(port);
     const list = listOf(transfer);
+    demandTransferable(list, this.world.refuse);
     const ports = list.filter((each) => weakHas(this.#metas, each));
     const bare = sent(value, buffers);
     if (closed && kind === KIND.MESSAGE) {

@@ -70,19 +70,19 @@ export const MODULES = withLater({
     simulated: `appendFile access chown chmod close copyFile cp createReadStream createWriteStream exists fchown fchmod
       fdatasync fstat fsync ftruncate futimes lchown lchmod link lstat lutimes mkdir mkdtemp open readdir read readv
       readFile readlink realpath rename rm rmdir stat statfs symlink truncate unlink utimes writeFile write writev
-      ReadStream WriteStream FileReadStream FileWriteStream promises`,
-    harmless: `appendFileSync accessSync chownSync chmodSync closeSync copyFileSync cpSync existsSync fchownSync
+      ReadStream WriteStream FileReadStream FileWriteStream promises opendir Dir`,
+    harmless: `opendirSync appendFileSync accessSync chownSync chmodSync closeSync copyFileSync cpSync existsSync fchownSync
       fchmodSync fdatasyncSync fstatSync fsyncSync ftruncateSync futimesSync lchownSync lchmodSync linkSync lstatSync
       lutimesSync mkdirSync mkdtempSync openSync readdirSync readSync readvSync readFileSync readlinkSync realpathSync
       renameSync rmSync rmdirSync statSync statfsSync symlinkSync truncateSync unlinkSync utimesSync writeFileSync
       writeSync writevSync Dirent Stats _toUnixTimestamp F_OK R_OK W_OK X_OK constants`,
-    refused: "openAsBlob unwatchFile watch watchFile opendir opendirSync Dir",
+    refused: "openAsBlob unwatchFile watch watchFile",
   },
   "fs/promises": {
-    simulated: `access copyFile cp open rename truncate rm rmdir mkdir readdir readlink symlink lstat stat statfs link
+    simulated: `access copyFile cp open opendir rename truncate rm rmdir mkdir readdir readlink symlink lstat stat statfs link
       unlink chmod lchmod lchown chown utimes lutimes realpath mkdtemp writeFile appendFile readFile`,
     harmless: "constants",
-    refused: "opendir watch",
+    refused: "watch",
   },
   http: {
     harmless: `METHODS STATUS_CODES Agent IncomingMessage OutgoingMessage ServerResponse validateHeaderName
@@ -234,9 +234,8 @@ export const GLOBALS = ALL.globals;
  * @type {Readonly<Record<string, string>>}
  */
 export const METHODS = withLater({
-  "Blob.prototype": "arrayBuffer bytes text stream",
   "Performance.prototype": "eventLoopUtilization",
-  "SubtleCrypto.prototype": `encrypt decrypt sign verify digest generateKey deriveKey deriveBits importKey exportKey
+  "SubtleCrypto.prototype": `encrypt decrypt sign verify generateKey deriveKey deriveBits importKey exportKey
     wrapKey unwrapKey`,
   WebAssembly: "compileStreaming instantiateStreaming",
 }, ({ methods }) => methods);

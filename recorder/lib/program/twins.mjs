@@ -3,8 +3,12 @@
 // `crypto` has when `putTwins` is called.
 
 import crypto from "node:crypto";
+import { types } from "node:util";
 import zlib from "node:zlib";
+import { putBlobs } from "./twin-blobs.mjs";
 import { putFiles } from "./twin-files.mjs";
+import { putFolders } from "./twin-folders.mjs";
+import { apply } from "../primordials.mjs";
 import { promiseLater, putTwin, replaceCall } from "./twin-calls.mjs";
 
 /** @typedef {import("./twin-calls.mjs").Given} Given */
@@ -42,6 +46,34 @@ function putCrypto(given) {
   putTwin(given, owner, "generateKeyPair", owner.generateKeyPairSync, {
     throws: isOfArguments,
     answer: ({ value, problem }) => (problem === undefined ? [null, value.publicKey, value.privateKey] : [problem]),
+  });
+}
+
+/** The names of digests that all have, and what `createHash` calls them. */
+const DIGEST = /^SHA-(1|256|384|512)$/i;
+
+/** @param {any} data @returns {boolean} whether node takes it as bytes of a digest */
+const isPlainBytes = (data) => {
+  const buffer = ArrayBuffer.isView(data) ? data.buffer : data;
+  return types.isArrayBuffer(buffer);
+};
+
+/** @param {Given} given */
+function putDigest(given) {
+  const { isPlaying = () => true } = given;
+  const { prototype } = SubtleCrypto;
+  const { digest } = prototype;
+  const { createHash } = crypto;
+  replaceCall(prototype, "digest", /** @this {any} */ function (/** @type {any} */ algorithm, /** @type {any} */ data) {
+    const name = typeof algorithm === "string" ? algorithm : algorithm?.name;
+    const [, bits] = DIGEST.exec(name) ?? [];
+    // Node rejects what is wrong before it begins.
+    if (!isPlaying() || bits === undefined || !isPlainBytes(data)) return apply(digest, this, [algorithm, data]);
+    const bytes = ArrayBuffer.isView(data) ? data : new Uint8Array(data);
+    return promiseLater(given, "SubtleCrypto.digest", () => {
+      const found = createHash(`sha${bits}`).update(bytes).digest();
+      return found.buffer.slice(found.byteOffset, found.byteOffset + found.length);
+    });
   });
 }
 
@@ -88,6 +120,9 @@ function putWebAssembly(given) {
  */
 export function putTwins(given) {
   putFiles(given);
+  putFolders(given);
+  putBlobs(given);
+  putDigest(given);
   const owner = /** @type {any} */ (zlib);
   for (const name of thoseIn(ZLIB, owner)) putTwin(given, owner, name, owner[`${name}Sync`]);
   putCrypto(given);

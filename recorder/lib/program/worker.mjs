@@ -259,7 +259,7 @@ function installReplacements({ moves, buffers, waits, ends, events, timers, late
   watchRealm(watching);
   putTwins({ later, isPlaying });
   installMemory((buffer) => buffers.made(buffer, sourceOfCall()));
-  installCloning(buffers);
+  installCloning(buffers, refuse);
   installMarks();
   installGrowing(buffers, moves, isPlaying);
   globalThis.Atomics = atomics;

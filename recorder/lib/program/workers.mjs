@@ -11,7 +11,7 @@ import { isCalledByAgents } from "../agent/frames.mjs";
 import { defineProperty, isArray } from "../primordials.mjs";
 import { deserializeError } from "./internals.mjs";
 import { nodeError } from "./node-error.mjs";
-import { KIND, itemsOf } from "./ports.mjs";
+import { KIND, demandTransferable, itemsOf } from "./ports.mjs";
 import { sharedEnv } from "./process-env.mjs";
 import { WorkersStdio, isAnyPiped, pipedOf } from "./stdio.mjs";
 import { startThread } from "./thread-start.mjs";
@@ -137,7 +137,9 @@ function started(starting, file, options, called) {
     env: sharesEnv ? sharedEnv() : { ...(options.env ?? process.env) }, sharesEnv, environment,
     threadName: nameOf(options), resourceLimits: limitsOf(options), stdio: { ...piped, port: port2 },
   };
-  const transferList = itemsOf(options.transferList ?? []).concat(port2 ?? []);
+  const transferred = itemsOf(options.transferList ?? []);
+  demandTransferable(transferred, starting.refuse);
+  const transferList = transferred.concat(port2 ?? []);
   const thread = startThread(starting, start, transferList, called);
   return { ...thread, stdio: new WorkersStdio(starting.ports, port1, piped, options) };
 }

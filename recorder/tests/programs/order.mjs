@@ -11,9 +11,6 @@ const SECONDS = 120;
 /** The names of the programs: each file of the folder is one; what they import is in folders below. */
 export const ORDER = readdirSync(FOLDER).filter((name) => /\.[cm]js$/.test(name)).sort();
 
-/** What some programs need that the recorder doesn't simulate yet, as the recorder names it. */
-export const NOT_YET = Object.freeze({ "slow-functions.mjs": "SubtleCrypto.digest" });
-
 /** What the recorder puts before each line that a program prints: the thread. */
 const THREAD = /^\[[^\]]*\] /;
 

@@ -2,30 +2,12 @@
 // URL ends with the thread that has made it.
 
 import { defineProperty } from "../../primordials.mjs";
-import { isBlob, kHandle } from "../internals.mjs";
+import { isBlob } from "../internals.mjs";
+import { bytesOf } from "../twin-blobs.mjs";
 
-const { TypeError: EngineTypeError, Uint8Array: EngineBytes, URL: EngineURL } = globalThis;
-const { concat } = Buffer;
+const { TypeError: EngineTypeError, URL: EngineURL } = globalThis;
 
 /** @typedef {{ bytes: Uint8Array, type: string, agent: number }} Content of a blob, and the thread that has made its URL */
-
-/** What the bytes of a blob are followed by, as node's reader has it. */
-const END = 0;
-
-/** @param {any} blob in memory @returns {Uint8Array} its bytes, which are there at once */
-function bytesOf(blob) {
-  const reader = blob[kHandle].getReader();
-  /** @type {Uint8Array[]} */
-  const parts = [];
-  for (let status = 1; status !== END;) {
-    status = END;
-    reader.pull((/** @type {number} */ found, /** @type {ArrayBuffer | undefined} */ part) => {
-      status = found;
-      if (part !== undefined) parts.push(new EngineBytes(part));
-    });
-  }
-  return new EngineBytes(concat(parts));
-}
 
 export class Blobs {
   /** @type {Map<string, Content | undefined>} by URL; undefined: it was revoked */
