@@ -10,7 +10,7 @@ import { apply, construct, isArray, likeEngine, proxyOf, put } from "../primordi
 import { member } from "./member.mjs";
 import { nodeError } from "./node-error.mjs";
 import { demandTransferable } from "./ports.mjs";
-import { clonedValue } from "./values.mjs";
+import { clonedValue, installMarks } from "./values.mjs";
 
 const EngineShared = SharedArrayBuffer;
 const { syncBuiltinESMExports } = nodeModule;
@@ -54,6 +54,7 @@ export function installMemory(made) {
  * @param {(why: string) => never} refuse ends the run
  */
 export function installCloning(buffers, refuse) {
+  installMarks();
   const engine = globalThis.structuredClone;
   member(globalThis, "structuredClone", likeEngine((/** @type {any[]} */ ...given) => {
     if (isArray(given[1]?.transfer)) demandTransferable(given[1].transfer, refuse);

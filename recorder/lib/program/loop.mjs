@@ -90,6 +90,7 @@ export class Loop {
 
   /** Nothing of an earlier run is left. */
   clear() {
+    this.served.locks.clear();
     this.#tasks = [];
     this.#isTurning = this.served.hasPhases;
     this.#looks = false;

@@ -56,7 +56,6 @@ import { refuseRest } from "./surface.mjs";
 import { takenStart, threadName } from "./thread-start.mjs";
 import { Threads } from "./threads.mjs";
 import { Timers } from "./timers.mjs";
-import { installMarks } from "./values.mjs";
 import { putTwins } from "./twins.mjs";
 import { leaveOf } from "./unwinding.mjs";
 import { WaitAsync } from "./wait-async.mjs";
@@ -202,11 +201,10 @@ const nextMessage = () => new Promise((done) => {
 function partsOf(player, blocks, mesh) {
   const { agent, table: { board, log } } = player;
   const moves = new Moves(player, shared.buffers[MESSAGES]);
-  const seen = watching.seen;
   const began = (/** @type {number} */ block) => blocks.begins(block, agent, log.length);
   /** @type {import("./buffers.mjs").Shown["named"]} */
   const named = (block, place, count) => nameBlock(player, block, place, count);
-  const buffers = new Buffers(blocks, mesh, { seen, refuse, named, began });
+  const buffers = new Buffers(blocks, mesh, { seen: watching.seen, refuse, named, began });
   const table = new PortTable(shared.ports);
   const all = new Threads(agent, board, table, moves);
   /** @type {import("./unwinding.mjs").Late} */
@@ -260,7 +258,6 @@ function installReplacements({ moves, buffers, waits, ends, events, timers, late
   putTwins({ later, isPlaying });
   installMemory((buffer) => buffers.made(buffer, sourceOfCall()));
   installCloning(buffers, refuse);
-  installMarks();
   installGrowing(buffers, moves, isPlaying);
   globalThis.Atomics = atomics;
   waits.install(Atomics);
@@ -331,11 +328,10 @@ function begin(parts, graph) {
 function clear(parts) {
   restoreBuiltins();
   awaits.stop();
-  const { buffers, waits, locks, ports, timers, loop, ends, children, late } = parts;
+  const { buffers, waits, ports, timers, loop, ends, children, late } = parts;
   buffers.clear();
   late.wasm?.clear();
   waits.clear();
-  locks.clear();
   ports.clear();
   timers.clear();
   loop.clear();
