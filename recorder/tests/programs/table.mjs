@@ -220,6 +220,23 @@ const ALL = [
   right("iterator/replaced.mjs"),
   right("iterator/inherited.mjs"),
 
+  // Standard streams of workers.
+  right("stdio/right.mjs"),
+  wrong("stdio/before-end.mjs", failed(/[0-2] lines for 3 numbers/, ["before-end.mjs", THROWS])),
+  wrong("stdio/never-ends.mjs", stuck(["never-ends.mjs", "new Worker("])),
+  right("stdio/pool.mjs"),
+  wrong("stdio/as-they-come.mjs", failed(/the numbers came as/, ["as-they-come.mjs", THROWS])),
+  right("stdio/piped.mjs"),
+  wrong("stdio/first-ends.mjs",
+    failed(/the sum is [69]?/, ["first-ends.mjs", THROWS]),
+    stuck(["first-ends.mjs", "await text("], ["sums.mjs", "for await"])),
+
+  // Tests of node:test.
+  right("node-test/right.mjs"),
+  wrong("node-test/lost-wake-up.mjs", deadlock(["lost-wake-up.mjs", "Atomics.wait("])),
+  wrong("node-test/too-soon.mjs", failed(/failed the test "counts two"/, ["too-soon.mjs", "assert.equal("])),
+  wrong("node-test/one-for-all.mjs", failed(/failed the test "doubles [23]"/, ["one-for-all.mjs", "assert.equal("])),
+
   // Memory that grows, and WebAssembly's.
   right("growable/right.mjs"),
   wrong("growable/published-first.mjs", failed(/RangeError/, ["published-first.mjs", "const last"])),
@@ -245,6 +262,19 @@ const ALL = [
       failed(/counted 1/, ["pool-without-lock.mjs", THROWS])),
     wrong("web/listens-late.mjs", stuck(["listens-late.mjs", "new Worker("])),
     wrong("web/nobody-listens.mjs", failed(/there is no factor/, ["multiplies.mjs", THROWS])),
+    right("web/locks-right.mjs"),
+    wrong("web/locks-two-names.mjs", failed(/counted 1/, ["locks-two-names.mjs", THROWS])),
+    wrong("web/locks-not-awaited.mjs", failed(/counted [01]/, ["locks-not-awaited.mjs", THROWS])),
+    wrong("web/locks-shared.mjs", failed(/counted 1/, ["locks-shared.mjs", THROWS])),
+    wrong("web/locks-any-case.mjs", failed(/counted 1/, ["locks-any-case.mjs", THROWS])),
+    wrong("web/locks-steals.mjs", failed(/counted 1/, ["locks-steals.mjs", THROWS])),
+    right("web/locks-ordered.mjs"),
+    wrong("web/locks-crossed.mjs", {
+      ending: "stuck", at: [["locks-crossed-worker.mjs", "request(second"]], says: /awaits the lock "a"[^]*awaits the lock "b"|"b"[^]*"a"/,
+    }),
+    right("web/locks-readers.mjs"),
+    wrong("web/locks-writer-shares.mjs",
+      race(["locks-table.mjs", "if (writes)"], ["locks-table.mjs", "else if (table.some"])),
   ),
 
   // What never ends.
