@@ -44,6 +44,7 @@ const COMMANDS = [
   ["npm pack", { by: INSTALLS, words: '"npm", ["pack",' }],
   ["npm install ./sabsim-0.1.0.tgz", { by: "tests/install/installed.mjs", words: '"--no-fund", `./sabsim-${version}.tgz`' }],
   ["node --test", { by: INSTALLS, words: '"node", ["--test", "--test-reporter=tap", "readme.mjs"]' }],
+  ["npx sabsim-record --program some.test.mjs", { notRun: "recorder/tests/program-node-test.test.mjs runs such files" }],
   ["npm test", { notRun: "tests/recorder runs the same tests" }],
   ["npm test -- nearest strategy", { status: 0 }],
   ["npm test -- --unit", { notRun: "npm test runs these tests, and refuses them threads and processes" }],

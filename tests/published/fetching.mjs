@@ -113,9 +113,9 @@ const FETCH = {
   node: fetchNode,
   deb: (source, into, room) => {
     const { name, files, strip = 0 } = source;
-    run("apt-get", ["download", name ?? ""], room);
+    run("apt-get", ["download", ...(name ?? "").split(" ")], room);
     const words = ["-C", into, `--strip-components=${strip}`, ...files];
-    run("sh", ["-c", `dpkg-deb --fsys-tarfile *.deb | tar x "$@"`, "sh", ...words], room);
+    run("sh", ["-c", `for deb in *.deb; do dpkg-deb --fsys-tarfile "$deb" | tar x "$@" || exit; done`, "sh", ...words], room);
     finish(source, into);
   },
   source: (source, into, room) => {
@@ -148,14 +148,14 @@ export function fetchSource(source) {
 }
 
 /**
- * The program with which a product is tried. A page is put beside the code, as on a site.
+ * The program with which a product is tried. A page is put beside the code, as on a site, and so is a project.
  * @param {import("./table.mjs").Product} product
  * @returns {string} its path
  */
-export function programOf({ main, site }) {
+export function programOf({ main, site, project = site }) {
   const own = new URL(main, import.meta.url);
-  if (site === undefined) return fileURLToPath(own);
-  const into = fileURLToPath(new URL(`${site}/`, FETCHED));
+  if (project === undefined) return fileURLToPath(own);
+  const into = fileURLToPath(new URL(`${project}/`, FETCHED));
   const from = dirname(fileURLToPath(own));
   for (const name of readdirSync(from)) writeAnew(join(into, name), readFileSync(join(from, name), "utf8"));
   return join(into, basename(main));

@@ -8,6 +8,7 @@
 // last line is `N passed, M failed`. The status is 0 if none failed.
 
 import { spawnSync } from "node:child_process";
+import { dirname } from "node:path";
 import { fileURLToPath } from "node:url";
 import { tryFamily } from "./engines/run.mjs";
 import { fetchSource, isFetched, programOf } from "./fetching.mjs";
@@ -24,12 +25,13 @@ const RECORDER = fileURLToPath(new URL("../../recorder/record.mjs", import.meta.
 
 /** @param {Product} product @returns {Summary | string} of its runs, or why it can't be relied on */
 function summaryOf(product) {
-  const { seeds, options = [], site, isMended } = product;
+  const { seeds, options = [], site, project, isMended } = product;
   const program = programOf(product);
   const words = ["--program", program, "--seeds", `1..${seeds}`, "--format", "json", "--program-output", "none"];
   if (site !== undefined) words.push("--web");
   const env = isMended ? { ...process.env, SABSIM_PUBLISHED: fileURLToPath(MENDED) } : process.env;
-  const how = /** @type {const} */ ({ encoding: "utf8", maxBuffer: 2 ** 28, env });
+  const cwd = project === undefined ? undefined : dirname(program);
+  const how = /** @type {const} */ ({ encoding: "utf8", maxBuffer: 2 ** 28, env, cwd });
   const { status, stdout, stderr } = spawnSync(process.execPath, [RECORDER, ...words, ...options], how);
   if (status !== 0 && status !== 1) return stderr.trim();
   return JSON.parse(stdout);

@@ -46,7 +46,8 @@ function install({ locks, ends }, graph) {
   if (!("locks" in threads)) return;
   const { manager } = lockManager(locks);
   member(threads, "locks", manager);
-  defineProperty(Navigator.prototype, "locks", { configurable: true, enumerable: true, get: () => manager });
+  const { Navigator: { prototype } } = /** @type {any} */ (globalThis);
+  defineProperty(prototype, "locks", { configurable: true, enumerable: true, get: () => manager });
 }
 
 /**

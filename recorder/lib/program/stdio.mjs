@@ -3,12 +3,15 @@
 // prints there is shown as it is printed.
 
 import process from "node:process";
-import { Readable } from "node:stream";
+import stream from "node:stream";
 import { defineProperty } from "../primordials.mjs";
 import {
   ReadableWorkerStdio, WritableWorkerStdio, kIncrementsPortRef, kStdioWantsMoreDataCallback, kWaitingStreams, messageTypes,
 } from "./internals.mjs";
 import { KIND } from "./ports.mjs";
+
+/** @type {{ new (given?: object): any }} */
+const { Readable } = /** @type {any} */ (stream);
 
 /** @typedef {"stdin" | "stdout" | "stderr"} Name */
 /** @typedef {Record<Name, boolean>} Piped which streams go by a port */
@@ -38,9 +41,9 @@ function serve(ports, port, streamOf) {
   port[kWaitingStreams] = 0;
   ports.known(port).taker = ({ kind, value }) => {
     if (kind !== KIND.MESSAGE) return;
-    const stream = streamOf(value.stream);
-    if (value.type === messageTypes.STDIO_WANTS_MORE_DATA) stream[kStdioWantsMoreDataCallback]();
-    else value.chunks.forEach((/** @type {any} */ { chunk, encoding }) => stream.push(chunk, encoding));
+    const served = streamOf(value.stream);
+    if (value.type === messageTypes.STDIO_WANTS_MORE_DATA) served[kStdioWantsMoreDataCallback]();
+    else value.chunks.forEach((/** @type {any} */ { chunk, encoding }) => served.push(chunk, encoding));
   };
   ports.start(port);
 }
@@ -86,9 +89,9 @@ export class WorkersStdio {
     serve(ports, port, (name) => this.#streams[name]);
     if (piped.stdin) this.#streams.stdin = new WritableWorkerStdio(port, "stdin");
     for (const name of PRINTED.filter((each) => piped[each])) {
-      const stream = new ReadableWorkerStdio(port, name);
-      this.#streams[name] = stream;
-      if (!options[name]) this.#passOn(stream, process[name]);
+      const readable = new ReadableWorkerStdio(port, name);
+      this.#streams[name] = readable;
+      if (!options[name]) this.#passOn(readable, process[name]);
     }
   }
 
@@ -122,12 +125,16 @@ export class WorkersStdio {
       meta.closed = true;
     }
     for (const name of PRINTED) {
-      const stream = this.#streams[name];
-      if (stream !== undefined && !stream.readableEnded) stream.push(null);
+      const found = this.#streams[name];
+      if (found !== undefined && !found.readableEnded) found.push(null);
     }
   }
 
-  /** What a thread prints goes where this thread's own output goes. @param {any} from @param {any} to */
+  /**
+   * What a thread prints goes where this thread's own output goes.
+   * @param {any} from
+   * @param {any} to
+   */
   #passOn(from, to) {
     from[kIncrementsPortRef] = false;
     const before = to.getMaxListeners();
@@ -137,14 +144,17 @@ export class WorkersStdio {
   }
 }
 
-/** What the thread's streams are in a run in which nothing is piped. @type {Partial<Record<Name, any>>} */
+/**
+ * What the thread's streams are in a run in which nothing is piped.
+ * @type {Partial<Record<Name, any>>}
+ */
 const plain = {};
 
-/** @param {"stdout" | "stderr"} name @param {any} stream that the thread's code finds */
-function put(name, stream) {
-  defineProperty(process, name, { value: stream, configurable: true });
+/** @param {"stdout" | "stderr"} name @param {any} value that the thread's code finds */
+function put(name, value) {
+  defineProperty(process, name, { value, configurable: true });
   // The console keeps the stream that it has found first.
-  /** @type {any} */ (console)[`_${name}`] = stream;
+  /** @type {any} */ (console)[`_${name}`] = value;
 }
 
 /** @type {any} what `process.stdin` is; undefined: it isn't simulated */

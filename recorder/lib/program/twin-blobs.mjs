@@ -7,7 +7,8 @@ import { promiseLater, replaceCall } from "./twin-calls.mjs";
 
 /** @typedef {import("./twin-calls.mjs").Given} Given */
 
-const { Blob: EngineBlob, ReadableStream: EngineStream, TextDecoderStream: EngineDecoder, Uint8Array: EngineBytes } = globalThis;
+const { Blob: EngineBlob, ReadableStream: EngineStream, TextDecoderStream: EngineDecoder } = /** @type {any} */ (globalThis);
+const { Uint8Array: EngineBytes } = globalThis;
 const { concat } = Buffer;
 
 /** What the bytes of a blob are followed by, as node's reader has it. */
@@ -31,12 +32,12 @@ function partsOf(blob) {
 /** @param {any} blob in memory @returns {Uint8Array} its bytes, which are there at once */
 export const bytesOf = (blob) => new EngineBytes(concat(partsOf(blob)));
 
-/** @param {Given} given @param {Uint8Array[]} parts @returns {ReadableStream} of them */
+/** @param {Given} given @param {Uint8Array[]} parts @returns {any} a stream of them */
 function streamOf(given, parts) {
   let at = 0;
   return new EngineStream({
     type: "bytes",
-    pull: (controller) => promiseLater(given, "Blob.stream", () => {}).then(() => {
+    pull: (/** @type {any} */ controller) => promiseLater(given, "Blob.stream", () => {}).then(() => {
       if (at < parts.length) controller.enqueue(parts[at]);
       at += 1;
       if (at < parts.length) return;

@@ -61,9 +61,9 @@ const isPlainBytes = (data) => {
 /** @param {Given} given */
 function putDigest(given) {
   const { isPlaying = () => true } = given;
-  const { prototype } = SubtleCrypto;
+  const { SubtleCrypto: { prototype } } = /** @type {any} */ (globalThis);
   const { digest } = prototype;
-  const { createHash } = crypto;
+  const { createHash } = /** @type {any} */ (crypto);
   replaceCall(prototype, "digest", /** @this {any} */ function (/** @type {any} */ algorithm, /** @type {any} */ data) {
     const name = typeof algorithm === "string" ? algorithm : algorithm?.name;
     const [, bits] = DIGEST.exec(name) ?? [];

@@ -107,8 +107,9 @@ const LEAST_OLD = 2;
 
 /** @param {any} options @returns {Limits} */
 function limitsOf({ resourceLimits }) {
+  /** @type {Limits} */
   const limits = { ...LIMITS };
-  for (const name of /** @type {(keyof typeof LIMITS)[]} */ (Object.keys(LIMITS))) {
+  for (const name of Object.keys(LIMITS)) {
     const given = resourceLimits?.[name];
     if (typeof given === "number") limits[name] = name === "maxOldGenerationSizeMb" ? Math.max(given, LEAST_OLD) : given;
   }

@@ -1,0 +1,5 @@
+// What jest-worker's threads do.
+exports.hello = (name) => {
+  console.log("says", name);
+  return `hello ${name}`;
+};
