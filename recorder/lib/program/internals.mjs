@@ -98,7 +98,8 @@ export const parseScript = inside("deps/acorn/acorn/dist/acorn", { parse: "funct
 
 /** The standard streams of a Worker, on both sides of a port, and what they send there. */
 export const {
-  ReadableWorkerStdio, WritableWorkerStdio, kIncrementsPortRef, kStdioWantsMoreDataCallback, kWaitingStreams, messageTypes,
+  ReadableWorkerStdio, WritableWorkerStdio, kIncrementsPortRef, kStdioWantsMoreDataCallback, kWaitingStreams,
+  messageTypes,
 } = inside("worker/io", {
   ReadableWorkerStdio: "function", WritableWorkerStdio: "function", kIncrementsPortRef: "symbol",
   kStdioWantsMoreDataCallback: "symbol", kWaitingStreams: "symbol", messageTypes: "object",
@@ -267,7 +268,7 @@ const TESTS = "test";
 /**
  * Makes node's runner of tests once more, by node's own code, and has programs find it as `node:test`. Node's own has
  * ended with the first run.
- * @param {(name: string, where: any, details: any, directive: any) => void} failed is called when a test or a suite fails
+ * @param {(name: string, where: any, details: any, directive: any) => void} failed is called if a test or suite fails
  * @param {() => never} run in place of the function that runs files in processes of their own
  * @returns {() => void} stops what it has begun
  */
@@ -280,7 +281,8 @@ export function freshTests(failed, run) {
     hooks.push(hook);
     return hook;
   };
-  const load = compiledAnew((id) => OF_TESTS.test(id), new Map([["async_hooks", { ...publicHooks, createHook: keeping }]]));
+  const ofThis = new Map([["async_hooks", { ...publicHooks, createHook: keeping }]]);
+  const load = compiledAnew((id) => OF_TESTS.test(id), ofThis);
   const { TestsStream: { prototype } } = load("internal/test_runner/tests_stream");
   const { fail } = prototype;
   /** @this {any} @param {any[]} given */

@@ -10,8 +10,11 @@
 /** @param {Request} one @param {Request} other @returns {boolean} */
 const isSame = (one, other) => one.agent === other.agent && one.number === other.number;
 
+/** @param {Request} request @returns {boolean} */
+const isShared = ({ mode }) => mode === "shared";
+
 /** @param {Request} request @param {Request[]} held @returns {boolean} whether it may be held together with those */
-const fits = ({ mode }, held) => held.length === 0 || (mode === "shared" && held.every((each) => each.mode === "shared"));
+const fits = (request, held) => held.length === 0 || (isShared(request) && held.every(isShared));
 
 export class LockTable {
   /** @type {Map<string, Named>} those that are held or waited for */
@@ -26,9 +29,10 @@ export class LockTable {
     const named = this.named.get(request.name) ?? { held: [], pending: [] };
     this.named.set(request.name, named);
     if (steal) {
-      const stolen = named.held;
+      /** @type {Effect[]} */
+      const stolen = named.held.map((each) => ({ fate: "stolen", request: each }));
       named.held = [request];
-      return [...stolen.map((each) => /** @type {Effect} */ ({ fate: "stolen", request: each })), { fate: "granted", request }];
+      return [...stolen, { fate: "granted", request }];
     }
     if (ifAvailable && (named.pending.length > 0 || !fits(request, named.held))) return [{ fate: "missed", request }];
     named.pending.push(request);

@@ -64,8 +64,8 @@ function begin(parts, start, parentPort) {
   const values = HERE.ignoresCase && agent === 0 ? ignoringCase(start.env) : start.env;
   const env = envOf(values, start.sharesEnv, refuse);
   const { execArgv, resourceLimits, threadName } = start;
-  const place = { agent, workerData, parentPort, argv: argvOf(start), execArgv, env, environment, threadName, resourceLimits };
-  installThreads(place, {
+  const place = { agent, workerData, parentPort, argv: argvOf(start), execArgv, env, environment };
+  installThreads({ ...place, threadName, resourceLimits }, {
     Worker: workerClass({ ...parts, environment }), MessageChannel: channelClass(ports),
     receiveMessageOnPort: receiverOf(ports, moves),
     BroadcastChannel: broadcastClass({ ports, moves, mesh, buffers }),

@@ -96,7 +96,8 @@ export function demandTransferable(list, refuse) {
 }
 
 /** @param {any} value @param {string} name of a class of node's or of the recorder's @returns {boolean} */
-const isA = (value, name) => (name === "FileHandle" ? value instanceof FileHandle : value instanceof /** @type {any} */ (globalThis)[name]);
+const isA = (value, name) =>
+  value instanceof (name === "FileHandle" ? FileHandle : /** @type {any} */ (globalThis)[name]);
 
 /** @param {any} value */
 const isIterable = (value) => typeof value === "object" && value !== null && Symbol.iterator in value;

@@ -6,7 +6,8 @@ import process from "node:process";
 import stream from "node:stream";
 import { defineProperty } from "../primordials.mjs";
 import {
-  ReadableWorkerStdio, WritableWorkerStdio, kIncrementsPortRef, kStdioWantsMoreDataCallback, kWaitingStreams, messageTypes,
+  ReadableWorkerStdio, WritableWorkerStdio, kIncrementsPortRef, kStdioWantsMoreDataCallback, kWaitingStreams,
+  messageTypes,
 } from "./internals.mjs";
 import { KIND } from "./ports.mjs";
 
@@ -25,7 +26,9 @@ const own = { stdout: false, stderr: false };
 
 /** @param {any} options of a Worker @returns {Piped} what a thread doesn't take goes where this one's goes */
 export const pipedOf = (options) => ({
-  stdin: Boolean(options.stdin), stdout: own.stdout || Boolean(options.stdout), stderr: own.stderr || Boolean(options.stderr),
+  stdin: Boolean(options.stdin),
+  stdout: own.stdout || Boolean(options.stdout),
+  stderr: own.stderr || Boolean(options.stderr),
 });
 
 /** @param {Piped} piped @returns {boolean} */

@@ -7,7 +7,9 @@ import { promiseLater, replaceCall } from "./twin-calls.mjs";
 
 /** @typedef {import("./twin-calls.mjs").Given} Given */
 
-const { Blob: EngineBlob, ReadableStream: EngineStream, TextDecoderStream: EngineDecoder } = /** @type {any} */ (globalThis);
+/** @type {any} */
+const engine = globalThis;
+const { Blob: EngineBlob, ReadableStream: EngineStream, TextDecoderStream: EngineDecoder } = engine;
 const { Uint8Array: EngineBytes } = globalThis;
 const { concat } = Buffer;
 

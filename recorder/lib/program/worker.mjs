@@ -234,8 +234,8 @@ function partsOf(player, blocks, mesh) {
   });
   Object.assign(late, { loop, ends });
   return {
-    moves, waits, locks, buffers, ports, ends, events, timers, loop, children, threads: all, mesh, later, late, keepers, here,
-    refuse, real, spawned, isShown,
+    moves, waits, locks, buffers, ports, ends, events, timers, loop, children, threads: all, mesh, later, late, keepers,
+    here, refuse, real, spawned, isShown,
   };
 }
 

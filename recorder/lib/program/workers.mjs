@@ -85,7 +85,8 @@ function checkKinds({ argv, execArgv, env, name }) {
 }
 
 /** Words of node's command line that say how errors and warnings are shown, and nothing else. */
-const OF_TEXTS = /^--(?:no-)?(?:enable-source-maps|warnings|deprecation|pending-deprecation|trace-(?:[a-z-]+))$|^--stack-trace-limit=\d+$/;
+const OF_TEXTS = new RegExp("^--(?:no-)?(?:enable-source-maps|warnings|deprecation|pending-deprecation|trace-[a-z-]+)$"
+  + "|^--stack-trace-limit=\\d+$");
 
 /** @param {any} options @param {(why: string) => never} refuse @returns {string[]} */
 function execArgvOf({ execArgv }, refuse) {

@@ -80,7 +80,8 @@ function putIdle({ later, moves: { board: { clock } } }) {
   let made = 0;
   const requestIdleCallback = (/** @type {any} */ callback) => {
     if (typeof callback !== "function") {
-      throw new EngineTypeError("Failed to execute 'requestIdleCallback' on 'Window': parameter 1 is not of type 'Function'.");
+      throw new EngineTypeError("Failed to execute 'requestIdleCallback' on 'Window': "
+        + "parameter 1 is not of type 'Function'.");
     }
     made += 1;
     const number = made;
@@ -91,7 +92,8 @@ function putIdle({ later, moves: { board: { clock } } }) {
     });
     return number;
   };
-  putAll({ requestIdleCallback, cancelIdleCallback: (/** @type {number} */ number) => void cancelled.add(number), IdleDeadline });
+  const cancelIdleCallback = (/** @type {number} */ number) => void cancelled.add(number);
+  putAll({ requestIdleCallback, cancelIdleCallback, IdleDeadline });
 }
 
 /** @param {string} given @returns {string} the URL of a script that a script imports */
