@@ -11,8 +11,7 @@ import {
 } from "./internals.mjs";
 import { KIND } from "./ports.mjs";
 
-/** @type {{ new (given?: object): any }} */
-const { Readable } = /** @type {any} */ (stream);
+const Readable = /** @type {any} */ (stream).Readable;
 
 /** @typedef {"stdin" | "stdout" | "stderr"} Name */
 /** @typedef {Record<Name, boolean>} Piped which streams go by a port */
