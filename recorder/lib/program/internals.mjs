@@ -298,6 +298,43 @@ export function freshTests(failed, run) {
   return () => hooks.forEach((hook) => hook.disable());
 }
 
+/** The modules that `crypto.subtle` is made of, besides those of keys and of errors. */
+const OF_SUBTLE = /^internal\/crypto\/(?!keys|util|hashnames|webidl|webcrypto_util|x509|random|certificate)/;
+
+/** The names of what node does for `crypto.subtle` in threads of its own, and can do at once. */
+const JOB = /Job$/;
+
+/**
+ * Makes node's `crypto.subtle` once more, by node's own code. What it did in other threads is done at once.
+ * @param {(act: () => void) => void} later does something in a task of its own
+ * @returns {any}
+ */
+export function subtleOver(later) {
+  const own = internalBinding("crypto");
+  const { kCryptoJobSync, kCryptoJobWebCrypto } = own;
+  const jobs = Object.keys(own).filter((name) => JOB.test(name)).map((name) => [name, class extends own[name] {
+    #mode;
+
+    /** @param {number} mode @param {any[]} given */
+    constructor(mode, ...given) {
+      super(kCryptoJobSync, ...given);
+      this.#mode = mode;
+    }
+
+    run() {
+      const [problem, result] = super.run();
+      if (this.#mode === kCryptoJobSync) return [problem, result];
+      if (this.#mode !== kCryptoJobWebCrypto) return later(() => this.ondone(problem, result));
+      const cause = "The operation failed for an operation-specific reason";
+      return new Promise((resolve, reject) => later(() => (problem === undefined ? resolve(result)
+        : reject(new DOMException(cause, /** @type {any} */ ({ name: "OperationError", cause: problem }))))));
+    }
+  }]);
+  const binding = { ...own, ...Object.fromEntries(jobs) };
+  const bindingOf = (/** @type {string} */ name) => (name === "crypto" ? binding : internalBinding(name));
+  return compiledAnew((id) => OF_SUBTLE.test(id), new Map(), bindingOf)("internal/crypto/webcrypto").crypto.subtle;
+}
+
 if (lacking.length > 0) {
   const why = `whole programs don't run on node ${process.version.slice(1)}, which lacks ${lacking.join(", ")}. They were `
     + `tried on node ${TRIED.join(" and ")}. Modules of agents run on this node, too`;

@@ -235,7 +235,6 @@ export const GLOBALS = ALL.globals;
  */
 export const METHODS = withLater({
   "Performance.prototype": "eventLoopUtilization",
-  "SubtleCrypto.prototype": `encrypt decrypt sign verify generateKey deriveKey deriveBits importKey exportKey
-    wrapKey unwrapKey`,
+  "SubtleCrypto.prototype": "generateKey",
   WebAssembly: "compileStreaming instantiateStreaming",
 }, ({ methods }) => methods);

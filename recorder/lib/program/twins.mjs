@@ -3,12 +3,12 @@
 // `crypto` has when `putTwins` is called.
 
 import crypto from "node:crypto";
-import { types } from "node:util";
 import zlib from "node:zlib";
 import { putBlobs } from "./twin-blobs.mjs";
 import { putFiles } from "./twin-files.mjs";
 import { putFolders } from "./twin-folders.mjs";
 import { apply } from "../primordials.mjs";
+import { subtleOver } from "./internals.mjs";
 import { promiseLater, putTwin, replaceCall } from "./twin-calls.mjs";
 
 /** @typedef {import("./twin-calls.mjs").Given} Given */
@@ -49,32 +49,26 @@ function putCrypto(given) {
   });
 }
 
-/** The names of digests that all have, and what `createHash` calls them. */
-const DIGEST = /^SHA-(1|256|384|512)$/i;
-
-/** @param {any} data @returns {boolean} whether node takes it as bytes of a digest */
-const isPlainBytes = (data) => {
-  const buffer = ArrayBuffer.isView(data) ? data.buffer : data;
-  return types.isArrayBuffer(buffer);
-};
+/** What of `crypto.subtle` uses no other threads, or is done at once. The rest is refused. */
+const SUBTLE = Object.freeze([
+  "decrypt", "deriveBits", "deriveKey", "digest", "encrypt", "exportKey", "importKey", "sign", "unwrapKey", "verify",
+  "wrapKey",
+]);
 
 /** @param {Given} given */
-function putDigest(given) {
-  const { isPlaying = () => true } = given;
-  const { SubtleCrypto: { prototype } } = /** @type {any} */ (globalThis);
-  const { digest } = prototype;
-  const { createHash } = /** @type {any} */ (crypto);
-  replaceCall(prototype, "digest", /** @this {any} */ function (/** @type {any} */ algorithm, /** @type {any} */ data) {
-    const name = typeof algorithm === "string" ? algorithm : algorithm?.name;
-    const [, bits] = DIGEST.exec(name) ?? [];
-    // Node rejects what is wrong before it begins.
-    if (!isPlaying() || bits === undefined || !isPlainBytes(data)) return apply(digest, this, [algorithm, data]);
-    const bytes = ArrayBuffer.isView(data) ? data : new Uint8Array(data);
-    return promiseLater(given, "SubtleCrypto.digest", () => {
-      const found = createHash(`sha${bits}`).update(bytes).digest();
-      return found.buffer.slice(found.byteOffset, found.byteOffset + found.length);
+function putSubtle(given) {
+  const { isPlaying = () => true, later } = given;
+  const { SubtleCrypto: { prototype }, crypto: { subtle } } = /** @type {any} */ (globalThis);
+  /** @type {any} it is made when it is needed: that takes long */
+  let made;
+  for (const name of SUBTLE) {
+    const engine = prototype[name];
+    replaceCall(prototype, name, /** @this {any} */ function (/** @type {any[]} */ ...all) {
+      if (!isPlaying() || this !== subtle) return apply(engine, this, all);
+      made ??= subtleOver((act) => later("has a result of crypto.subtle", act));
+      return made[name](...all);
     });
-  });
+  }
 }
 
 /**
@@ -122,7 +116,7 @@ export function putTwins(given) {
   putFiles(given);
   putFolders(given);
   putBlobs(given);
-  putDigest(given);
+  putSubtle(given);
   const owner = /** @type {any} */ (zlib);
   for (const name of thoseIn(ZLIB, owner)) putTwin(given, owner, name, owner[`${name}Sync`]);
   putCrypto(given);
