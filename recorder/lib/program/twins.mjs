@@ -4,11 +4,8 @@
 
 import crypto from "node:crypto";
 import zlib from "node:zlib";
-import { putBlobs } from "./twin-blobs.mjs";
 import { putFiles } from "./twin-files.mjs";
 import { putFolders } from "./twin-folders.mjs";
-import { apply } from "../primordials.mjs";
-import { subtleOver } from "./internals.mjs";
 import { promiseLater, putTwin, replaceCall } from "./twin-calls.mjs";
 
 /** @typedef {import("./twin-calls.mjs").Given} Given */
@@ -47,28 +44,6 @@ function putCrypto(given) {
     throws: isOfArguments,
     answer: ({ value, problem }) => (problem === undefined ? [null, value.publicKey, value.privateKey] : [problem]),
   });
-}
-
-/** What of `crypto.subtle` uses no other threads, or is done at once. The rest is refused. */
-const SUBTLE = Object.freeze([
-  "decrypt", "deriveBits", "deriveKey", "digest", "encrypt", "exportKey", "importKey", "sign", "unwrapKey", "verify",
-  "wrapKey",
-]);
-
-/** @param {Given} given */
-function putSubtle(given) {
-  const { isPlaying = () => true, later } = given;
-  const { SubtleCrypto: { prototype }, crypto: { subtle } } = /** @type {any} */ (globalThis);
-  /** @type {any} it is made when it is needed: that takes long */
-  let made;
-  for (const name of SUBTLE) {
-    const engine = prototype[name];
-    replaceCall(prototype, name, /** @this {any} */ function (/** @type {any[]} */ ...all) {
-      if (!isPlaying() || this !== subtle) return apply(engine, this, all);
-      made ??= subtleOver((act) => later("has a result of crypto.subtle", act));
-      return made[name](...all);
-    });
-  }
 }
 
 /**
@@ -115,8 +90,6 @@ function putWebAssembly(given) {
 export function putTwins(given) {
   putFiles(given);
   putFolders(given);
-  putBlobs(given);
-  putSubtle(given);
   const owner = /** @type {any} */ (zlib);
   for (const name of thoseIn(ZLIB, owner)) putTwin(given, owner, name, owner[`${name}Sync`]);
   putCrypto(given);

@@ -56,7 +56,7 @@ import { refuseRest } from "./surface.mjs";
 import { takenStart, threadName } from "./thread-start.mjs";
 import { Threads } from "./threads.mjs";
 import { Timers } from "./timers.mjs";
-import { putTwins } from "./twins.mjs";
+import { putAllTwins } from "./all-twins.mjs";
 import { leaveOf } from "./unwinding.mjs";
 import { WaitAsync } from "./wait-async.mjs";
 import { installWebAssembly } from "./wasm/modules.mjs";
@@ -255,7 +255,7 @@ function installReplacements({ moves, buffers, waits, ends, events, timers, late
     buffers, moves, atomics, seen: watching.seen, here: sourceOfCall, refuse, isPlaying, isRelaxed,
   });
   watchRealm(watching);
-  putTwins({ later, isPlaying });
+  putAllTwins({ later, isPlaying });
   installMemory((buffer) => buffers.made(buffer, sourceOfCall()));
   installCloning(buffers, refuse);
   installGrowing(buffers, moves, isPlaying);

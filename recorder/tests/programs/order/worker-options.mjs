@@ -5,8 +5,7 @@ import { Worker, isMainThread, parentPort, resourceLimits } from "node:worker_th
 async function finds(options) {
   const worker = new Worker(new URL(import.meta.url), options);
   const before = worker.resourceLimits.maxOldGenerationSizeMb;
-  const [found] = await once(worker, "message");
-  await once(worker, "exit");
+  const [[found]] = await Promise.all([once(worker, "message"), once(worker, "exit")]);
   console.log(JSON.stringify({ before, ...found, after: worker.resourceLimits }));
 }
 
