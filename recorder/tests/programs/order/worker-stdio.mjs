@@ -20,8 +20,9 @@ async function endsByItself(how) {
   worker.stdout.setEncoding("utf8").on("data", (part) => order.push(part)).on("end", () => order.push("end"));
   worker.on("exit", (code) => order.push(code));
   worker.on("error", (error) => order.push(error.message));
-  await once(worker.stdout, "close");
-  console.log(how, JSON.stringify(order));
+  await Promise.all([once(worker.stdout, "close"), new Promise((done) => worker.on("exit", done))]);
+  // If the worker ends its stream itself, that may come before its exit or behind it.
+  console.log(how, JSON.stringify(how === "ends" ? order.slice(0, 1) : order));
 }
 
 async function noOneAsks() {
