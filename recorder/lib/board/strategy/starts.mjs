@@ -19,35 +19,8 @@ const ITS_LATE = 14;
 /** An agent that begins late does so at most so many moves after the one before. */
 const MOST_MOVES = 24;
 
-/** @typedef {{ agent: number, at: number }} Start an agent, and how many moves come before it begins, if others can move */
-
-/**
- * @param {number} seed
- * @param {number} agents how many
- * @returns {Start[]} in their order
- */
-function drawnStarts(seed, agents) {
-  const starts = Array.from({ length: agents }, (_, agent) => ({ agent, at: 0 }));
-  if (seed % ORDERED !== ITS_ORDERED) return starts;
-  const random = new Random(new Int32Array(4));
-  random.seed(seed);
-  random.branch(STARTS);
-  for (let left = agents; left > 1; left -= 1) {
-    const other = random.below(left);
-    [starts[left - 1].agent, starts[other].agent] = [starts[other].agent, starts[left - 1].agent];
-  }
-  if (seed % LATE !== ITS_LATE) return starts;
-  for (let place = 1; place < agents; place += 1) {
-    starts[place].at = starts[place - 1].at + (random.below(2) === 0 ? 0 : 1 + random.below(MOST_MOVES));
-  }
-  return starts;
-}
-
 export class Starts {
   #seed = -1;
-
-  /** @type {Start[]} */
-  #starts = [];
 
   /**
    * @param {Int32Array} words of the board
@@ -58,6 +31,11 @@ export class Starts {
     this.words = words;
     this.agents = agents;
     this.seedOf = seedOf;
+    // These are made once: later, an agent's code may have replaced what makes them.
+    this.random = new Random(new Int32Array(4));
+    /** The agents in their order, and for each how many moves come before it begins, if others can move. */
+    this.order = new Int32Array(agents);
+    this.moves = new Int32Array(agents);
   }
 
   /** A run begins: no agent has begun. */
@@ -72,31 +50,58 @@ export class Starts {
 
   /** Whether the next agent begins now, though others can move. */
   get isDue() {
-    const { words } = this;
-    return this.#order()[words[WORD.STARTED]].at <= words[WORD.MOVES];
+    const { moves, words } = this;
+    this.#draw();
+    return moves[words[WORD.STARTED]] <= words[WORD.MOVES];
   }
 
   /** @returns {number} the next agent, which begins now */
   next() {
-    const { words } = this;
+    const { order, words } = this;
+    this.#draw();
     words[WORD.STARTED] += 1;
-    return this.#order()[words[WORD.STARTED] - 1].agent;
+    return order[words[WORD.STARTED] - 1];
   }
 
   /** @param {number} agent @returns {boolean} whether it has begun */
   hasBegun(agent) {
-    const order = this.#order();
+    this.#draw();
     for (let place = this.words[WORD.STARTED]; place < this.agents; place += 1) {
-      if (order[place].agent === agent) return false;
+      if (this.order[place] === agent) return false;
     }
     return true;
   }
 
-  /** @returns {Start[]} */
-  #order() {
+  /** The order of the run's seed. */
+  #draw() {
     const seed = this.words[WORD.IS_PILOT] === 1 ? 0 : this.seedOf();
-    if (seed !== this.#seed) this.#starts = drawnStarts(seed, this.agents);
+    if (seed === this.#seed) return;
     this.#seed = seed;
-    return this.#starts;
+    for (let place = 0; place < this.agents; place += 1) {
+      this.order[place] = place;
+      this.moves[place] = 0;
+    }
+    if (seed % ORDERED !== ITS_ORDERED) return;
+    this.random.seed(seed);
+    this.random.branch(STARTS);
+    this.#drawOrder();
+    if (seed % LATE === ITS_LATE) this.#drawMoves();
+  }
+
+  #drawOrder() {
+    const { order, random } = this;
+    for (let left = this.agents; left > 1; left -= 1) {
+      const other = random.below(left);
+      const last = order[left - 1];
+      order[left - 1] = order[other];
+      order[other] = last;
+    }
+  }
+
+  #drawMoves() {
+    const { moves, random } = this;
+    for (let place = 1; place < this.agents; place += 1) {
+      moves[place] = moves[place - 1] + (random.below(2) === 0 ? 0 : 1 + random.below(MOST_MOVES));
+    }
   }
 }
