@@ -55,7 +55,8 @@ Status:
   1  some runs failed
   2  the command line or the module was refused
   3  the code and the simulator differ, or with --replay the code and the script, or with --all the code and what was
-     learned of it; the chosen native program isn't there; a file or standard output can't be written; a program keeps something in globals; or a job's process ended
+     learned of it; the chosen native program isn't there; a file or standard output can't be written; a program keeps
+     something in globals; or a job's process ended
 `;
 
 /** @type {Record<string, { type: "string" | "boolean", multiple?: boolean, short?: string }>} */
