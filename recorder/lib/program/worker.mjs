@@ -216,12 +216,11 @@ function partsOf(player, blocks, mesh) {
   const spawned = new Children(new Pids(shared.pids[agent]), isShown);
   const real = new RealWork(new Notes(shared.notes[agent]), spawned, here);
   const leave = leaveOf(player, late);
-  const closeSockets = () => real.close();
   const keepers = new Keepers(shared.keepers[agent]);
   /** @type {import("./ends.mjs").Leaving["note"]} */
   const note = (text, place) => late.loop?.note(text, place);
-  const about = { keepers, note, printed: lastError };
-  const ends = new surroundings.Ends({ agent, player, ports, threads: all, here, leave, closeSockets, ...about });
+  const about = { keepers, note, printed: lastError, closeSockets: () => real.close() };
+  const ends = new surroundings.Ends({ agent, player, ports, threads: all, here, leave, ...about });
   const drain = () => late.loop?.drain();
   const events = new surroundings.PortEvents({ ports, uncaught: (thrown) => ends.uncaught(thrown), drain });
   const timers = new Timers({ now: () => board.clock.now(), here: sourceOfCall });
@@ -329,7 +328,15 @@ function clear(parts) {
   restoreBuiltins();
   awaits.stop();
   const { buffers, waits, locks, ports, timers, loop, ends, children, late } = parts;
-  for (const part of [buffers, late.wasm, waits, locks, ports, timers, loop, ends, children]) part?.clear();
+  buffers.clear();
+  late.wasm?.clear();
+  waits.clear();
+  locks.clear();
+  ports.clear();
+  timers.clear();
+  loop.clear();
+  ends.clear();
+  children.clear();
   surroundings.clear(parts);
   restoreProcess();
 }
