@@ -17,10 +17,13 @@ const ROUNDS = 6;
 const recordKnown = (name, ordinary) =>
   recorded({ module: fileURLToPath(new URL(`./known/${name}.mjs`, import.meta.url)), ordinary }, seedsTo(20));
 
+/** Seeds in which the agents begin in turn: each takes part in all runs, also in those that end soon. */
+const inTurn = (amount) => seedsTo(2 * amount).filter((seed) => seed % 4 !== 2).slice(0, amount);
+
 /** The outcomes of all programs in each of the modes, under the same seeds. With a trace each run is made once. */
 async function allModes() {
   const options = { module: agentsPath("modes"), trace: true };
-  const outcomesOf = (ordinary) => recorded({ ...options, ordinary }, seedsTo(NAMES.length * ROUNDS));
+  const outcomesOf = (ordinary) => recorded({ ...options, ordinary }, inTurn(NAMES.length * ROUNDS));
   const [watch, store, refuse] = await Promise.all(MODES.map(outcomesOf));
   const ofName = (outcomes, name) => outcomes.filter((_, run) => run % NAMES.length === NAMES.indexOf(name));
   return (name) => ({ watch: ofName(watch, name), store: ofName(store, name), refuse: ofName(refuse, name) });

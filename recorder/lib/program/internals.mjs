@@ -265,6 +265,16 @@ const OF_TESTS = /^(?:test|internal\/test_runner\/(?!reporter\/).*)$/;
 /** By this a module of node's own becomes what `import` and `require` find. */
 const TESTS = "test";
 
+/** Options of the process, which may itself run tests: where these are reported is none of the program's. */
+const OF_REPORTS = /^--test-reporter/;
+
+function ownOptions() {
+  const options = required("internal/options");
+  return {
+    ...options, getOptionValue: (/** @type {string} */ name) => (OF_REPORTS.test(name) ? [] : options.getOptionValue(name)),
+  };
+}
+
 /**
  * Makes node's runner of tests once more, by node's own code, and has programs find it as `node:test`. Node's own has
  * ended with the first run.
@@ -281,7 +291,7 @@ export function freshTests(failed, run) {
     hooks.push(hook);
     return hook;
   };
-  const ofThis = new Map([["async_hooks", { ...publicHooks, createHook: keeping }]]);
+  const ofThis = new Map([["async_hooks", { ...publicHooks, createHook: keeping }], ["internal/options", ownOptions()]]);
   const load = compiledAnew((id) => OF_TESTS.test(id), ofThis);
   const { TestsStream: { prototype } } = load("internal/test_runner/tests_stream");
   const { fail } = prototype;

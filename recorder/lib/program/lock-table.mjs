@@ -73,6 +73,8 @@ export class LockTable {
 
   /** @returns {Request[]} those that hold a lock or wait for one */
   all() {
+    // A program without locks may have replaced the iterators.
+    if (this.named.size === 0) return [];
     return [...this.named.values()].flatMap(({ held, pending }) => [...held, ...pending]);
   }
 

@@ -162,7 +162,7 @@ export class Loop {
     } else {
       const kept = this.#keepers().concat(moves.silentTexts(pending));
       if (kept.length === 0) return this.#endsNow();
-      keepers.write([kept.join("; "), ...waits.texts(), ...locks.texts()].join("; it awaits "));
+      keepers.write([kept.join("; ")].concat(waits.texts(), locks.texts()).join("; it awaits "));
       this.#mayLook = true;
       moves.board.vain?.rests(moves.agent, this.#places);
       if (!moves.idle(this.#untilTimer(), pending)) return STEP.IS_OVER;

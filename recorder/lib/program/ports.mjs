@@ -89,9 +89,12 @@ const BY_OWN_PORTS = Object.freeze(["ReadableStream", "WritableStream", "Transfo
 
 /** @param {any[]} list of what is transferred @param {(why: string) => never} refuse */
 export function demandTransferable(list, refuse) {
-  for (const each of list) {
-    const name = BY_OWN_PORTS.find((one) => isA(each, one));
-    if (name !== undefined) refuse(`transferred a ${name}, which isn't simulated`);
+  // The program may have replaced the iterators and functions of arrays.
+  for (let at = 0; at < list.length; at += 1) {
+    for (let which = 0; which < BY_OWN_PORTS.length; which += 1) {
+      const name = BY_OWN_PORTS[which];
+      if (isA(list[at], name)) refuse(`transferred a ${name}, which isn't simulated`);
+    }
   }
 }
 
