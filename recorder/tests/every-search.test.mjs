@@ -10,6 +10,7 @@ import { test } from "node:test";
 import { fileURLToPath, pathToFileURL } from "node:url";
 import { learnApart } from "../lib/every/learning/apart.mjs";
 import { searched } from "../lib/every/search/second.mjs";
+import { withPython } from "./helpers/needs.mjs";
 
 const SEARCH = fileURLToPath(new URL("../../tests/search/", import.meta.url));
 const EXAMPLES = join(SEARCH, "examples");
@@ -45,16 +46,13 @@ for seed in range(int(sys.argv[2]), int(sys.argv[3])):
 print(json.dumps(found))
 `;
 
-test("files that were drawn", (t) => {
+test("files that were drawn", withPython, () => {
   const folder = mkdtempSync(join(tmpdir(), "sabsim-drawn-"));
   const script = join(folder, "draws.py");
   writeFileSync(script, DRAWS);
   const { stdout, error, status, stderr } = spawnSync("python3", [script, SEARCH, "1", "200"], { encoding: "utf8", maxBuffer: 2 ** 28 });
   rmSync(folder, { recursive: true });
-  if (error !== undefined) {
-    t.skip("no python3");
-    return;
-  }
+  assert.equal(error, undefined);
   assert.equal(status, 0, stderr);
   const drawn = JSON.parse(stdout);
   assert.equal(drawn.length, 3 * 199);
@@ -86,9 +84,9 @@ export default function agent({ buffers, agent: self }) {
 }
 `;
 
-test("the automata of modules of agents", async (t) => {
+test("the automata of modules of agents", withPython, async (context) => {
   const folder = mkdtempSync(join(tmpdir(), "sabsim-automata-"));
-  t.after(() => rmSync(folder, { recursive: true }));
+  context.after(() => rmSync(folder, { recursive: true }));
   writeFileSync(join(folder, "spins.mjs"), SPINS);
   const urls = [...MODULES.map((path) => new URL(`../${path}`, import.meta.url)), pathToFileURL(join(folder, "spins.mjs"))];
   for (const { href: module } of urls) {
@@ -98,10 +96,7 @@ test("the automata of modules of agents", async (t) => {
     const path = join(folder, "automata.json");
     writeFileSync(path, JSON.stringify(file));
     const { stdout, error, status, stderr } = spawnSync("python3", [join(SEARCH, "result"), "--limit", "20000", path], { encoding: "utf8" });
-    if (error !== undefined) {
-      t.skip("no python3");
-      return;
-    }
+    assert.equal(error, undefined);
     assert.equal(status, 0, `${module}: ${stderr}`);
     const { status: _status, ...model } = JSON.parse(stdout);
     assert.deepEqual(JSON.parse(JSON.stringify(result)), model, module);

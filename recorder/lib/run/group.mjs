@@ -44,6 +44,7 @@ import { within } from "./within.mjs";
  * @property {number[]} [noBlock] agents that can't block
  * @property {string} [strategy] how it is drawn who moves next, as `waysOf` takes it
  * @property {boolean} [everywhere] whether agents are switched before each call, also where no agents can meet
+ * @property {boolean} [inTurn] whether agents begin in turn under each seed; else some seeds draw their order
  * @property {number | "never"} [timeouts] in how many draws the end of a timed wait is offered while something else can
  * move; never: it isn't, even if nothing else can move
  * @property {number} maxMoves
@@ -220,8 +221,8 @@ export class Group {
     const loaded = await this.#load(0);
     needsRightNames(loaded.names);
     this.plan = planOf(this.options, loaded.setup);
-    const { strategy, everywhere, timeouts, maxMoves } = this.options;
-    this.rules = { agents: this.plan.agents, ways: waysOf(strategy, everywhere), timeouts, maxMoves };
+    const { strategy, everywhere, inTurn = false, timeouts, maxMoves } = this.options;
+    this.rules = { agents: this.plan.agents, ways: waysOf(strategy, everywhere), inTurn, timeouts, maxMoves };
     const options = this.refereeOptions(loaded);
     if (options.init !== undefined && this.plan.agents === SCRIPT_LIMITS.agents) {
       throw new Refused(`with ${SCRIPT_LIMITS.agents} agents none is left for the stores of \`init\`: give one less`);

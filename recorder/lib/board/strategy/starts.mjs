@@ -24,12 +24,14 @@ export class Starts {
 
   /**
    * @param {Int32Array} words of the board
-   * @param {number} agents how many begin by themselves
+   * @param {import("../strategy.mjs").Rules} rules
    * @param {() => number} seedOf the seed of the run
    */
-  constructor(words, agents, seedOf) {
+  constructor(words, { agents: all, starts: agents = all, inTurn = false }, seedOf) {
     this.words = words;
+    /** How many begin by themselves. */
     this.agents = agents;
+    this.inTurn = inTurn;
     this.seedOf = seedOf;
     // These are made once: later, an agent's code may have replaced what makes them.
     this.random = new Random(new Int32Array(4));
@@ -81,7 +83,7 @@ export class Starts {
       this.order[place] = place;
       this.moves[place] = 0;
     }
-    if (seed % ORDERED !== ITS_ORDERED) return;
+    if (this.inTurn || seed % ORDERED !== ITS_ORDERED) return;
     this.random.seed(seed);
     this.random.branch(STARTS);
     this.#drawOrder();
