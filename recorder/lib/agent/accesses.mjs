@@ -57,7 +57,8 @@ export class Accesses {
   note(place, from, to, writes, made) {
     const { board, log, memory } = this.table;
     this.count += 1;
-    const notesLine = board.words[WORD.NOTES_SOURCES] === 1 && this.#notesLine(place.block, from, to);
+    const notesLines = board.words[WORD.NOTES_SOURCES] === 1;
+    const notesLine = notesLines && this.#notesLine(place.block, from, to);
     const repeats = this.repeats.note(place, from, to, writes);
     const isNew = repeats === REPEATED.NEW;
     if (!isNew) {
@@ -69,7 +70,7 @@ export class Accesses {
       this.repeats.add(place, from, to, writes);
       return NOTED.YES;
     }
-    if (!log.hasRoom()) return notesLine && !(writes && isNew) ? NOTED.YES : NOTED.FULL;
+    if (!log.hasRoom()) return notesLines && !(writes && isNew) ? NOTED.YES : NOTED.FULL;
     const source = notesLine ? numberHere(this.table.sources) : 0;
     const flags = (writes ? FLAG.WRITES : FLAG.READS) | (isNew ? 0 : FLAG.AGAIN);
     log.append(what, this.agent, NO_CALL, flags, made, place.block, from, to, place, source);
