@@ -64,6 +64,9 @@ const WASM = "wasm";
 const COUNTS = /** @type {Line} */ (["threads.mjs", "words[2] += 1;"]);
 
 const ALL = [
+  // Tests of node:test that pass: the first program, in threads in which no other has run.
+  right("node-test/right.mjs"),
+
   // Handing over by wait, by message, by waitAsync.
   right("hand-over/right.mjs"),
   wrong("hand-over/too-soon.mjs",
@@ -232,7 +235,6 @@ const ALL = [
     stuck(["first-ends.mjs", "await text("], ["sums.mjs", "for await"])),
 
   // Tests of node:test.
-  right("node-test/right.mjs"),
   wrong("node-test/lost-wake-up.mjs", deadlock(["lost-wake-up.mjs", "Atomics.wait("])),
   wrong("node-test/too-soon.mjs", failed(/failed the test "counts two"/, ["too-soon.mjs", "assert.equal("])),
   wrong("node-test/one-for-all.mjs", failed(/failed the test "doubles [23]"/, ["one-for-all.mjs", "assert.equal("])),
