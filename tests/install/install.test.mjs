@@ -118,7 +118,10 @@ test("the test that the README shows finds the lost wake-up", () => {
 
 test("each exported name has a type, and is used below", async () => {
   for (const [from, file, user] of [["sabsim", "recorder", "uses"], ["sabsim/test", "testing", "uses-test"]]) {
-    const types = readFileSync(join(project, `node_modules/sabsim/recorder/${file}.d.cts`), "utf8");
+    const typesOf = (name) => readFileSync(join(project, `node_modules/sabsim/recorder/${name}.d.cts`), "utf8");
+    const whole = typesOf(file);
+    const further = [...whole.matchAll(/^export \* from "\.\/([\w-]+)\.cjs";$/gm)].map(([, name]) => typesOf(name));
+    const types = [whole, ...further].join("");
     const found = [...types.matchAll(/^export (function|class|interface|type) (\w+)/gm)];
     const names = (...kinds) => found.filter(([, kind]) => kinds.includes(kind)).map(([, , name]) => name).sort();
     const words = `import("${from}").then((all) => console.log(Object.keys(all).sort().join()))`;

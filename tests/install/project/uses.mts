@@ -1,8 +1,9 @@
 // Uses every name that the package exports, as TypeScript of a project of one's own.
 
-import { explore, record, Difference, KeepsGlobals, LostJob, NoSabsim, Refused } from "sabsim";
+import { everySchedule, explore, record, Difference, KeepsGlobals, LostJob, NoSabsim, NotAsLearned, Refused } from "sabsim";
 import type { Accesses, Agent, AgentRun, Ending, ExploreOptions, Outcome, Race, RaceSide } from "sabsim";
 import type { Kind, NamedPart, NamedPlace, OnlyByTime, RecordOptions, Setup, Shortened, Standing } from "sabsim";
+import type { EveryOptions, EverySchedule, FoundBySchedule, OfEvery } from "sabsim";
 import type { ManyRuns, MemoryWindow, OfModule, OfProgram, OneRun, RunOptions, Summary, WithBuffers } from "sabsim";
 
 const kind: Kind = "Uint8";
@@ -112,3 +113,11 @@ export async function lowest(): Promise<number | undefined> {
 }
 
 export const refused: RecordOptions[] = [without, wrong, two];
+
+const bounds: OfEvery = { within: 5, states: 1_000 };
+const every: EveryOptions = { module: "./lock.mjs", agents: 2, ...bounds };
+export const whatIsFound = async (): Promise<FoundBySchedule[]> => {
+  const tried: EverySchedule = await everySchedule(every);
+  return tried.closed ? tried.found : [];
+};
+export const isFromRunToRun = (problem: unknown): boolean => problem instanceof NotAsLearned;

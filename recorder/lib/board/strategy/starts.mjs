@@ -24,7 +24,8 @@ export class Starts {
 
   /**
    * @param {Int32Array} words of the board
-   * @param {import("../strategy.mjs").Rules} rules
+   * @param {{ agents: number, starts?: number, inTurn?: boolean }} rules how many agents there are, how many of them begin
+   * by themselves, and whether these always do so in turn
    * @param {() => number} seedOf the seed of the run
    */
   constructor(words, { agents: all, starts: agents = all, inTurn = false }, seedOf) {
