@@ -10,7 +10,10 @@ import { test } from "node:test";
 import { fileURLToPath, pathToFileURL } from "node:url";
 import { learnApart } from "../lib/every/learning/apart.mjs";
 import { searched } from "../lib/every/search/second.mjs";
-import { withPython } from "./helpers/needs.mjs";
+import { needing } from "./helpers/needs.mjs";
+
+/** The model is in Python. */
+const withPython = needing("python3", spawnSync("python3", ["--version"]).status === 0);
 
 const SEARCH = fileURLToPath(new URL("../../tests/search/", import.meta.url));
 const EXAMPLES = join(SEARCH, "examples");

@@ -1,7 +1,6 @@
 // What some tests need besides node. Each test that needs something says so by `needing`. Where it is missing the test is
 // left out, and counted so, with its reason as `no ..`.
 
-import { spawnSync } from "node:child_process";
 import { existsSync } from "node:fs";
 import { resolve } from "node:path";
 import { HERE } from "../../lib/processes/platform.cjs";
@@ -53,6 +52,3 @@ export const withPosixPaths = needing("POSIX paths", !HERE.isWindows);
 
 /** For tests with files of POSIX that are none, as /dev/null. */
 export const withDevices = needing("files of devices", existsSync("/dev/full") && existsSync("/dev/zero"));
-
-/** For tests that compare with a model in Python. */
-export const withPython = needing("python3", spawnSync("python3", ["--version"]).status === 0);
