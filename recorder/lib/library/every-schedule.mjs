@@ -54,7 +54,7 @@ export function everyOptions(options, callersFolder) {
  */
 export async function everySchedule(options) {
   const { signal, ...taken } = everyOptions(options, () => folderOfCaller(everySchedule));
-  // Whoever makes runs alone needn't load it.
+  // A program that makes runs alone doesn't load it.
   const [{ dataOf }, { Every }] = await Promise.all([import("../every/data.mjs"), import("../every/every.mjs")]);
   return dataOf(await new Every(taken, { signal }).run());
 }

@@ -1,4 +1,4 @@
-// Right: main sleeps until the word is set, whoever wakes it.
+// Right: main sleeps until the word is set. It does not matter who wakes it.
 import { createBridge } from "./bridge.mjs";
 
 const ask = createBridge({
