@@ -8,16 +8,20 @@ import { test } from "node:test";
 import { fileURLToPath, pathToFileURL } from "node:url";
 import { Agreement } from "../lib/every/agreement.mjs";
 import { learnAgain, learnApart } from "../lib/every/learning/apart.mjs";
-import { comparedBySecond } from "../lib/every/second.mjs";
 import { programOf } from "../lib/every/search/file.mjs";
 import { searched } from "../lib/every/search/second.mjs";
 import { NotAsLearned, Refused, everySchedule, record } from "../recorder.mjs";
 import { assertAgents } from "../testing.mjs";
 import { BODIES, moduleOf as nastyOf } from "./every/nasty.mjs";
+import { ModuleSimulator } from "../lib/simulator/module.mjs";
 import { agentsPath, temporaryFolder } from "./helpers/common.mjs";
 
 const RECORD = fileURLToPath(new URL("../record.mjs", import.meta.url));
 const EXAMPLES = fileURLToPath(new URL("../examples/", import.meta.url));
+
+/** Whether the simulator can search. */
+const IS_PROVED = new ModuleSimulator().canSearch;
+const NOT_PROVED = "the search isn't proved (the simulator has no search yet)";
 
 /** @param {string[]} words @returns {Promise<{ status: number | null, out: string, problems: string }>} */
 const recorded = (...words) => new Promise((done) => {
@@ -55,7 +59,8 @@ test("a right lock: every schedule was tried, and nothing was found", async (con
   assert.equal(first, "every schedule of 3 agents was tried: none deadlocks, throws, races or fails check; from every state "
     + "all agents can still end");
   assert.match(states, /^ {2}20,590 states, 52,893 acts; 1 final state: /);
-  assert.match(learned, /the search isn't proved yet; .*: 39 moments of an agent, each of 78 edges twice; 20 real runs agree$/);
+  assert.ok(learned.startsWith(`  ${IS_PROVED ? "the search is proved" : NOT_PROVED}; what`), learned);
+  assert.match(learned, /: 39 moments of an agent, each of 78 edges twice; 20 real runs agree$/);
   assert.equal(rest.at(-2), `kept in ${out}: all.automata.json`);
   const file = JSON.parse(readFileSync(join(out, "all.automata.json"), "utf8"));
   assert.equal(searched(file, { timeouts: "early", limit: 1_000_000 }).states, 20_590);
@@ -77,8 +82,9 @@ test("a lost wake-up is found, and shown by a run of the code that can be replay
 test("JSON has what the text says", async () => {
   const done = await recorded(join(EXAMPLES, "late-notify.agents.mjs"), "--all", "--seeds", "1..5", "--format", "json");
   assert.equal(done.status, 1, done.problems);
-  const { every, closed, found, realRuns, searchProved, states } = JSON.parse(done.out);
-  assert.deepEqual({ every, closed, realRuns, searchProved, states }, { every: 1, closed: true, realRuns: 5, searchProved: false, states: 428 });
+  const { every, closed, found, notProved, realRuns, searchProved, states } = JSON.parse(done.out);
+  assert.deepEqual({ every, closed, realRuns, states }, { every: 1, closed: true, realRuns: 5, states: 428 });
+  assert.equal(searchProved, notProved === null);
   assert.equal(found.length, 1);
   assert.equal(found[0].kind, "threw");
   assert.match(found[0].detail[0], /^agent 0 threw Error: the answer to job \d+ is \d+, and not \d+/);
@@ -165,16 +171,6 @@ test("moments that were merged wrongly are noticed by the second learning", asyn
     const { edges, isShared, nodes, plan } = await learnApart({ ...wanted, flaw: { hides } }, { seconds: 10 });
     const differs = await learnAgain({ module, args: [], plan, isShared, isFresh: false, nodes, edges });
     assert.equal(differs !== undefined, hides !== undefined, differs);
-  }
-});
-
-test("a second search that finds something else is noticed", async () => {
-  const file = readFileSync(fileURLToPath(new URL("../../tests/search/examples/late-notify.json", import.meta.url)), "utf8");
-  const data = JSON.parse(file);
-  const result = searched(data, { timeouts: "early", limit: 1_000 });
-  assert.equal(await comparedBySecond(data, result, async () => structuredClone(result)), true);
-  for (const change of [{ states: result.states + 1 }, { failed: [] }, { final: { ...result.final, count: 7 } }]) {
-    await assert.rejects(comparedBySecond(data, result, async () => ({ ...result, ...change })), NotAsLearned);
   }
 });
 

@@ -6,7 +6,7 @@ import { Agreement } from "./agreement.mjs";
 import { DoesOtherwise, Unlearned, learnAgain, learnApart } from "./learning/apart.mjs";
 import { NotAsLearned } from "./not-as-learned.mjs";
 import { programOf } from "./search/file.mjs";
-import { comparedBySecond } from "./second.mjs";
+import { comparedBySecond, needFound } from "./second.mjs";
 import { shown } from "./showing.mjs";
 
 /** @typedef {import("./learning/report.mjs").Report} Report */
@@ -22,7 +22,8 @@ import { shown } from "./showing.mjs";
  * @property {Report | undefined} report undefined: nothing could be learned
  * @property {string | undefined} open why not every schedule was tried; undefined: every one was
  * @property {number} realRuns how many real runs agree with what was learned
- * @property {boolean} isSecond whether a second search found the same
+ * @property {boolean} isProved whether the proved search has found the same: the report's result is its own then
+ * @property {string | undefined} notProved why there was no proved search
  * @property {Shown[]} shown
  * @property {number} milliseconds
  */
@@ -55,19 +56,32 @@ export class Every {
     const running = this.#take(real);
     // If something else fails, nobody waits for the runs.
     running.catch(() => {});
+    const ending = new AbortController();
     try {
       const report = await this.#report();
-      const nothing = { realRuns: 0, isSecond: false, shown: [] };
+      const nothing = { realRuns: 0, isProved: false, notProved: undefined, shown: [] };
       if (typeof report === "string") return { report: undefined, open: report, ...nothing };
       if (!report.isClosed) return { report, open: openText(report), ...nothing };
       if (report.changesBuiltins) throw new NotAsLearned(CHANGES_BUILTINS);
-      const isSecond = await comparedBySecond(report.file, report.result);
-      await Promise.all([this.#learnAgain(report), running]);
+      const [second] = await Promise.all([this.#second(report, ending.signal), this.#learnAgain(report), running]);
+      const { result = report.result, why } = second;
       const realRuns = this.#agreeing(report);
-      return { report, open: undefined, realRuns, isSecond, shown: await this.#shown(report) };
+      const shown = await this.#shown(report);
+      const proved = { isProved: why === undefined, notProved: why };
+      return { report: { ...report, result }, open: undefined, realRuns, ...proved, shown };
     } finally {
+      ending.abort();
       await real.close();
     }
+  }
+
+  /** @param {Report} report @param {AbortSignal} ending */
+  async #second({ file, findings, result }, ending) {
+    const { sabsim } = this.options;
+    const signal = this.signal === undefined ? ending : AbortSignal.any([ending, this.signal]);
+    const second = await comparedBySecond(file, result, { program: sabsim || undefined, signal });
+    if (second.result !== undefined) needFound(findings, second.result);
+    return second;
   }
 
   /** What agents do before their first calls is searched in the order of the agents, so they begin in turn. */
