@@ -103,8 +103,8 @@ function endedBy(words) {
 }
 
 /** @param {number} bytes of what a search has found that had no room */
-const leftOutText = (bytes) => `sabsim: ${bytes} bytes of what was found are left out: this module has no room for them, `
-  + "and the native program writes them\n";
+const leftOutText = (bytes) => `sabsim: ${bytes} bytes of what was found are left out: this module has no room for `
+  + "them, and the native program writes them\n";
 
 /**
  * Does in this process what the program does.

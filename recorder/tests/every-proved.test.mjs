@@ -56,12 +56,15 @@ test("lines that aren't whole, or that no search writes, are refused", () => {
     "a line twice": `${[first, ...others, others.at(-1)].join("\n")}\n`,
     "another order": `${[first, ...[...others].reverse()].join("\n")}\n`,
     "another kind": lines.replace('"kind":"final"', '"kind":"finals"'),
-    "a member less": lines.replace('"acts":', '"act":'),
+    "another member": lines.replace('"acts":', '"act":'),
     "no JSON": `${lines}nothing\n`,
     "the first line alone": `${first}\n`,
   };
   for (const [what, text] of Object.entries(texts)) assert.throws(() => resultIn(text), BadLines, what);
 });
+
+/** @param {any[]} all @param {object} more @returns {any[]} */
+const allWith = (all, more) => all.map((one) => ({ ...one, ...more }));
 
 test("a second search that finds something else is noticed", async () => {
   const { data, result } = foundIn("late-notify");
@@ -70,11 +73,11 @@ test("a second search that finds something else is noticed", async () => {
   const unknown = [{ automaton: 0, node: 1, answer: "5", states: 1, schedule: [] }];
   const changes = {
     states: { states: result.states + 1 }, acts: { acts: result.acts + 1 }, closed: { closed: false },
-    failed: { failed: [] }, "another text": { failed: result.failed.map((/** @type {any} */ one) => ({ ...one, text: "x" })) },
+    failed: { failed: [] }, "another text": { failed: allWith(result.failed, { text: "x" }) },
     deadlock: { deadlock: { states: 1, schedule: [] } }, "no way out": { no_way_out: { states: 1, schedule: [] } },
     conflicts: { conflicts: { count: 1, listed: [{ pair: [[0, 1], [1, 1]], states: 1, schedule: [] }] } },
     finals: { final: { ...result.final, count: 7 } }, "final states": { final: { ...result.final, states: 0 } },
-    bytes: { final: { ...result.final, listed: result.final.listed.map((/** @type {any} */ one) => ({ ...one, blocks: ["00"] })) } },
+    bytes: { final: { ...result.final, listed: allWith(result.final.listed, { blocks: ["00"] }) } },
     unknown: { unknown }, limit: { limit: 7 },
   };
   for (const [what, change] of Object.entries(changes)) {
@@ -89,7 +92,8 @@ test("what the summary says must be what the proved search has found", () => {
   const finding = { kind: "threw", text: "", row: [], changes: 0, acts: 0, isEarly: false, goesOn: false };
   const states = result.failed.reduce((/** @type {number} */ sum, /** @type {any} */ one) => sum + one.states, 0);
   needFound([/** @type {any} */ ({ ...finding, states })], result);
-  for (const findings of [[], [{ ...finding, states: 1 }], [{ ...finding, states }, { ...finding, states: 1, kind: "race" }]]) {
+  const race = { ...finding, states: 1, kind: "race" };
+  for (const findings of [[], [{ ...finding, states: 1 }], [{ ...finding, states }, race]]) {
     assert.throws(() => needFound(/** @type {any} */ (findings), result), NotAsLearned);
   }
 });
@@ -120,7 +124,8 @@ test("automata that no file can have aren't searched again, and it is said", asy
     [large, /too large for it: 1\d{7} bytes/], [many, /262145 nodes/], [wide, /65537 edges/],
     [{ ...data, views: Array(65).fill(data.views[0]) }, /65 arrays/], [strange, /no text in UTF-8/],
   ])) {
-    await assert.rejects(provedSearch(given, bounds), (error) => error instanceof NotSearched && wanted.test(error.message));
+    const isWanted = (/** @type {unknown} */ error) => error instanceof NotSearched && wanted.test(error.message);
+    await assert.rejects(provedSearch(given, bounds), isWanted);
   }
 });
 

@@ -53,7 +53,8 @@ test("files that were drawn", withPython, () => {
   const folder = mkdtempSync(join(tmpdir(), "sabsim-drawn-"));
   const script = join(folder, "draws.py");
   writeFileSync(script, DRAWS);
-  const { stdout, error, status, stderr } = spawnSync("python3", [script, SEARCH, "1", "200"], { encoding: "utf8", maxBuffer: 2 ** 28 });
+  const options = /** @type {const} */ ({ encoding: "utf8", maxBuffer: 2 ** 28 });
+  const { stdout, error, status, stderr } = spawnSync("python3", [script, SEARCH, "1", "200"], options);
   rmSync(folder, { recursive: true });
   assert.equal(error, undefined);
   assert.equal(status, 0, stderr);
@@ -65,8 +66,9 @@ test("files that were drawn", withPython, () => {
 // Modules of agents whose automata are searched by the model, too.
 const MODULES = [
   "examples/late-notify.agents.mjs", "examples/late-notify-mended.agents.mjs", "tests/known/spin-ordinarily.mjs",
-  "tests/known/flag-read-ordinarily.mjs", "tests/known/deque-wraps.mjs", "tests/known/struct.mjs", "tests/known/text.mjs",
-  "tests/known/failed-exchange.mjs", "tests/known/spin-on-shut-door.mjs", "tests/known/last-one-sums.mjs",
+  "tests/known/flag-read-ordinarily.mjs", "tests/known/deque-wraps.mjs", "tests/known/struct.mjs",
+  "tests/known/text.mjs", "tests/known/failed-exchange.mjs",
+  "tests/known/spin-on-shut-door.mjs", "tests/known/last-one-sums.mjs",
   "bench/programs/lost-wake-up.mjs", "bench/programs/ring-frees-first.mjs", "bench/pieces/wait-notify.mjs",
 ];
 
@@ -91,14 +93,17 @@ test("the automata of modules of agents", withPython, async (context) => {
   const folder = mkdtempSync(join(tmpdir(), "sabsim-automata-"));
   context.after(() => rmSync(folder, { recursive: true }));
   writeFileSync(join(folder, "spins.mjs"), SPINS);
-  const urls = [...MODULES.map((path) => new URL(`../${path}`, import.meta.url)), pathToFileURL(join(folder, "spins.mjs"))];
+  const known = MODULES.map((path) => new URL(`../${path}`, import.meta.url));
+  const urls = [...known, pathToFileURL(join(folder, "spins.mjs"))];
   for (const { href: module } of urls) {
-    const wanted = { module, args: [], place: {}, timeouts: /** @type {"early"} */ ("early"), limit: 20_000, within: 60 };
+    const timeouts = /** @type {const} */ ("early");
+    const wanted = { module, args: [], place: {}, timeouts, limit: 20_000, within: 60 };
     const { file, isClosed, result } = await learnApart(wanted, { seconds: 10 });
     assert.ok(isClosed, module);
     const path = join(folder, "automata.json");
     writeFileSync(path, JSON.stringify(file));
-    const { stdout, error, status, stderr } = spawnSync("python3", [join(SEARCH, "result"), "--limit", "20000", path], { encoding: "utf8" });
+    const words = [join(SEARCH, "result"), "--limit", "20000", path];
+    const { stdout, error, status, stderr } = spawnSync("python3", words, { encoding: "utf8" });
     assert.equal(error, undefined);
     assert.equal(status, 0, `${module}: ${stderr}`);
     const { status: _status, ...model } = JSON.parse(stdout);

@@ -10,9 +10,8 @@ const FIRST_ROOM = 2 ** 18;
 const JOBS = ["replay", "check", "judge", "judge-trace"];
 const FORMATS = ["plain", "explained", "json", "svg", "script"];
 
-/** What the search takes for when waits' times may be over, and for a format, in their order from 0. */
+/** What the search takes for when waits' times may be over, in its order from 0. */
 const TIMEOUTS = ["early", "last", "never"];
-const SEARCH_FORMATS = ["plain", "json"];
 
 // Room for what a search finds, as far as it isn't known. A memory has 4 GiB, and the search needs most of it.
 const ROOM_OF_SEARCH = 2 ** 26;
@@ -123,7 +122,7 @@ export class Instance {
    * @returns {EndedSearch}
    */
   search({ timeouts, limit, format = "plain", states = false, explain = false }, input, room) {
-    const numbers = [TIMEOUTS.indexOf(timeouts), limit, SEARCH_FORMATS.indexOf(format), Number(states), Number(explain)];
+    const numbers = [TIMEOUTS.indexOf(timeouts), limit, FORMATS.indexOf(format), Number(states), Number(explain)];
     const at = BigInt(this.#put(NOTHING, input));
     const size = BigInt(input.length);
     return this.#ask((...place) => {
@@ -181,8 +180,8 @@ export class Instance {
 
   /**
    * Calls an export until its room is large enough.
-   * @param {(at: bigint, size: bigint, reply: bigint) => void} call what is called with the room's address and length and
-   * the reply's address
+   * @param {(at: bigint, size: bigint, reply: bigint) => void} call what is called with the room's address and length
+   * and the reply's address
    * @param {number} size of the input: most reports are a few times as long
    * @param {number} [room] at least
    * @returns {{ wants: number, ended: EndedSearch }}

@@ -86,7 +86,8 @@ export class Every {
 
   /** What agents do before their first calls is searched in the order of the agents, so they begin in turn. */
   #ofRuns() {
-    return { ...this.options, inTurn: true, isBrief: false, trace: true, checkEvery: 1, sabsim: /** @type {false} */ (false) };
+    const sabsim = /** @type {false} */ (false);
+    return { ...this.options, inTurn: true, isBrief: false, trace: true, checkEvery: 1, sabsim };
   }
 
   /** @param {Runs} runs */

@@ -1,7 +1,10 @@
 // What `sabsim search --format json` writes of a search's result.
 
-/** @param {object} row @returns {string} */
-const line = (row) => `${JSON.stringify(row)}\n`;
+/** @param {Record<string, any>} row @returns {string} with its members in the order of their names */
+function line(row) {
+  const sorted = Object.keys(row).sort().map((name) => [name, row[name]]);
+  return `${JSON.stringify(Object.fromEntries(sorted))}\n`;
+}
 
 /** @param {import("../../lib/every/search/result.mjs").Result} result @returns {string} */
 export function linesOf({ deadlock, failed, no_way_out: noWayOut, unknown, conflicts, final, ...whole }) {

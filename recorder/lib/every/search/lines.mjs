@@ -38,10 +38,10 @@ function parsed(line, at) {
   }
 }
 
-/** @param {object} row @param {string[]} names in their order @param {number} at the number of its line */
+/** @param {object} row @param {string[]} names @param {number} at the number of its line */
 function needMembers(row, names, at) {
-  const found = Object.keys(row ?? {});
-  need(found.join() === names.join(), `line ${at + 1} has the members ${found.join(", ")}, and not ${names.join(", ")}`);
+  const [found, wanted] = [Object.keys(row ?? {}), names].map((all) => [...all].sort().join(", "));
+  need(found === wanted, `line ${at + 1} has the members ${found}, and not ${wanted}`);
 }
 
 /**
@@ -65,7 +65,8 @@ export function resultIn(text) {
     found[/** @type {Kind} */ (kind)].push(row);
   });
   for (const kind of KINDS) need(found[kind].length <= MOST[kind], `there are ${found[kind].length} lines of ${kind}`);
-  for (const [kind, count] of /** @type {[Kind, number][]} */ ([["conflict", whole.conflicts], ["final", whole.finals]])) {
+  const counts = /** @type {[Kind, number][]} */ ([["conflict", whole.conflicts], ["final", whole.finals]]);
+  for (const [kind, count] of counts) {
     const listed = Math.min(count, MOST[kind]);
     need(found[kind].length === listed, `there are ${found[kind].length} lines of ${kind}, and not ${listed}`);
   }
