@@ -3,14 +3,16 @@
 
 import { Runs } from "../seeds/runs.mjs";
 import { Agreement } from "./agreement.mjs";
-import { DoesOtherwise, Unlearned, learnAgain, learnApart } from "./learning/apart.mjs";
+import { DoesOtherwise, Unlearned, beginAgain, learnAgain, learnApart } from "./learning/apart.mjs";
 import { NotAsLearned } from "./not-as-learned.mjs";
 import { programOf } from "./search/file.mjs";
+import { beginSearch } from "./proved.mjs";
 import { comparedBySecond, needFound } from "./second.mjs";
 import { shown } from "./showing.mjs";
 
 /** @typedef {import("./learning/report.mjs").Report} Report */
 /** @typedef {import("./showing.mjs").Shown} Shown */
+/** @typedef {import("./proved.mjs").Thread} Thread */
 
 /**
  * @typedef {import("../seeds/runs.mjs").RunsOptions & { within: number, states: number, agents?: number,
@@ -41,6 +43,8 @@ export class Every {
     this.onProgress = onProgress;
     /** @type {import("../seeds/job.mjs").Checked[]} of the real runs */
     this.outcomes = [];
+    /** @type {{ again: Thread, search: Thread | undefined } | undefined} */
+    this.threads = undefined;
   }
 
   /** @returns {Promise<Tried>} */
@@ -57,21 +61,24 @@ export class Every {
     // If something else fails, nobody waits for the runs.
     running.catch(() => {});
     const ending = new AbortController();
+    // These load what they need while the agents are learned.
+    this.threads = { again: beginAgain(), search: this.options.sabsim ? undefined : beginSearch() };
     try {
       const report = await this.#report();
       const nothing = { realRuns: 0, isProved: false, notProved: undefined, shown: [] };
       if (typeof report === "string") return { report: undefined, open: report, ...nothing };
       if (!report.isClosed) return { report, open: openText(report), ...nothing };
       if (report.changesBuiltins) throw new NotAsLearned(CHANGES_BUILTINS);
-      const [second] = await Promise.all([this.#second(report, ending.signal), this.#learnAgain(report), running]);
-      const { result = report.result, why } = second;
-      const realRuns = this.#agreeing(report);
+      const [{ result = report.result, why }, realRuns] = await Promise.all([
+        this.#second(report, ending.signal), this.#agreeing(report, running), this.#learnAgain(report),
+      ]);
       const shown = await this.#shown(report);
       const proved = { isProved: why === undefined, notProved: why };
       return { report: { ...report, result }, open: undefined, realRuns, ...proved, shown };
     } finally {
       ending.abort();
-      await real.close();
+      const { again, search } = this.threads;
+      await Promise.all([real.close(), again.stop(), search?.stop()]);
     }
   }
 
@@ -79,7 +86,8 @@ export class Every {
   async #second({ file, findings, result }, ending) {
     const { sabsim } = this.options;
     const signal = this.signal === undefined ? ending : AbortSignal.any([ending, this.signal]);
-    const second = await comparedBySecond(file, result, { program: sabsim || undefined, signal });
+    const { search: thread } = this.threads ?? {};
+    const second = await comparedBySecond(file, result, { program: sabsim || undefined, signal, thread });
     if (second.result !== undefined) needFound(findings, second.result);
     return second;
   }
@@ -113,16 +121,25 @@ export class Every {
   /** @param {Report} report */
   async #learnAgain({ edges, isShared, nodes, plan }) {
     const { args, fresh, module } = this.options;
-    const differs = await learnAgain({ module, args, plan, isShared, isFresh: fresh === true, nodes, edges });
+    const given = { module, args, plan, isShared, isFresh: fresh === true, nodes, edges };
+    const differs = await learnAgain(given, this.threads?.again);
     if (differs === undefined) return;
     throw new NotAsLearned(`the code as it is written, loaded anew, does something else than was learned. ${differs}. `
       + "It may keep something from run to run, or go by chance or by a clock");
   }
 
-  /** @param {Report} report @returns {number} how many real runs are ways through the automata */
-  #agreeing({ file }) {
+  /**
+   * Compares the real runs, those that were made first.
+   * @param {Report} report
+   * @param {Promise<void>} running
+   * @returns {Promise<number>} how many are ways through the automata
+   */
+  async #agreeing({ file }, running) {
     const agreement = new Agreement(programOf(file));
-    for (const outcome of this.outcomes) agreement.needs(outcome);
+    const early = this.outcomes.length;
+    for (const outcome of this.outcomes.slice(0, early)) agreement.needs(outcome);
+    await running;
+    for (const outcome of this.outcomes.slice(early)) agreement.needs(outcome);
     return agreement.compared;
   }
 

@@ -15,7 +15,8 @@ export function main() {
   const { job, port, room, text } =
     /** @type {Given & { port: import("node:worker_threads").MessagePort }} */ (workerData);
   try {
-    port.postMessage({ ended: new ModuleSimulator().search(job, text, room) });
+    const simulator = new ModuleSimulator();
+    port.postMessage({ ended: simulator.canSearch ? simulator.search(job, text, room) : undefined });
   } catch (problem) {
     port.postMessage({ failed: /** @type {Error} */ (problem).message });
   }

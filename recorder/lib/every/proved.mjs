@@ -2,7 +2,6 @@
 // if one is chosen.
 
 import { begunThread } from "../processes/thread.mjs";
-import { ModuleSimulator } from "../simulator/module.mjs";
 import { NativeSimulator } from "../simulator/native.mjs";
 import { MOST_OF_AUTOMATA } from "../../script/limits.mjs";
 import { NotAsLearned } from "./not-as-learned.mjs";
@@ -11,6 +10,7 @@ import { resultIn, statusOf } from "./search/lines.mjs";
 /** @typedef {import("./search/file.mjs").FileData} FileData */
 /** @typedef {import("./search/result.mjs").Result} Result */
 /** @typedef {import("../simulator/module.mjs").EndedSearch} EndedSearch */
+/** @typedef {import("../processes/thread.mjs").Thread} Thread */
 
 /**
  * @typedef {object} Bounds
@@ -19,6 +19,7 @@ import { resultIn, statusOf } from "./search/lines.mjs";
  * @property {number} size about how many bytes what is found has as JSON
  * @property {string} [program] the path of the native program, if it is to search
  * @property {AbortSignal} [signal]
+ * @property {Thread} [thread] that was begun for the search by the module
  */
 
 /** The proved search couldn't search: the message says why. */
@@ -42,12 +43,12 @@ const OUT_OF_MEMORY = 4;
  * @returns {Promise<Result>}
  * @throws {NotSearched | NotAsLearned}
  */
-export async function provedSearch(data, { timeouts, limit, size, program, signal }) {
+export async function provedSearch(data, { timeouts, limit, size, program, signal, thread }) {
   const text = JSON.stringify(data);
   needSmall(data, text);
   const job = /** @type {const} */ ({ timeouts, limit, format: "json" });
   const ended = program === undefined
-    ? await byModule({ job, text, room: 2 * size + MORE_ROOM }, signal)
+    ? await byModule({ job, text, room: 2 * size + MORE_ROOM }, signal, thread)
     : await new NativeSimulator(program).search(job, text, signal);
   if (ended === undefined) throw new NotSearched("the simulator has no search yet");
   return resultOf(ended);
@@ -67,14 +68,20 @@ function needSmall({ automata, views }, text) {
   if (strange) throw new NotSearched("what an agent threw is no text in UTF-8");
 }
 
+/** @returns {Thread} one that searches, once it is given what: it loads the recorder's modules ahead of that */
+export function beginSearch() {
+  const thread = begunThread(SEARCHING);
+  thread.giveAhead(SEARCHING);
+  return thread;
+}
+
 /**
  * @param {import("./proved-worker.mjs").Given} given
  * @param {AbortSignal} [signal]
+ * @param {Thread} [thread]
  * @returns {Promise<EndedSearch | undefined>} undefined: the module has no search
  */
-async function byModule(given, signal) {
-  if (!new ModuleSimulator().canSearch) return undefined;
-  const thread = begunThread(SEARCHING);
+async function byModule(given, signal, thread = beginSearch()) {
   const stop = () => void thread.stop();
   signal?.addEventListener("abort", stop);
   thread.give(SEARCHING, given);

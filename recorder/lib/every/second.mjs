@@ -16,6 +16,7 @@ import { NotSearched, provedSearch } from "./proved.mjs";
  * @typedef {object} How
  * @property {string} [program] the path of the native program, if it is to search
  * @property {AbortSignal} [signal]
+ * @property {import("./proved.mjs").Thread} [thread] that was begun for it
  * @property {SecondSearch} [search] in place of the proved one, for tests
  */
 
