@@ -94,7 +94,7 @@ export class NativeSimulator {
   }
 }
 
-/** @param {import("node:stream").Readable} stream @returns {() => string} all that has come of it */
+/** @param {NodeJS.Listened} stream @returns {() => string} all that has come of it */
 function textOf(stream) {
   /** @type {Buffer[]} */
   const parts = [];

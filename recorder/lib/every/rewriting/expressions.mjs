@@ -82,7 +82,7 @@ function writeObject(writer, tree, info) {
   /** @type {Set<Tree>} */
   const shorthand = new Set(properties.flatMap((/** @type {Tree} */ one) => (one.shorthand ? [one.value] : [])));
   values.forEach((/** @type {Tree} */ one, /** @type {number} */ at) => {
-    if (at >= last || !writer.isKept(one)) return;
+    if (at >= last || !(keys.has(one) ? !isConstant(one) : writer.isKept(one))) return;
     if (one.type === "SpreadElement") {
       hide(writer, tree.start, tree.end);
       return;

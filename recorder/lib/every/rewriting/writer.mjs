@@ -230,7 +230,7 @@ export class Writer {
    * @param {Tree[]} members
    */
   #methodsOf(members) {
-    const last = members.findLastIndex((one) => one.type === "SpreadElement" || nameOf(one) === undefined);
+    const last = members.map((one) => nameOf(one) === undefined).lastIndexOf(true);
     const rows = members.flatMap((one, at) => {
       const name = nameOf(one);
       const isNamed = (one.type === "MethodDefinition" || isMethod(one)) && one.kind !== "constructor";

@@ -3,6 +3,7 @@
 import { types } from "node:util";
 import { anyWatchedOf } from "../../agent/ordinary/watched.mjs";
 import { blockNumber } from "../../agent/ordinary/context.mjs";
+import { hexOf } from "../search/elements.mjs";
 import { ShownIterator, UNKNOWN } from "./runtime.mjs";
 
 /** @typedef {import("./runtime.mjs").Cell} Cell */
@@ -34,9 +35,9 @@ const sourceOf = reader(RegExp.prototype, "source");
 const FLAGS = [
   "hasIndices", "global", "ignoreCase", "multiline", "dotAll", "unicode", "unicodeSets", "sticky",
 ].map((name) => reader(RegExp.prototype, name));
-const lengthOf = reader(ArrayBuffer.prototype, "byteLength");
 const isResizable = reader(ArrayBuffer.prototype, "resizable");
-const { slice: sliceOf } = ArrayBuffer.prototype;
+// It is watched when the agents' code is there.
+const EngineBytes = Uint8Array;
 const stackOfErrors = /** @type {PropertyDescriptor} */ (Reflect.getOwnPropertyDescriptor(new Error("stack"), "stack"));
 const { has: weakSetHas } = WeakSet.prototype;
 const entriesOf = Map.prototype.entries;
@@ -267,6 +268,7 @@ export class Walk {
     }
     if (Reflect.ownKeys(object).length > 0) throw new CantShow("a buffer, or a DataView, with properties");
     if (ArrayBuffer.isView(object)) {
+      bytesOf(OF_VIEWS[2](object));
       const [length, offset, buffer] = OF_VIEWS.map((read) => read(object));
       this.out.push("DataView", offset, length);
       this.value(buffer);
@@ -280,11 +282,8 @@ export class Walk {
   /** @param {ArrayBuffer} buffer */
   #buffer(buffer) {
     if (isResizable(buffer)) throw new CantShow("a buffer that can be resized");
-    try {
-      this.out.push(Buffer.from(sliceOf.call(buffer, 0)).toString("hex"), lengthOf(buffer));
-    } catch {
-      throw new CantShow("a buffer that was given away");
-    }
+    const bytes = bytesOf(buffer);
+    this.out.push(hexOf(bytes, 0, bytes.length), bytes.length);
   }
 
   /** @param {object} object */
@@ -344,6 +343,15 @@ export class Walk {
       this.value(get);
       this.value(set);
     }
+  }
+}
+
+/** @param {ArrayBufferLike} buffer @returns {Uint8Array} its bytes */
+function bytesOf(buffer) {
+  try {
+    return new EngineBytes(buffer);
+  } catch {
+    throw new CantShow("a buffer that was given away");
   }
 }
 
