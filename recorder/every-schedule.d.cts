@@ -70,7 +70,7 @@ export interface EverySchedule {
   realRuns: number;
   /** Whether the proved search has found the same: the numbers of states and acts are its own then. */
   searchProved: boolean;
-  /** Why there was no proved search. */
+  /** Why there was no proved search; null if there was one, or if not every schedule was tried. */
   notProved: string | null;
   /** The automaton with the most nodes, and the line whose answers are the most. */
   widest: { automaton: number; nodes: number; line: string | null; answers: number } | null;

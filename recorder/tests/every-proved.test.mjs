@@ -24,7 +24,7 @@ const PROGRAM = fileURLToPath(new URL("helpers/searching-program.mjs", HERE));
 const LOCK = fileURLToPath(new URL("../examples/mutex-three-state.agents.mjs", HERE));
 
 /** The module may be older than its search. */
-const withSearch = needing("a module that searches", new ModuleSimulator().canSearch);
+const withSearch = needing("search in the module", new ModuleSimulator().canSearch);
 
 /** @param {string} name of an example @returns {any} */
 const read = (name) => JSON.parse(readFileSync(new URL(`${name}.json`, EXAMPLES), "utf8"));
