@@ -9,6 +9,7 @@ import { join } from "node:path";
 import { test } from "node:test";
 import { fileURLToPath, pathToFileURL } from "node:url";
 import { learnApart } from "../lib/every/learning/apart.mjs";
+import { resultIn, statusOf } from "../lib/every/search/lines.mjs";
 import { searched } from "../lib/every/search/second.mjs";
 import { needing } from "./helpers/needs.mjs";
 
@@ -33,19 +34,21 @@ for (const name of readdirSync(EXAMPLES).filter((file) => !file.endsWith(".resul
   });
 }
 
-// Prints files that the model's drawing makes, and the model's results, as JSON.
+// Prints files that the model's drawing makes, the model's results, and the lines that the program prints of each.
 const DRAWS = `
 import json, sys
 sys.path.insert(0, sys.argv[1])
 sys.dont_write_bytecode = True
 from checks.drawn import drawn
 from model.reading import read
+from model.lines import lines_of
 from model.result import result_of
 found = []
 for seed in range(int(sys.argv[2]), int(sys.argv[3])):
     it = drawn(seed)
     for choice in ("early", "last", "never"):
-        found.append([it.file, result_of(read(json.dumps(it.file).encode()), choice, it.limit)])
+        result = result_of(read(json.dumps(it.file).encode()), choice, it.limit)
+        found.append([it.file, result, "".join(line + "\\n" for line in lines_of(result))])
 print(json.dumps(found))
 `;
 
@@ -60,7 +63,12 @@ test("files that were drawn", withPython, () => {
   assert.equal(status, 0, stderr);
   const drawn = JSON.parse(stdout);
   assert.equal(drawn.length, 3 * 199);
-  for (const [data, wanted] of drawn) compare(data, wanted);
+  for (const [data, wanted, lines] of drawn) {
+    compare(data, wanted);
+    const { status, ...result } = wanted;
+    assert.deepEqual(resultIn(lines), result);
+    assert.equal(statusOf(resultIn(lines)), status);
+  }
 });
 
 // Modules of agents whose automata are searched by the model, too.

@@ -48,9 +48,10 @@ const NOTHING = Object.freeze({
 });
 
 /** @param {Tried} tried @returns {EveryData} */
-export function dataOf({ report, open, realRuns, isProved, notProved = null, shown, milliseconds }) {
+export function dataOf({ report, open, realRuns, isProved, notProved, shown, milliseconds }) {
   const closed = open === undefined;
-  const common = { closed, open: open ?? null, realRuns, searchProved: isProved, notProved, milliseconds };
+  const proved = { searchProved: isProved, notProved: notProved ?? null };
+  const common = { closed, open: open ?? null, realRuns, ...proved, milliseconds };
   if (report === undefined) return { ...NOTHING, agents: 0, ...common };
   const { counts, depth = null, edges, findings, hidden, plan, result, widest } = report;
   const found = findings.map(({ row: _row, goesOn: _goesOn, ...finding }) => {

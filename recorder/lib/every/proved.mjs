@@ -57,9 +57,10 @@ export async function provedSearch(data, { timeouts, limit, size, program, signa
 /** @param {FileData} data @param {string} text of the file @throws {NotSearched} if no file may be so large */
 function needSmall({ automata, views }, text) {
   const nodes = automata.flatMap(({ nodes: own }) => own);
+  const bytes = new TextEncoder().encode(text).length;
   const edges = nodes.reduce((most, { edges: own = [] }) => Math.max(most, own.length), 0);
   for (const [many, most, what] of /** @type {[number, number, string][]} */ ([
-    [Buffer.byteLength(text), MOST_OF_AUTOMATA, "bytes"], [nodes.length, MOST_NODES, "nodes"],
+    [bytes, MOST_OF_AUTOMATA, "bytes"], [nodes.length, MOST_NODES, "nodes"],
     [edges, MOST_EDGES, "edges of a node"], [views.length, MOST_VIEWS, "arrays"],
   ])) {
     if (many > most) throw new NotSearched(`the automata are too large for it: ${many} ${what}, and ${most} at most`);

@@ -25,7 +25,7 @@ import { NotSearched, provedSearch } from "./proved.mjs";
  * show other schedules.
  * @param {FileData} data
  * @param {Result} result of the search in JavaScript
- * @param {How} [how]
+ * @param {How} how
  * @returns {Promise<Second>}
  * @throws {NotAsLearned}
  */

@@ -54,7 +54,8 @@ export function resultIn(text) {
   const [first, ...lines] = text.slice(0, -1).split("\n");
   const whole = parsed(first, 0);
   needMembers(whole, WHOLE, 0);
-  const found = /** @type {Record<Kind, any[]>} */ (Object.fromEntries(KINDS.map((kind) => [kind, []])));
+  /** @type {Record<Kind, any[]>} */
+  const found = { deadlock: [], failed: [], "no way out": [], unknown: [], conflict: [], final: [] };
   let last = 0;
   lines.forEach((line, at) => {
     const { kind, ...row } = parsed(line, at + 1);
