@@ -1,10 +1,11 @@
 -- How the program ends, of what was shown of its parts.
 use Rattle.std.proofs.Common.{◌≡◌, ◌≢◌, ℕ, Bool, List, [], ◌++◌, Option, Some, Result, Ok, Err, IfOk, OnOk}
-use Rattle.std.proofs.Common.{codes, inl, inr, sym, subst, ap}
+use Rattle.std.proofs.Common.{codes, inl, inr, refl, sym, subst, ap}
 use Rattle.sab_text.specs.declared.format.VerdictFormat.{VerdictFormat}
 use Rattle.sab_tool.specs.declared.tool_fault.ToolFault.{ToolFault}
 use Rattle.sab_tool.specs.declared.tool_fault.ToolFault.TheVariants.{WriteFailed}
 use Rattle.sab_command.specs.declared.job.Job.{Job}
+use Rattle.sab_command.specs.declared.job.SearchJob.{SearchJob}
 use Rattle.sab_command.specs.declared.request.Source.{Source}
 use Rattle.sab_ending.specs.declared.complaint.Complaint.{Complaint}
 use Rattle.sab_ending.specs.declared.outcome.Outcome.{Outcome}
@@ -16,8 +17,9 @@ use Rattle.sab_run.specs.Failure.{NamesFile, explanation_text, line_of}
 use Rattle.sab_run.specs.Explaining.{IsExplanation}
 use Rattle.sab_run.specs.Running.{RunsGiven, IsRunFault, IsUnwritten}
 use Rattle.sab_run.specs.Tracing.{JudgesTrace, IsTraceFailure}
+use Rattle.sab_run.specs.Searching.{SearchesGiven, IsSearchFailure}
 use Rattle.sabsim_wasm.specs.declared.written.Written.{Written}
-use Rattle.sabsim_wasm.specs.Program.{WrittenParts, written_of, written_by, done, Fails, EndsOfScript, EndsOfTrace}
+use Rattle.sabsim_wasm.specs.Program.{WrittenParts, written_of, written_by, done, Fails, EndsOfScript, EndsOfTrace, EndsOfSearch}
 
 -- what was done of a script, from an empty output
 pub script_done : (job : Job) (source : Source) (explain : Bool) (script : List ℕ) (outcome : Outcome)
@@ -111,4 +113,26 @@ fails_by failure source c written fault named line why is =
       subst (λ (it : List ℕ). written ≡ written_of status [] (text_of failure.fault
           ++ (file_text c.file ++ (line_text (line_of failure.explanation) ++ (codes "\n"
           ++ (advice_text failure.fault ++ it)))))) why of_line,
+    )
+
+-- what was found, from an empty output
+pub search_done : (job : SearchJob) (source : Source) (explain : Bool) (file : List ℕ) (outcome : Outcome)
+    (old new : List ℕ) → old ≡ [] → SearchesGiven job outcome (Some old) (Some new) file
+    → EndsOfSearch job source explain file (done outcome new)
+search_done job source explain file outcome old new empty searches =
+    inl (outcome, subst (λ (it : List ℕ). SearchesGiven job outcome (Some it) (Some new) file) empty searches, refl)
+
+-- what a search fails for, with an empty output
+pub search_failed : (job : SearchJob) (source : Source) (explain : Bool) (file : List ℕ) (failure : Failure)
+    (old new : List ℕ) (written : WrittenParts) → IsSearchFailure (Some file) explain (Some old) (Some new) failure
+    → IsUnwritten (Some old) (Some new) failure.fault → old ≡ [] → Fails failure source written
+    → failure.fault ≢ WriteFailed → EndsOfSearch job source explain file written
+search_failed job source explain file failure old new written fails unwritten empty is other =
+    let kept : new ≡ old = kept_of old new failure.fault unwritten other in
+    inr (
+      failure,
+      subst (λ (it : List ℕ). IsSearchFailure (Some file) explain (Some it) (Some it) failure) empty
+          (subst (λ (it : List ℕ). IsSearchFailure (Some file) explain (Some old) (Some it) failure) kept fails),
+      other,
+      is,
     )

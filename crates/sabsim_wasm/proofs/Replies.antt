@@ -6,10 +6,11 @@ use Rattle.clap.specs.declared.error.kind.ErrorKind.{ErrorKind}
 use Rattle.clap.specs.declared.error.kind.ErrorKind.TheVariants.{OutOfMemory}
 use Rattle.sab_command.specs.declared.request.Request.{Request}
 use Rattle.sab_command.specs.declared.request.Task.{Task}
+use Rattle.sab_command.specs.declared.job.SearchJob.{SearchJob}
 use Rattle.sab_command.specs.Asked.{IsAsked, IsRefused}
 use Rattle.sab_command.specs.Job.{IsTaskWithinLimits}
 use Rattle.sabsim_wasm.specs.declared.reply.Reply.{Reply}
-use Rattle.sabsim_wasm.specs.Exports.{PutsSuch, RepliesToTask, RepliesToInput, RepliesToRefusal, RepliesToWords}
+use Rattle.sabsim_wasm.specs.Exports.{PutsSuch, RepliesToTask, RepliesToSearch, RepliesToInput, RepliesToRefusal, RepliesToWords}
 use Rattle.sabsim_wasm.specs.Exports.{IsForErrors}
 use Rattle.sabsim_wasm.specs.Program.{WrittenParts, written_of, parsed}
 use Rattle.sabsim_wasm.specs.Room.{Puts}
@@ -24,6 +25,12 @@ pub numbers : (task named : Option Task) (explain : Bool) (input old new : List 
     → task ≡ named → RepliesToTask task explain input old new reply → RepliesToTask named explain input old new reply
 numbers task named explain input old new reply same replies =
     subst (λ (it : Option Task). RepliesToTask it explain input old new reply) same replies
+
+-- the numbers ask for this search
+pub searched : (job named : Option SearchJob) (explain : Bool) (input old new : List ℕ) (reply : Reply)
+    → job ≡ named → RepliesToSearch job explain input old new reply → RepliesToSearch named explain input old new reply
+searched job named explain input old new reply same replies =
+    subst (λ (it : Option SearchJob). RepliesToSearch it explain input old new reply) same replies
 
 -- the words that a text spells, which is that of these bytes
 these : (bytes text : List ℕ) (words : List (List ℕ)) → text ≡ bytes → words ≡ words_of text → words ≡ words_of bytes
