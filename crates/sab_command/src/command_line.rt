@@ -279,13 +279,9 @@ pub(crate) fn command<'a>(alloc: Global) -> Result<Command<'a>, AllocError>
         .version(help::VERSION)
         .subcommand_required(true);
     let sabsim = with_runs(alloc, sabsim, FORMATS.as_slice(), SHARES.as_slice())?;
-    let sabsim = with_checks(alloc, sabsim, VERDICT_FORMATS.as_slice())?;
-    with_search(
-        alloc,
-        sabsim,
-        TIMEOUTS.as_slice(),
-        VERDICT_FORMATS.as_slice(),
-    )
+    let formats = VERDICT_FORMATS.as_slice();
+    let sabsim = with_checks(alloc, sabsim, formats)?;
+    with_search(alloc, sabsim, TIMEOUTS.as_slice(), formats)
 }
 
 /// The command with those below it that run agents.

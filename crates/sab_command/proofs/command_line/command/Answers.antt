@@ -10,13 +10,13 @@ pub returns : goal.returns
 returns c =
     let formats_are : AreNames c.as_slice.result format_names = search rules in
     let shares_are : AreNames c.as_slice-2.result share_names = search rules in
-    let verdict_formats_are : AreNames c.as_slice-3.result verdict_format_names = search rules in
-    let timeouts_are : AreNames c.as_slice-4.result timeout_names = search rules in
+    let verdict_formats_are : AreNames c.as_slice-formats.result verdict_format_names = search rules in
+    let timeouts_are : AreNames c.as_slice-3.result timeout_names = search rules in
     let lists : Lists = record {
       formats = c.as_slice.result;
-      verdict_formats = c.as_slice-3.result;
+      verdict_formats = c.as_slice-formats.result;
       shares = c.as_slice-2.result;
-      timeouts = c.as_slice-4.result;
+      timeouts = c.as_slice-3.result;
       formats_are = formats_are;
       verdict_formats_are = verdict_formats_are;
       shares_are = shares_are;
