@@ -17,7 +17,10 @@ use Rattle.sab_run.specs.Failure.{NamesFile, explanation_text, line_of}
 use Rattle.sab_run.specs.Explaining.{IsExplanation}
 use Rattle.sab_run.specs.Running.{RunsGiven, IsRunFault, IsUnwritten}
 use Rattle.sab_run.specs.Tracing.{JudgesTrace, IsTraceFailure}
-use Rattle.sab_run.specs.Searching.{SearchesGiven, IsSearchFailure}
+use Rattle.sab_search.specs.declared.asked.SearchFault.{SearchFault}
+use Rattle.sab_search.specs.declared.asked.SearchFault.TheVariants as F
+use Rattle.sab_search.specs.Search.{IsSearchFault}
+use Rattle.sab_run.specs.Searching.{RunsSearchGiven, IsSearchFailure, IsFailureAfter, IsFailureOf, asked_of}
 use Rattle.sabsim_wasm.specs.declared.written.Written.{Written}
 use Rattle.sabsim_wasm.specs.Program.{WrittenParts, written_of, written_by, done, Fails, EndsOfScript, EndsOfTrace, EndsOfSearch}
 
@@ -117,22 +120,36 @@ fails_by failure source c written fault named line why is =
 
 -- what was found, from an empty output
 pub search_done : (job : SearchJob) (source : Source) (explain : Bool) (file : List ℕ) (outcome : Outcome)
-    (old new : List ℕ) → old ≡ [] → SearchesGiven job outcome (Some old) (Some new) file
+    (old new : List ℕ) → old ≡ [] → RunsSearchGiven job outcome (Some old) (Some new) file
     → EndsOfSearch job source explain file (done outcome new)
-search_done job source explain file outcome old new empty searches =
-    inl (outcome, subst (λ (it : List ℕ). SearchesGiven job outcome (Some it) (Some new) file) empty searches, refl)
+search_done job source explain file outcome old new empty runs =
+    inl (outcome, subst (λ (it : List ℕ). RunsSearchGiven job outcome (Some it) (Some new) file) empty runs, refl)
+
+-- nothing is written to an empty output before a search fails, unless a write failed
+unwritten_after : (job : SearchJob) (explain : Bool) (file old new : List ℕ) (failure : Failure)
+    → IsFailureAfter job explain (Some old) (Some new) file failure → failure.fault ≢ WriteFailed
+    → IsFailureAfter job explain (Some []) (Some []) file failure
+unwritten_after job explain file old new failure (inl after) other = go after.0 after.1 after.2
+  where
+    go : (fault : SearchFault) → IsSearchFault (asked_of job) (Some old) (Some new) file fault
+        → IsFailureOf explain fault failure → IsFailureAfter job explain (Some []) (Some []) file failure
+    go (F.Refused refusal) is of = inl (F.Refused refusal, (refl, is.1), of)
+    go F.OutOfMemory is of = inl (F.OutOfMemory, λ states. refl, of)
+    go F.WriteFailed is of = absurd (other (ap (λ (it : Failure). it.fault) of))
+unwritten_after job explain file old new failure (inr is) other =
+    absurd (other (ap (λ (it : Failure). it.fault) is))
+
+unwritten : (job : SearchJob) (explain : Bool) (file old new : List ℕ) (failure : Failure)
+    → IsSearchFailure (Some file) job explain (Some old) (Some new) failure → failure.fault ≢ WriteFailed
+    → IsSearchFailure (Some file) job explain (Some []) (Some []) failure
+unwritten job explain file old new failure (inl unread) other = inl (refl, unread.1, unread.2)
+unwritten job explain file old new failure (inr given) other =
+    inr (given.0, unwritten_after job explain file old new failure given.1 other)
 
 -- what a search fails for, with an empty output
 pub search_failed : (job : SearchJob) (source : Source) (explain : Bool) (file : List ℕ) (failure : Failure)
-    (old new : List ℕ) (written : WrittenParts) → IsSearchFailure (Some file) explain (Some old) (Some new) failure
-    → IsUnwritten (Some old) (Some new) failure.fault → old ≡ [] → Fails failure source written
+    (old new : List ℕ) (written : WrittenParts)
+    → IsSearchFailure (Some file) job explain (Some old) (Some new) failure → Fails failure source written
     → failure.fault ≢ WriteFailed → EndsOfSearch job source explain file written
-search_failed job source explain file failure old new written fails unwritten empty is other =
-    let kept : new ≡ old = kept_of old new failure.fault unwritten other in
-    inr (
-      failure,
-      subst (λ (it : List ℕ). IsSearchFailure (Some file) explain (Some it) (Some it) failure) empty
-          (subst (λ (it : List ℕ). IsSearchFailure (Some file) explain (Some old) (Some it) failure) kept fails),
-      other,
-      is,
-    )
+search_failed job source explain file failure old new written fails is other =
+    inr (failure, unwritten job explain file old new failure fails other, other, is)

@@ -19,7 +19,7 @@ use Rattle.sab_run.specs.Failure.{NamesFile, explanation_text, line_of}
 use Rattle.sab_run.specs.Explaining.{IsExplanation}
 use Rattle.sab_run.specs.Running.{RunsGiven, IsRunFault}
 use Rattle.sab_run.specs.Tracing.{JudgesTrace, IsTraceFailure}
-use Rattle.sab_run.specs.Searching.{SearchesGiven, IsSearchFailure}
+use Rattle.sab_run.specs.Searching.{RunsSearchGiven, IsSearchFailure}
 use Rattle.sabsim_wasm.specs.declared.written.Written.{Written}
 
 -- an exit status, and the bytes that go to standard output and to standard error
@@ -75,9 +75,9 @@ EndsOfTrace format source trace written =
 -- what `run_search` writes and returns of a file of automata, or what it fails for; no write fails
 abbrev pub EndsOfSearch : SearchJob → Source → Bool → List ℕ → WrittenParts → Type 0
 EndsOfSearch job source explain file written =
-    ((outcome : Outcome) × SearchesGiven job outcome (Some []) (Some written.output) file
+    ((outcome : Outcome) × RunsSearchGiven job outcome (Some []) (Some written.output) file
     × (written ≡ done outcome written.output))
-    ⊎ ((failure : Failure) × IsSearchFailure (Some file) explain (Some []) (Some []) failure
+    ⊎ ((failure : Failure) × IsSearchFailure (Some file) job explain (Some []) (Some []) failure
     × (failure.fault ≢ WriteFailed) × Fails failure source written)
 
 -- what a race can be made with, as a line
