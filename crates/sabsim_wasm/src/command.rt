@@ -57,7 +57,7 @@ fn reply_to(
     input: &[u8],
     room: &mut [u8],
 ) -> Reply
-    requires { IsTaskWithinLimits request.entry.task }
+    requires { IsTaskWithinLimits request.task }
     ensures { RepliesToInput given request.entry.task request.entry.source (request.entry.explain || is_terminal)
         input.now room.old room.new result }
 {

@@ -96,7 +96,6 @@ pub(crate) fn put_task(
 
 /// Searches the input, and puts the lines that the program writes and that fit into the room. So it is never searched
 /// again for a larger one.
-#[tactic(auto, using(crate::proofs::Replies::puts_found, crate::proofs::Replies::puts_failed))]
 fn put_search(
     alloc: Global,
     job: SearchJob,
