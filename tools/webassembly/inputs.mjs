@@ -96,11 +96,13 @@ export function largeInputs() {
 
 const FILE = fileURLToPath(new URL("examples/futex-mutex.json", CASES));
 const NOWHERE = "/nowhere/script.json";
+const searched = (name) => fileURLToPath(new URL(`tests/search/examples/${name}.json`, ROOT));
+const AUTOMATA = searched("late-notify");
 
 /** Command lines whose words decide what is written. `race` is done by the program alone. */
 export const COMMAND_LINES = [
   [], ["--help"], ["-h"], ["help"], ["--version"], ["-V"], ["help", "replay"], ["nothing"], ["--nothing"],
-  ["replay", "--help"], ["race", "--help"], ["judge", "--help"], ["check", "--help"],
+  ["replay", "--help"], ["race", "--help"], ["judge", "--help"], ["check", "--help"], ["search", "--help"],
   ["replay", FILE], ["replay", "-"], ["replay", "--", FILE], ["replay", FILE, FILE], ["replay", "--format=json", FILE],
   ["replay", ""], ["replay", NOWHERE], ["replay", "/nowhere/with\nline"], ["replay", "\u00e9t\u00e9.json"],
   ["replay", "--nothing"], ["replay", "--format"], ["replay", "--format", "nothing"], ["replay", "--format", "\u{1f600}"],
@@ -110,4 +112,9 @@ export const COMMAND_LINES = [
   ["judge", "--trace", "--finish"], ["judge", "--trace", "--explain"],
   ["race"], ["race", FILE], ["race", "--share", "nothing"], ["race", "--share", "lock", "--spins", "1001"],
   ["race", "--share", "ring", "--mix", "-1"],
+  ["search", AUTOMATA], ["search", "--states", AUTOMATA], ["search", "--format", "json", "--states", AUTOMATA],
+  ["search", "--timeouts", "last", AUTOMATA], ["search", "--timeouts", "never", "--format", "json", AUTOMATA],
+  ["search", "--limit", "3", AUTOMATA], ["search", "--limit", "4294967295", searched("mutex-of-3-agents")],
+  ["search", FILE], ["search", "--explain", FILE], ["search", NOWHERE], ["search"], ["search", "--limit", "0", AUTOMATA],
+  ["search", "--timeouts", "late", AUTOMATA], ["search", "--finish"],
 ];

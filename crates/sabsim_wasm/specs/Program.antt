@@ -5,9 +5,10 @@ use Rattle.std.specs.Borrow.{Bor}
 use Rattle.sab_text.specs.declared.format.VerdictFormat.{VerdictFormat}
 use Rattle.sab_tool.specs.declared.tool_fault.ToolFault.TheVariants.{NoThread, OutOfMemory, WriteFailed}
 use Rattle.sab_command.specs.declared.job.Job.{Job}
+use Rattle.sab_command.specs.declared.job.SearchJob.{SearchJob}
 use Rattle.sab_command.specs.declared.request.Source.{Source}
 use Rattle.sab_command.specs.declared.request.Task.{Task}
-use Rattle.sab_command.specs.declared.request.Task.TheVariants.{OfScript, OfRace, OfTrace}
+use Rattle.sab_command.specs.declared.request.Task.TheVariants.{OfScript, OfRace, OfTrace, OfSearch}
 use Rattle.sab_ending.specs.declared.outcome.Outcome.{Outcome}
 use Rattle.sab_ending.specs.Status.{status_after}
 use Rattle.sab_ending.specs.Ending.{status_at, after_job}
@@ -18,6 +19,7 @@ use Rattle.sab_run.specs.Failure.{NamesFile, explanation_text, line_of}
 use Rattle.sab_run.specs.Explaining.{IsExplanation}
 use Rattle.sab_run.specs.Running.{RunsGiven, IsRunFault}
 use Rattle.sab_run.specs.Tracing.{JudgesTrace, IsTraceFailure}
+use Rattle.sab_run.specs.Searching.{RunsSearchGiven, IsSearchFailure}
 use Rattle.sabsim_wasm.specs.declared.written.Written.{Written}
 
 -- an exit status, and the bytes that go to standard output and to standard error
@@ -70,6 +72,14 @@ EndsOfTrace format source trace written =
     ⊎ ((failure : Failure) × IsTraceFailure (Some trace) (Some []) (Some []) failure
     × (failure.fault ≢ WriteFailed) × Fails failure source written)
 
+-- what `run_search` writes and returns of a file of automata, or what it fails for; no write fails
+abbrev pub EndsOfSearch : SearchJob → Source → Bool → List ℕ → WrittenParts → Type 0
+EndsOfSearch job source explain file written =
+    ((outcome : Outcome) × RunsSearchGiven job outcome (Some []) (Some written.output) file
+    × (written ≡ done outcome written.output))
+    ⊎ ((failure : Failure) × IsSearchFailure (Some file) job explain (Some []) (Some []) failure
+    × (failure.fault ≢ WriteFailed) × Fails failure source written)
+
 -- what a race can be made with, as a line
 abbrev pub race_advice : List ℕ
 race_advice = codes "races in threads need the native program sabsim: this one is made for WebAssembly\n"
@@ -84,6 +94,7 @@ abbrev pub Ends : Task → Source → Bool → List ℕ → WrittenParts → Typ
 Ends (OfScript job) source explain input written = EndsOfScript job source explain input written
 Ends (OfTrace format) source explain input written = EndsOfTrace format source input written
 Ends (OfRace race) source explain input written = EndsOfRace written
+Ends (OfSearch job) source explain input written = EndsOfSearch job source explain input written
 
 -- the text of the command line's parser says why the words are refused, or it is help or the version
 abbrev pub parsed : Bool → List ℕ → WrittenParts
