@@ -3,11 +3,12 @@
 import assert from "node:assert/strict";
 import { spawn, spawnSync } from "node:child_process";
 import { once } from "node:events";
-import { cpSync, existsSync, openSync, writeFileSync } from "node:fs";
+import { cpSync, existsSync, openSync, readFileSync, writeFileSync } from "node:fs";
 import { join } from "node:path";
 import { before, test } from "node:test";
 import { fileURLToPath } from "node:url";
-import { SCRIPT_LIMITS } from "../script/limits.mjs";
+import { ModuleSimulator } from "../lib/simulator/module.mjs";
+import { MOST_OF_AUTOMATA, SCRIPT_LIMITS } from "../script/limits.mjs";
 import { temporaryFolder } from "./helpers/common.mjs";
 import { needing } from "./helpers/needs.mjs";
 import { TRAPPING } from "./helpers/wrong-modules.mjs";
@@ -17,6 +18,7 @@ const SCRIPT = '{"blocks":[1],"views":[],"agents":[],"schedule":[]}';
 const REPORT = { status: 0, stdout: "block 0 00\n", stderr: "" };
 const TOO_LONG = { status: 1, stdout: "", stderr: "sabsim: 18 TooLong\n" };
 const MOST_WRITTEN = 2 ** 26;
+const withSearch = needing("search in the module", new ModuleSimulator().canSearch);
 
 /** @type {string} */
 let launcher;
@@ -47,6 +49,17 @@ test("a script may be as long as the limit says, and not longer", (context) => {
     assert.deepEqual(ended(["replay"], { input: text }), wanted);
     writeFileSync(file, text);
     assert.deepEqual(ended(["replay", file]), wanted);
+  }
+});
+
+test("a file of automata may be longer than a script, up to a limit of its own", withSearch, (context) => {
+  const text = readFileSync(new URL("../../tests/search/examples/semaphore.json", import.meta.url), "utf8");
+  const longest = text.padEnd(MOST_OF_AUTOMATA);
+  const file = join(temporaryFolder(context), "automata.json");
+  for (const [given, wanted] of /** @type {[string, number][]} */ ([[longest, 0], [`${longest} `, 1]])) {
+    writeFileSync(file, given);
+    const { status, stderr } = ended(["search", file]);
+    assert.deepEqual([status, /TooLong/.test(stderr)], [wanted, wanted === 1], stderr);
   }
 });
 
