@@ -6,10 +6,13 @@ import { by } from "./dom.mjs";
 /** @typedef {{ command: (words: string[], read: () => Uint8Array) => Ended }} Simulator */
 /** @typedef {new (module: WebAssembly.Module) => Simulator} SimulatorClass */
 
+// Browsers have it, and the types of older ones don't.
+const { DecompressionStream: Unpacking } = /** @type {any} */ (globalThis);
+
 /** @param {string} text the module as the page has it */
 async function unpacked(text) {
   const packed = Uint8Array.from(atob(text), (sign) => sign.charCodeAt(0));
-  const bytes = new Blob([packed]).stream().pipeThrough(new DecompressionStream("gzip"));
+  const bytes = new Blob([packed]).stream().pipeThrough(new Unpacking("gzip"));
   return new Response(bytes).arrayBuffer();
 }
 

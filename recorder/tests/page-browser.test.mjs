@@ -44,7 +44,7 @@ function longValues() {
   return { views, blocks: [16], entries, standings: [], events: [], races: [], ending: "check" };
 }
 
-describe("the page of a run, in a browser", { timeout: 120_000 }, () => {
+describe("the page of a run, in a browser", { timeout: 600_000 }, () => {
   /** @type {Browser} */
   let browser;
   before(() => {

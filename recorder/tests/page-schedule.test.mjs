@@ -89,7 +89,7 @@ for (const [name, { isThere, begin }] of Object.entries(BROWSERS)) {
   const [missing] = needs.find(([, is]) => !is) ?? [];
   const withBrowser = needing(`${missing}`, missing === undefined);
 
-  describe(`in ${name}`, { timeout: 300_000 }, () => {
+  describe(`in ${name}`, { timeout: 1_200_000 }, () => {
     let browser;
     before(async () => {
       browser = withBrowser.skip === false ? await begin() : undefined;

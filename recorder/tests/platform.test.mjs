@@ -96,7 +96,7 @@ test("a page made of files with carriage returns has the digests that a browser 
   assert.ok(page.includes(digestOf(code)), "code");
 });
 
-const inBrowser = { ...withBrowser, timeout: 120_000 };
+const inBrowser = { ...withBrowser, timeout: 600_000 };
 
 test("a page made of files with carriage returns shows its run", inBrowser, async (context) => {
   const { pageData, pageOf } = await withCarriageReturns(context)("lib/keeping/page.mjs");

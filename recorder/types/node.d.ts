@@ -408,6 +408,7 @@ declare module "node:util" {
 }
 
 declare module "node:zlib" {
+  export function gzipSync(bytes: Uint8Array): Buffer;
   const zlib: object;
   export default zlib;
 }
