@@ -80,15 +80,18 @@ const STATEMENTS = [
   (one) => `words[3] += ${one.name()};`, (one) => `bytes[13] = ${one.name()};`, () => "words[3]++;",
   (one) => `${one.name()} += words[0];`, (one) => `bytes[12 + (${one.name()} & 1)] += ${one.name()};`,
   (one) => `{ const p = { m() { return ${one.name()}; }, n: ${one.load()} }; a = p.m() + p.n; }`,
-  (one, depth) => `try { for (;;) { if (++turns > 2) throw turns; ${one.statement(depth)} } } catch { b = ${one.name()}; }`,
+  (one, depth) => `try { for (;;) { if (++turns > 2) throw turns; ${one.statement(depth)} } } `
+    + `catch { b = ${one.name()}; }`,
   (one, depth) => `{ const s = ${one.name()} > 1 ? Symbol("s") : Symbol("r"); ${one.statement(depth)} `
     + "c = s.description === \"s\" ? 1 : 2; }",
   (one, depth) => {
     const name = one.newName();
-    return `{ const ${name} = ${one.name()}; class P { static v() { return ${name}; } } ${one.statement(depth)} a = P.v(); }`;
+    return `{ const ${name} = ${one.name()}; class P { static v() { return ${name}; } } ${one.statement(depth)} `
+      + "a = P.v(); }";
   },
   (one) => `{ const q = { ...{ get x() { return ${one.load()}; }, y: ${one.name()} } }; a = q.x + q.y; }`,
-  (one, depth) => `{ const p = { g: three.bind(null, ${one.name()}), m() {} }; ${one.statement(depth)} b = p.g(1, 2); }`,
+  (one, depth) => `{ const p = { g: three.bind(null, ${one.name()}), m() {} }; ${one.statement(depth)} `
+    + "b = p.g(1, 2); }",
   (one, depth) => `{ const all = [${one.name()}, 1, 2]; ${one.statement(depth)} a = three(...all) + ${one.load()}; }`,
   () => "b = map.get(0) ?? 7;", (one) => `a = made(${one.name()}).get() + ${one.load()};`,
 ];

@@ -336,7 +336,8 @@ export class Analysis {
       reference.binding = binding;
       binding.references.push(reference);
       // In a class its name always means the class.
-      if (binding.kind === "class" && !reference.reads) this.refuse(reference, "a class's name that gets another value");
+      const isLost = binding.kind === "class" && !reference.reads;
+      if (isLost) this.refuse(reference, "a class's name that gets another value");
       if (binding.scope.kind === "module") continue;
       if (binding.scope.within === null && reference.within !== null) {
         this.refuse(reference.scope.tree, `\`${reference.name}\`, a name of a block at the top level, in a function`);
