@@ -1,12 +1,15 @@
 //! A native program to measure sabsim against. It has no proofs. It takes these command lines of sabsim:
 //!
 //! - `replay FILE` writes the plain report of a script;
-//! - `judge --trace FILE` writes the plain verdict on a trace.
+//! - `judge --trace FILE` writes the plain verdict on a trace;
+//! - `search --format json [--timeouts CHOICE] [--limit N] FILE` writes what a search through all schedules finds.
 
+mod automata;
 mod judge;
 mod plan;
 mod report;
 mod script;
+mod search;
 mod shadow;
 mod simulator;
 mod trace;
@@ -17,9 +20,11 @@ use std::fs::{self, File};
 use std::io::{self, BufReader, BufWriter, Write};
 use std::process::ExitCode;
 
+use automata::Program;
 use judge::Judge;
 use plan::Plan;
 use report::Report;
+use search::{Search, Timeouts};
 use simulator::Simulator;
 
 const REFUSED: u8 = 1;
@@ -32,8 +37,9 @@ fn main() -> ExitCode {
     let done = match words[..] {
         ["replay", file] => replay(file).map(|()| ExitCode::SUCCESS),
         ["judge", "--trace", file] => judge(file).map(|races| if races { RACES.into() } else { ExitCode::SUCCESS }),
+        ["search", "--format", "json", ref options @ .., file] => search_all(options, file).map(ExitCode::from),
         _ => {
-            eprintln!("usage: native replay FILE | native judge --trace FILE");
+            eprintln!("usage: native replay FILE | native judge --trace FILE | native search --format json FILE");
             return WRONG_COMMAND.into();
         }
     };
@@ -64,4 +70,25 @@ fn judge(file: &str) -> Result<bool, Box<dyn Error>> {
     judge.write(&mut out)?;
     out.flush()?;
     Ok(judge.has_races())
+}
+
+/// Writes what a search through all schedules finds, and returns the status.
+fn search_all(options: &[&str], file: &str) -> Result<u8, Box<dyn Error>> {
+    let (mut timeouts, mut limit) = (Timeouts::Early, 1_000_000);
+    for option in options.chunks(2) {
+        match *option {
+            ["--timeouts", "early"] => timeouts = Timeouts::Early,
+            ["--timeouts", "last"] => timeouts = Timeouts::Last,
+            ["--timeouts", "never"] => timeouts = Timeouts::Never,
+            ["--limit", number] => limit = number.parse()?,
+            _ => return Err("a word isn't known".into()),
+        }
+    }
+    let program = Program::read(&fs::read(file)?)?;
+    let mut search = Search::new(&program, timeouts, limit);
+    search.run();
+    let mut out = BufWriter::new(io::stdout().lock());
+    let status = search::write(&search, &mut out)?;
+    out.flush()?;
+    Ok(status)
 }

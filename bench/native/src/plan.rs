@@ -39,7 +39,7 @@ pub enum Act {
     Notify { count: Option<i64> },
 }
 
-#[derive(Clone, Copy)]
+#[derive(Clone, Copy, PartialEq, Eq, PartialOrd, Ord)]
 pub enum Operand {
     Number(i64),
     BigInt(i128),

@@ -30,9 +30,9 @@ struct ScriptText<'a> {
 
 #[derive(Deserialize)]
 #[serde(deny_unknown_fields)]
-struct ViewText<'a> {
+pub struct ViewText<'a> {
     #[serde(borrow)]
-    name: Cow<'a, str>,
+    pub name: Cow<'a, str>,
     kind: Kind,
     block: Option<usize>,
     offset: usize,
@@ -67,7 +67,7 @@ enum Function {
 
 /// A call, which a script spells as an array.
 #[derive(Deserialize)]
-struct CallText<'a> {
+pub struct CallText<'a> {
     function: Function,
     #[serde(borrow)]
     view: Cow<'a, str>,
@@ -152,17 +152,23 @@ impl Plan {
         ensure(blocks.iter().all(|&length| length <= MAX_BLOCK), "a block is too long")?;
         ensure(script.views.len() <= 64 && script.agents.len() <= 16, "there are too many views or agents")?;
         ensure(script.schedule.len() <= 100_000, "there are too many moves")?;
-        let mut names = HashMap::new();
-        let mut views = Vec::with_capacity(script.views.len());
-        for text in &script.views {
-            ensure(text.block.is_none() == is_older, "a view is of the other form")?;
-            views.push(View::new(text, &blocks)?);
-            ensure(names.insert(&*text.name, names.len()).is_none(), "two views have one name")?;
-        }
+        let is_of_form = script.views.iter().all(|text| text.block.is_none() == is_older);
+        ensure(is_of_form, "a view is of the other form")?;
+        let (views, names) = named_views(&script.views, &blocks)?;
         let agents = script.agents.iter().map(|text| Script::new(text, &names)).collect::<Result<Vec<_>, _>>()?;
         ensure(script.schedule.iter().all(|it| it.agent < agents.len()), "a move names no agent")?;
         Ok(Plan { blocks, views, agents, schedule: script.schedule })
     }
+}
+
+/// Makes the views, and finds their positions by their names.
+pub fn named_views<'a>(texts: &'a [ViewText], blocks: &[usize]) -> Result<(Vec<View>, HashMap<&'a str, usize>), Box<dyn Error>> {
+    let mut names = HashMap::new();
+    let views = texts.iter().map(|text| View::new(text, blocks)).collect::<Result<Vec<_>, _>>()?;
+    for text in texts {
+        ensure(names.insert(&*text.name, names.len()).is_none(), "two views have one name")?;
+    }
+    Ok((views, names))
 }
 
 impl View {
@@ -190,7 +196,7 @@ impl Script {
 }
 
 impl Call {
-    fn new(text: &CallText, names: &HashMap<&str, usize>) -> Result<Call, Box<dyn Error>> {
+    pub fn new(text: &CallText, names: &HashMap<&str, usize>) -> Result<Call, Box<dyn Error>> {
         ensure((-MAX_SAFE_INTEGER..=MAX_SAFE_INTEGER).contains(&text.index), "an index is beyond 2^53 - 1")?;
         let view = *names.get(&*text.view).ok_or("a call names no view")?;
         let act = match (text.function, text.first, text.second) {
@@ -213,7 +219,7 @@ impl Call {
     }
 }
 
-fn ensure(holds: bool, why: &'static str) -> Result<(), Box<dyn Error>> {
+pub fn ensure(holds: bool, why: &'static str) -> Result<(), Box<dyn Error>> {
     if holds {
         Ok(())
     } else {

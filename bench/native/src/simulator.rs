@@ -36,7 +36,7 @@ enum Phase {
     Answered(Answer),
 }
 
-#[derive(Clone, Copy)]
+#[derive(Clone, Copy, PartialEq, Eq, PartialOrd, Ord)]
 pub enum Answer {
     Value(Operand),
     Ok,
@@ -152,33 +152,8 @@ impl<'a> Simulator<'a> {
                     Outcome::Waits { is_timed }
                 }
             },
-            access => Outcome::Answered(self.access(access, place, view.kind).unwrap_or(Answer::TypeError)),
+            does => Outcome::Answered(access(self.bytes(place, view.kind), does, view.kind).unwrap_or(Answer::TypeError)),
         }
-    }
-
-    /// Makes an access, or none if an operand isn't one of the kind's.
-    fn access(&mut self, access: Act, place: Place, kind: Kind) -> Option<Answer> {
-        let bytes = self.bytes(place, kind);
-        let old = element(bytes);
-        let answer = match access {
-            Act::Store(value) => {
-                write(bytes, raw(value, kind)?);
-                value
-            }
-            Act::Modify(combine, operand) => {
-                write(bytes, combine(old, raw(operand, kind)?));
-                value(old, kind)
-            }
-            Act::CompareExchange(expected, replacement) => {
-                let (expected, replacement) = (raw(expected, kind)?, raw(replacement, kind)?);
-                if old == expected {
-                    write(bytes, replacement);
-                }
-                value(old, kind)
-            }
-            _ => value(old, kind),
-        };
-        Some(Answer::Value(answer))
     }
 
     /// Wakes the agents that have waited longest at a place.
@@ -200,8 +175,32 @@ impl<'a> Simulator<'a> {
     }
 }
 
+/// Makes an access on an element's bytes, or none if an operand isn't one of the kind's.
+pub fn access(bytes: &mut [u8], act: Act, kind: Kind) -> Option<Answer> {
+    let old = element(bytes);
+    let answer = match act {
+        Act::Store(value) => {
+            write(bytes, raw(value, kind)?);
+            value
+        }
+        Act::Modify(combine, operand) => {
+            write(bytes, combine(old, raw(operand, kind)?));
+            value(old, kind)
+        }
+        Act::CompareExchange(expected, replacement) => {
+            let (expected, replacement) = (raw(expected, kind)?, raw(replacement, kind)?);
+            if old == expected {
+                write(bytes, replacement);
+            }
+            value(old, kind)
+        }
+        _ => value(old, kind),
+    };
+    Some(Answer::Value(answer))
+}
+
 /// The number that the bytes of an element spell, from the least byte on.
-fn element(bytes: &[u8]) -> u64 {
+pub fn element(bytes: &[u8]) -> u64 {
     match *bytes {
         [a] => a.into(),
         [a, b] => u16::from_le_bytes([a, b]).into(),
@@ -218,7 +217,7 @@ fn write(bytes: &mut [u8], number: u64) {
 
 /// The low bits of an operand, as many as an element has; none if it is a Number where BigInts are, or a BigInt where
 /// Numbers are.
-fn raw(operand: Operand, kind: Kind) -> Option<u64> {
+pub fn raw(operand: Operand, kind: Kind) -> Option<u64> {
     let bits = match operand {
         Operand::Number(number) if !kind.is_big() => number as u64,
         Operand::BigInt(number) if kind.is_big() => number as u64,
