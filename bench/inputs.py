@@ -193,6 +193,154 @@ TRACES = [
 ]
 
 
+# ---- Files of automata
+
+
+class Graph:
+    """The nodes of an automaton, with labels to which edges lead."""
+
+    def __init__(self):
+        self.nodes, self.labels = [], {}
+
+    def at(self, label):
+        """Gives the next node a label."""
+        self.labels[label] = len(self.nodes)
+
+    def add(self, does, edges):
+        """Adds a node. Its edges lead from answers to labels."""
+        self.nodes.append({**does, "edges": edges})
+
+    def call(self, *words, **edges):
+        """Adds a call on the view `m`. The edge of an answer that is a number is given with `_` before it."""
+        function, *operands = words
+        self.add({"call": [function, "m", *operands]}, {answer.strip("_").replace("_", "-"): to for answer, to in edges.items()})
+
+    def finished(self):
+        """Adds an end, and returns the nodes."""
+        end = len(self.nodes)
+        for node in self.nodes:
+            node["edges"] = [[answer, end if to == "end" else self.labels[to]] for answer, to in node["edges"].items()]
+        return self.nodes + [{"finished": True}]
+
+
+def automata_of(length, initial, automata, agents):
+    """Returns the text of a file of automata with one block, whose words have these values at first."""
+    block = b"".join(value.to_bytes(4, "little") for value in initial).ljust(length, b"\0")
+    return json.dumps({
+        "blocks": [length],
+        "initial": [block.hex()],
+        "views": [{"name": "m", "kind": "Int32", "block": 0, "offset": 0, "length": None}],
+        "automata": [{"name": name, "nodes": nodes} for name, nodes in automata.items()],
+        "agents": [{"automaton": name, "block": True} for name in agents],
+    })
+
+
+def numbered(least, greatest, label):
+    """Returns edges from the numbers of a range to one label."""
+    return {f"_{number}": label for number in range(least, greatest + 1)}
+
+
+def take(graph, word, most, it):
+    """A semaphore at a word is taken: it is counted down, or waited for while it is 0."""
+    graph.at(f"take {it}")
+    graph.call("load", word, _0=f"wait {it}", **{f"_{n}": f"try {n} {it}" for n in range(1, most + 1)})
+    graph.at(f"wait {it}")
+    graph.call("wait", word, 0, ok=f"take {it}", not_equal=f"take {it}")
+    for n in range(1, most + 1):
+        graph.at(f"try {n} {it}")
+        others = {answer: f"take {it}" for answer in numbered(0, most, "")}
+        graph.call("compareExchange", word, n, n - 1, **{**others, f"_{n}": f"taken {it}"})
+    graph.at(f"taken {it}")
+
+
+def give(graph, word, most, it, to):
+    """A semaphore at a word is given back, and one agent is woken that waits for it."""
+    graph.call("add", word, 1, **numbered(0, most - 1, f"given {it}"))
+    graph.at(f"given {it}")
+    graph.call("notify", word, 1, _0=to, _1=to)
+
+
+def mutex(agents, rounds):
+    """Agents take a mutex of three states so many times, and add 1 to a byte behind it."""
+    graph, most = Graph(), agents * rounds
+    for n in range(rounds):
+        after = f"lock {n + 1}" if n + 1 < rounds else "end"
+        graph.at(f"lock {n}")
+        graph.call("compareExchange", 0, 0, 1, _0=f"locked {n}", _1=f"await {n}", _2=f"await {n}")
+        graph.at(f"await {n}")
+        graph.call("exchange", 0, 2, _0=f"locked {n}", _1=f"sleep {n}", _2=f"sleep {n}")
+        graph.at(f"sleep {n}")
+        graph.call("wait", 0, 2, ok=f"await {n}", not_equal=f"await {n}")
+        graph.at(f"locked {n}")
+        graph.add({"read": [0, 4, 1]}, {f"{value:02x}": f"write {value} {n}" for value in range(most)})
+        for value in range(most):
+            graph.at(f"write {value} {n}")
+            graph.add({"write": [0, 4, f"{value + 1:02x}"]}, {"": f"unlock {n}"})
+        graph.at(f"unlock {n}")
+        graph.call("sub", 0, 1, _1=after, _2=f"store {n}")
+        graph.at(f"store {n}")
+        graph.call("store", 0, 0, _0=f"notify {n}")
+        graph.at(f"notify {n}")
+        graph.call("notify", 0, 1, _0=after, _1=after)
+    return automata_of(8, [0], {"locker": graph.finished()}, ["locker"] * agents)
+
+
+def semaphore(agents, rounds, permits):
+    """Agents take one of a few permits so many times, and give it back."""
+    graph = Graph()
+    for n in range(rounds):
+        take(graph, 0, permits, n)
+        give(graph, 0, permits, n, f"take {n + 1}" if n + 1 < rounds else "end")
+    return automata_of(4, [permits], {"user": graph.finished()}, ["user"] * agents)
+
+
+def seqlock(writes, readers):
+    """One agent writes two bytes behind a count, and others read them until the count is even and stays."""
+    writer, reader, last = Graph(), Graph(), 2 * writes
+    for n in range(writes):
+        writer.call("add", 0, 1, **{f"_{2 * n}": f"low {n}"})
+        writer.at(f"low {n}")
+        writer.add({"write": [0, 4, f"{n + 1:02x}"], "alone": True}, {"": f"high {n}"})
+        writer.at(f"high {n}")
+        writer.add({"write": [0, 5, f"{n + 1:02x}"], "alone": True}, {"": f"done {n}"})
+        writer.at(f"done {n}")
+        writer.call("add", 0, 1, **{f"_{2 * n + 1}": f"next {n}" if n + 1 < writes else "end"})
+        writer.at(f"next {n}")
+    reader.at("begin")
+    reader.call("load", 0, **{f"_{n}": "begin" if n % 2 else f"low {n}" for n in range(last + 1)})
+    for n in range(0, last + 1, 2):
+        reader.at(f"low {n}")
+        reader.add({"read": [0, 4, 1], "alone": True}, {f"{v:02x}": f"high {n} {v}" for v in range(writes + 1)})
+        for v in range(writes + 1):
+            reader.at(f"high {n} {v}")
+            reader.add({"read": [0, 5, 1], "alone": True}, {
+                f"{w:02x}": f"{'same' if v == w else 'torn'} {n}" for w in range(writes + 1)})
+        reader.at(f"same {n}")
+        reader.call("load", 0, **{**numbered(0, last, "begin"), f"_{n}": "end"})
+        reader.at(f"torn {n}")
+        reader.call("load", 0, **{f"_{v}": "begin" for v in range(last + 1) if v != n})
+    return automata_of(8, [0], {"writer": writer.finished(), "reader": reader.finished()}, ["writer"] + ["reader"] * readers)
+
+
+def queue(capacity, items, pairs):
+    """Agents put items into the slots of a queue, and as many take them out: two semaphores, two counts, and slots."""
+    producer, consumer, all_items = Graph(), Graph(), items * pairs
+    for n in range(items):
+        for graph, waits_for, gives, count in ((producer, 0, 1, 2), (consumer, 1, 0, 3)):
+            take(graph, waits_for, capacity, n)
+            graph.call("add", count, 1, **{f"_{at}": f"slot {at % capacity} {n}" for at in range(all_items)})
+            for slot in range(capacity):
+                graph.at(f"slot {slot} {n}")
+                if graph is producer:
+                    graph.add({"write": [0, 16 + slot, f"{n + 1:02x}"]}, {"": f"give {n}"})
+                else:
+                    graph.add({"read": [0, 16 + slot, 1]}, {f"{value:02x}": f"give {n}" for value in range(items + 1)})
+            graph.at(f"give {n}")
+            give(graph, gives, capacity, n, f"take {n + 1}" if n + 1 < items else "end")
+    agents = ["producer"] * pairs + ["consumer"] * pairs
+    return automata_of(16 + capacity + -capacity % 4, [capacity, 0, 0, 0], {"producer": producer.finished(), "consumer": consumer.finished()}, agents)
+
+
 def rows():
     """Gives each row: its name, the words of the command, how many events it has (a script 0), and the input."""
     for maker in SCRIPTS:

@@ -113,7 +113,8 @@ class Writer:
 
     def operand(self, view, values=VALUES):
         value = self.draw.choice(values)
-        is_big = view["kind"].startswith("Big") != (self.draw.random() < self.throwing / 4)
+        is_other = self.draw.random() < self.throwing / 4
+        is_big = view["kind"].startswith("Big") != (is_other and abs(value) < 2**53)
         return str(value) if is_big else value
 
     def call(self):
