@@ -24,5 +24,5 @@ def lines_of(result):
 
 
 def spelled(value):
-    """Returns a value as JSON without spaces."""
-    return json.dumps(value, ensure_ascii=False, separators=(",", ":"))
+    """Returns a value as JSON without spaces, members by their names."""
+    return json.dumps(value, ensure_ascii=False, separators=(",", ":"), sort_keys=True)

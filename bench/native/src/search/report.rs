@@ -14,29 +14,29 @@ use super::world::{Deed, Step, World};
 const MOST_CONFLICTS: usize = 100;
 const MOST_FINALS: usize = 1000;
 
-/// Writes the result, and returns the status.
+/// Writes the result, and returns the status. The members of a line stand in the order of their names.
 pub fn write(search: &Search, out: &mut impl Write) -> io::Result<u8> {
     let kinds = &search.kinds;
     let stuck = if search.is_closed { no_way_out(search) } else { None };
     first_line(search, out)?;
-    one(search, "deadlock", kinds.deadlock.as_ref(), out)?;
+    shown_if(search, "deadlock", kinds.deadlock.as_ref(), out)?;
     for (text, count) in in_order(&kinds.failures) {
         let text = serde_json::to_string(text)?;
-        shown(search, &format!("\"kind\":\"failed\",\"text\":{text}"), count, out)?;
+        shown(search, "\"kind\":\"failed\",", count, &format!(",\"text\":{text}"), out)?;
     }
-    one(search, "no way out", stuck.as_ref(), out)?;
+    shown_if(search, "no way out", stuck.as_ref(), out)?;
     for ((automaton, node, text), count) in in_order(&kinds.unknown) {
-        let name = format!("\"kind\":\"unknown\",\"automaton\":{automaton},\"node\":{node},\"answer\":\"{text}\"");
-        shown(search, &name, count, out)?;
+        let name = format!("\"answer\":\"{text}\",\"automaton\":{automaton},\"kind\":\"unknown\",\"node\":{node},");
+        shown(search, &name, count, "", out)?;
     }
     for ((one, two), count) in in_order(&kinds.conflicts).into_iter().take(MOST_CONFLICTS) {
-        let pair = format!("\"kind\":\"conflict\",\"pair\":[[{},{}],[{},{}]]", one.0, one.1, two.0, two.1);
-        shown(search, &pair, count, out)?;
+        let pair = format!("\"kind\":\"conflict\",\"pair\":[[{},{}],[{},{}]],", one.0, one.1, two.0, two.1);
+        shown(search, &pair, count, "", out)?;
     }
     for (bytes, count) in in_order(&kinds.finals).into_iter().take(MOST_FINALS) {
         let blocks: Vec<String> = search.program.blocks.iter().map(|it| hex(&bytes[it.clone()])).collect();
-        let blocks = format!("\"kind\":\"final\",\"blocks\":[\"{}\"]", blocks.join("\",\""));
-        shown(search, &blocks, count, out)?;
+        let name = format!("\"blocks\":[\"{}\"],\"kind\":\"final\",", blocks.join("\",\""));
+        shown(search, &name, count, "", out)?;
     }
     let is_found = kinds.deadlock.is_some() || stuck.is_some();
     Ok(if is_found || !kinds.failures.is_empty() || !kinds.conflicts.is_empty() {
@@ -59,10 +59,11 @@ fn first_line(search: &Search, out: &mut impl Write) -> io::Result<()> {
         Some((expanded, depth)) => (expanded.to_string(), depth.to_string()),
         None => (null(), null()),
     };
-    write!(out, "{{\"timeouts\":\"{timeouts}\",\"limit\":{},\"closed\":{}", search.limit, search.is_closed)?;
-    write!(out, ",\"states\":{},\"acts\":{}", search.rows.len(), search.targets.len())?;
-    write!(out, ",\"expanded\":{expanded},\"depth\":{depth},\"conflicts\":{}", search.kinds.conflicts.len())?;
-    writeln!(out, ",\"finals\":{},\"final_states\":{}}}", search.kinds.finals.len(), search.kinds.final_states)
+    let kinds = &search.kinds;
+    write!(out, "{{\"acts\":{},\"closed\":{}", search.targets.len(), search.is_closed)?;
+    write!(out, ",\"conflicts\":{},\"depth\":{depth},\"expanded\":{expanded}", kinds.conflicts.len())?;
+    write!(out, ",\"final_states\":{},\"finals\":{}", kinds.final_states, kinds.finals.len())?;
+    writeln!(out, ",\"limit\":{},\"states\":{},\"timeouts\":\"{timeouts}\"}}", search.limit, search.rows.len())
 }
 
 /// Kinds by their first states, then by their names.
@@ -73,16 +74,16 @@ fn in_order<K: Ord>(counts: &std::collections::HashMap<K, Count>) -> Vec<(&K, &C
 }
 
 /// Writes the line of a kind without names, if there is such a state.
-fn one(search: &Search, kind: &str, count: Option<&Count>, out: &mut impl Write) -> io::Result<()> {
+fn shown_if(search: &Search, kind: &str, count: Option<&Count>, out: &mut impl Write) -> io::Result<()> {
     match count {
-        Some(count) => shown(search, &format!("\"kind\":\"{kind}\""), count, out),
+        Some(count) => shown(search, &format!("\"kind\":\"{kind}\","), count, "", out),
         None => Ok(()),
     }
 }
 
-/// Writes the line of a kind, with its states and the schedule to the first of them.
-fn shown(search: &Search, name: &str, count: &Count, out: &mut impl Write) -> io::Result<()> {
-    write!(out, "{{{name},\"states\":{},\"schedule\":[", count.states)?;
+/// Writes the line of a kind, with its states and the schedule to the first of them between other members.
+fn shown(search: &Search, before: &str, count: &Count, behind: &str, out: &mut impl Write) -> io::Result<()> {
+    write!(out, "{{{before}\"schedule\":[")?;
     let mut world = World::new(search.program);
     let is_begun = world.begin(search.program).is_ok();
     let path = if is_begun { search.path_to(count.first) } else { Vec::new() };
@@ -90,7 +91,7 @@ fn shown(search: &Search, name: &str, count: &Count, out: &mut impl Write) -> io
         let comma = if number == 0 { "" } else { "," };
         write!(out, "{comma}[{},\"{}\"]", act.agent, deed(search, &mut world, act))?;
     }
-    writeln!(out, "]}}")
+    writeln!(out, "],\"states\":{}{behind}}}", count.states)
 }
 
 /// Makes an act, and says what the agent did.
