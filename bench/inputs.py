@@ -1,4 +1,5 @@
-"""Makes the scripts and traces that are measured. They are the same each time: what is drawn comes from a seed."""
+"""Makes the scripts, traces and files of automata that are measured. They are the same each time: what is drawn comes
+from a seed."""
 import json
 
 SEED = 20
@@ -213,7 +214,8 @@ class Graph:
     def call(self, *words, **edges):
         """Adds a call on the view `m`. The edge of an answer that is a number is given with `_` before it."""
         function, *operands = words
-        self.add({"call": [function, "m", *operands]}, {answer.strip("_").replace("_", "-"): to for answer, to in edges.items()})
+        edges = {answer.strip("_").replace("_", "-"): to for answer, to in edges.items()}
+        self.add({"call": [function, "m", *operands]}, edges)
 
     def finished(self):
         """Adds an end, and returns the nodes."""
@@ -319,11 +321,12 @@ def seqlock(writes, readers):
         reader.call("load", 0, **{**numbered(0, last, "begin"), f"_{n}": "end"})
         reader.at(f"torn {n}")
         reader.call("load", 0, **{f"_{v}": "begin" for v in range(last + 1) if v != n})
-    return automata_of(8, [0], {"writer": writer.finished(), "reader": reader.finished()}, ["writer"] + ["reader"] * readers)
+    automata = {"writer": writer.finished(), "reader": reader.finished()}
+    return automata_of(8, [0], automata, ["writer"] + ["reader"] * readers)
 
 
 def queue(capacity, items, pairs):
-    """Agents put items into the slots of a queue, and as many take them out: two semaphores, two counts, and slots."""
+    """Agents put items into the slots of a queue, and as many take them out. It has two semaphores and two counts."""
     producer, consumer, all_items = Graph(), Graph(), items * pairs
     for n in range(items):
         for graph, waits_for, gives, count in ((producer, 0, 1, 2), (consumer, 1, 0, 3)):
@@ -338,13 +341,25 @@ def queue(capacity, items, pairs):
             graph.at(f"give {n}")
             give(graph, gives, capacity, n, f"take {n + 1}" if n + 1 < items else "end")
     agents = ["producer"] * pairs + ["consumer"] * pairs
-    return automata_of(16 + capacity + -capacity % 4, [capacity, 0, 0, 0], {"producer": producer.finished(), "consumer": consumer.finished()}, agents)
+    automata = {"producer": producer.finished(), "consumer": consumer.finished()}
+    return automata_of(16 + capacity + -capacity % 4, [capacity, 0, 0, 0], automata, agents)
+
+
+# The files that are searched, with how many states runs reach.
+SEARCHES = [
+    ("mutex of 3 agents", 118_345, lambda: mutex(3, 6)),
+    ("semaphore of 4 agents", 733_445, lambda: semaphore(4, 4, 2)),
+    ("seqlock of 4 agents", 129_551, lambda: seqlock(4, 3)),
+    ("queue of 4 agents", 45_376, lambda: queue(2, 2, 2)),
+]
 
 
 def rows():
-    """Gives each row: its name, the words of the command, how many events it has (a script 0), and the input."""
+    """Gives each row: its name, the command's words, how many events or states it has (a script 0), and the input."""
     for maker in SCRIPTS:
         for form in ("blocks", "bytes"):
             yield f"{maker.__name__}, {form}", ["replay"], 0, maker(form)
     for name, events, add_some in TRACES:
         yield f"{name}, {events:,}", ["judge", "--trace"], events, trace_of(events, add_some)
+    for name, states, maker in SEARCHES:
+        yield f"{name}, {states:,}", ["search", "--format", "json"], states, maker()

@@ -75,6 +75,12 @@ def instructions(command):
     return int(found.group(1)) if found else stop(f"valgrind counts nothing: {ran.stderr.decode(errors='replace')}")
 
 
+def kilobytes(command):
+    """Returns how much memory a command has at its peak."""
+    with subprocess.Popen(command, stdout=subprocess.DEVNULL, env=ENVIRONMENT) as process:
+        return os.wait4(process.pid, 0)[2].ru_maxrss
+
+
 def microseconds(commands, runs):
     """Returns the median wall time of each command; the commands take turns."""
     taken = [[] for _ in commands]

@@ -32,9 +32,17 @@ pub struct Agent {
 }
 
 pub enum Node {
-    Call { call: Call, edges: Vec<(Answer, u32)> },
+    Call {
+        call: Call,
+        edges: Vec<(Answer, u32)>,
+    },
     /// An ordinary read or write of bytes among those of all blocks.
-    Access { range: Range<usize>, writes: Option<Vec<u8>>, is_alone: bool, edges: Vec<(Vec<u8>, u32)> },
+    Access {
+        range: Range<usize>,
+        writes: Option<Vec<u8>>,
+        is_alone: bool,
+        edges: Vec<(Vec<u8>, u32)>,
+    },
     Finished,
     Threw(String),
 }

@@ -162,7 +162,10 @@ impl Plan {
 }
 
 /// Makes the views, and finds their positions by their names.
-pub fn named_views<'a>(texts: &'a [ViewText], blocks: &[usize]) -> Result<(Vec<View>, HashMap<&'a str, usize>), Box<dyn Error>> {
+pub fn named_views<'a>(
+    texts: &'a [ViewText],
+    blocks: &[usize],
+) -> Result<(Vec<View>, HashMap<&'a str, usize>), Box<dyn Error>> {
     let mut names = HashMap::new();
     let views = texts.iter().map(|text| View::new(text, blocks)).collect::<Result<Vec<_>, _>>()?;
     for text in texts {

@@ -152,7 +152,9 @@ impl<'a> Simulator<'a> {
                     Outcome::Waits { is_timed }
                 }
             },
-            does => Outcome::Answered(access(self.bytes(place, view.kind), does, view.kind).unwrap_or(Answer::TypeError)),
+            does => {
+                Outcome::Answered(access(self.bytes(place, view.kind), does, view.kind).unwrap_or(Answer::TypeError))
+            }
         }
     }
 

@@ -53,12 +53,7 @@ impl World {
     /// The state before the agents begin.
     pub fn new(program: &Program) -> World {
         let many = program.agents.len();
-        World {
-            bytes: program.bytes.clone(),
-            nodes: vec![0; many],
-            recent: vec![Vec::new(); many],
-            ..World::default()
-        }
+        World { bytes: program.bytes.clone(), nodes: vec![0; many], recent: vec![Vec::new(); many], ..World::default() }
     }
 
     /// Becomes another state.
@@ -107,12 +102,10 @@ impl World {
                     }
                 }
             }
-            Node::Access { range, writes, is_alone: true, edges } => {
-                match self.make(range, writes.as_deref(), edges) {
-                    Some(to) => self.go_on(program, agent, to, if writes.is_some() { Deed::Write } else { Deed::Read }),
-                    None => Step::Lost(self.nodes[agent], None),
-                }
-            }
+            Node::Access { range, writes, is_alone: true, edges } => match self.make(range, writes.as_deref(), edges) {
+                Some(to) => self.go_on(program, agent, to, if writes.is_some() { Deed::Write } else { Deed::Read }),
+                None => Step::Lost(self.nodes[agent], None),
+            },
             _ => Step::Absent,
         }
     }
@@ -120,7 +113,9 @@ impl World {
     /// Ends an agent's wait by its timeout.
     pub fn time_up(&mut self, program: &Program, agent: usize) -> Step {
         match program.node(agent, self.nodes[agent]) {
-            Node::Call { call: Call { act: Act::Wait { is_timed: true, .. }, .. }, edges } if self.is_waiting(agent) => {
+            Node::Call { call: Call { act: Act::Wait { is_timed: true, .. }, .. }, edges }
+                if self.is_waiting(agent) =>
+            {
                 self.line.retain(|waiter| waiter.agent as usize != agent);
                 self.led(program, agent, Answer::TimedOut, edges, Deed::Leave(Answer::TimedOut))
             }
