@@ -68,8 +68,10 @@ export interface EverySchedule {
   hidden: { why: string; nodes: number }[];
   /** How many real runs agree with what was learned. */
   realRuns: number;
-  /** Whether the proved search has found the same. */
+  /** Whether the proved search has found the same: the numbers of states and acts are its own then. */
   searchProved: boolean;
+  /** Why there was no proved search; null if there was one, or if not every schedule was tried. */
+  notProved: string | null;
   /** The automaton with the most nodes, and the line whose answers are the most. */
   widest: { automaton: number; nodes: number; line: string | null; answers: number } | null;
   milliseconds: number;

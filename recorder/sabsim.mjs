@@ -9,7 +9,7 @@ import { constants } from "node:os";
 import { fileURLToPath } from "node:url";
 import { HERE, MACHINE } from "./lib/processes/platform.cjs";
 import { readAll } from "./lib/processes/read-all.mjs";
-import { SCRIPT_LIMITS } from "./script/limits.mjs";
+import { MOST_OF_AUTOMATA, SCRIPT_LIMITS } from "./script/limits.mjs";
 import { Simulator } from "./wasm/simulator.mjs";
 
 const NOT_RUN = 2;
@@ -17,8 +17,9 @@ const NOT_RUN = 2;
 const NOT_WRITTEN = 3;
 const MODULE = new URL("./wasm/sabsim.wasm", import.meta.url);
 
-// The simulator refuses a script that has so many bytes, whatever comes behind them.
+// The simulator refuses a script, or a file of automata, that has so many bytes, whatever comes behind them.
 const MOST_OF_SCRIPT = SCRIPT_LIMITS.text + 1;
+const MOST_OF_FILE = MOST_OF_AUTOMATA + 1;
 
 /** Where the program is: in the package, or where the repository builds it. */
 const PROGRAMS = [`../program/${MACHINE}/sabsim${HERE.programEnding}`, "../crates/sabsim/out/sabsim"];
@@ -71,30 +72,39 @@ function endBy(signal) {
 }
 
 /**
- * Reads a script, or as much of it as the simulator needs: standard input may have no end.
- * @param {string} [file] undefined: standard input
- * @returns {Uint8Array}
+ * Reads an input, or as much of it as the simulator needs: standard input may have no end.
+ * @param {number} most how many bytes
+ * @returns {(file?: string) => Uint8Array} undefined: standard input
  */
-function readScript(file) {
+const readUpTo = (most) => (file) => {
   const from = file === undefined ? 0 : openSync(file);
   try {
-    return readAll(from, MOST_OF_SCRIPT);
+    return readAll(from, most);
   } finally {
     if (file !== undefined) closeSync(from);
   }
+};
+
+/** @param {string[]} words of the command line @returns {(file?: string) => Uint8Array} what reads its input */
+function readerOf(words) {
+  if (words[0] === "search") return readUpTo(MOST_OF_FILE);
+  if (!words.includes("--trace")) return readUpTo(MOST_OF_SCRIPT);
+  return (file) => (file === undefined ? readAll(0) : readFileSync(file));
 }
 
 /**
  * @param {string[]} words of the command line
- * @returns {import("./wasm/simulator.mjs").Ended}
+ * @returns {import("./wasm/simulator.mjs").EndedSearch}
  * @throws {Error} if the module stops in the middle, or can't be compiled
  */
 function endedBy(words) {
   const simulator = new Simulator(new WebAssembly.Module(readFileSync(MODULE)));
-  const readTrace = (/** @type {string | undefined} */ file) => (file === undefined ? readAll(0) : readFileSync(file));
-  const read = words.includes("--trace") ? readTrace : readScript;
-  return simulator.command(words, read, process.stderr.isTTY === true);
+  return simulator.command(words, readerOf(words), process.stderr.isTTY === true);
 }
+
+/** @param {number} bytes of what a search has found that had no room */
+const leftOutText = (bytes) => `sabsim: ${bytes} bytes of what was found are left out: this module has no room for `
+  + "them, and the native program writes them\n";
 
 /**
  * Does in this process what the program does.
@@ -108,15 +118,15 @@ function runModule(words) {
     refuse(`sabsim: ${error instanceof Error ? error.message : error}\n`);
     return;
   }
-  const { status, output, complaint } = ended;
-  process.exitCode = status;
+  const { status, output, complaint, leftOut } = ended;
+  process.exitCode = leftOut === 0 ? status : NOT_WRITTEN;
   process.stdout.on("error", () => {
     process.stderr.write("sabsim: 17 WriteFailed\n");
     process.exitCode = NOT_WRITTEN;
   });
   process.stdout.write(output);
   if (status === 0 && VERSION.test(words[0])) process.stdout.write(TRUST);
-  process.stderr.write(complaint);
+  process.stderr.write(leftOut === 0 ? complaint : `${complaint}${leftOutText(leftOut)}`);
 }
 
 // If standard error can't be written, the status alone reports the fault.

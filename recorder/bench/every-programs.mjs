@@ -21,23 +21,26 @@ class Draw {
 }
 
 const LOADS = [
-  "ld(0)", "ld(1)", "Atomics.load(words, 0)", "Atomics.exchange(words, 1, 0)", "box.get()", "box.is", "o.m(0)", "parity()",
-  "words[0]", "words[1]", "bytes[4]",
+  "ld(0)", "ld(1)", "Atomics.load(words, 0)", "Atomics.exchange(words, 1, 0)", "box.get()", "box.is", "o.m(0)",
+  "parity()", "words[0]", "words[1]", "bytes[4]",
 ];
 
 /** @typedef {(one: Writer, depth: number) => string} Form writes an expression or a statement */
 
 /** @type {Form[]} */
 const EXPRESSIONS = [
-  (one, depth) => `(${one.expression(depth)} + ${one.load()})`, (one, depth) => `(${one.load()} * 2 + ${one.expression(depth)})`,
+  (one, depth) => `(${one.expression(depth)} + ${one.load()})`,
+  (one, depth) => `(${one.load()} * 2 + ${one.expression(depth)})`,
   (one, depth) => `three(${one.expression(depth)}, ${one.load()}, ${one.expression(depth)})`,
   (one, depth) => `[${one.expression(depth)}, ${one.load()}, ${one.name()}].reduce(sum, 0)`,
   (one, depth) => `(${one.expression(depth)} > 1 ? ${one.name()} : ${one.load()})`,
   (one, depth) => `(${one.name()} && ${one.expression(depth)})`, (one) => one.name(),
-  (one, depth) => `(${one.name()} = ${one.expression(depth)})`, (one) => `(${one.name()} += ${one.load()})`, () => "o.n",
+  (one, depth) => `(${one.name()} = ${one.expression(depth)})`,
+  (one) => `(${one.name()} += ${one.load()})`, () => "o.n",
   (one) => `${one.name()}++`, (one) => `Number(\`\${${one.name()}}\${${one.load()}}\`)`,
   (one) => `({ x: ${one.name()}, y: ${one.load()} }).y`, (one) => `(o.n += ${one.load()})`,
-  (one) => `o.f(${one.name()}, ${one.load()})`, (one, depth) => `(list[${one.draw.below(2)}] = ${one.expression(depth)})`,
+  (one) => `o.f(${one.name()}, ${one.load()})`,
+  (one, depth) => `(list[${one.draw.below(2)}] = ${one.expression(depth)})`,
   (one) => `list[${one.name()} % 2 | 0]`, () => "increase()", () => "(k ?? 1)",
 ];
 
@@ -58,22 +61,35 @@ const STATEMENTS = [
     + `case 1: ${one.statement(depth)} default: b = 2; }`,
   (one, depth) => {
     const name = one.newName();
-    return `{ let y${name} = ${one.name()}; const ${name} = () => (y${name} += 1) + ${one.name()}; ${one.statement(depth)} `
-      + `a = ${name}(); o.h = ${name}; }`;
+    return `{ let y${name} = ${one.name()}; const ${name} = () => (y${name} += 1) + ${one.name()}; `
+      + `${one.statement(depth)} a = ${name}(); o.h = ${name}; }`;
   },
   () => "if (o.h) b = o.h();", () => "if (o.h) b = o.h() % 4;",
   (one) => `box.put(${one.name()}); ${one.name()} = ${one.load()};`, () => "a = box.is + b;",
   (one) => `keep(${one.expression(1)} % 3);`, (one) => `${one.name()} = kept();`,
-  (one, depth) => `box.put(${one.expression(1)}); ${one.statement(depth)}`, (one, depth) => `keep(${one.load()}); ${one.statement(depth)}`,
+  (one, depth) => `box.put(${one.expression(1)}); ${one.statement(depth)}`,
+  (one, depth) => `keep(${one.load()}); ${one.statement(depth)}`,
   (one, depth) => `{ const p = new Box(); p.put(${one.name()}); ${one.statement(depth)} if (p.is > 2) box.put(1); }`,
   (one) => `while (${one.load()} === 0) { ${one.name()} = ${one.expression(1)} % 2; if (++turns > 2) break; }`,
   (one, depth) => `weak.set(o, ${one.name()} % 2); ${one.statement(depth)} a = weak.get(o) ?? 3;`,
   (one) => `o = { ...o, n: ${one.name()} };`, (one) => `if (${one.expression(1)} > 2) other = o;`,
-  (one) => `other.n = ${one.name()};`, (one) => `{ const [p, r] = [${one.expression(1)}, ${one.expression(1)}]; a = p; c = r % 5; }`,
+  (one) => `other.n = ${one.name()};`,
+  (one) => `{ const [p, r] = [${one.expression(1)}, ${one.expression(1)}]; a = p; c = r % 5; }`,
   (one) => `do { ${one.name()} = ${one.expression(1)} % 2; if (++turns > 4) break; } while (${one.load()} > 2);`,
   (one) => `k = ${one.name()} > 1 ? null : ${one.name()};`, (one) => `map.set(${one.name()} % 2, ${one.name()});`,
   (one) => `words[3] += ${one.name()};`, (one) => `bytes[13] = ${one.name()};`, () => "words[3]++;",
   (one) => `${one.name()} += words[0];`, (one) => `bytes[12 + (${one.name()} & 1)] += ${one.name()};`,
+  (one) => `{ const p = { m() { return ${one.name()}; }, n: ${one.load()} }; a = p.m() + p.n; }`,
+  (one, depth) => `try { for (;;) { if (++turns > 2) throw turns; ${one.statement(depth)} } } catch { b = ${one.name()}; }`,
+  (one, depth) => `{ const s = ${one.name()} > 1 ? Symbol("s") : Symbol("r"); ${one.statement(depth)} `
+    + "c = s.description === \"s\" ? 1 : 2; }",
+  (one, depth) => {
+    const name = one.newName();
+    return `{ const ${name} = ${one.name()}; class P { static v() { return ${name}; } } ${one.statement(depth)} a = P.v(); }`;
+  },
+  (one) => `{ const q = { ...{ get x() { return ${one.load()}; }, y: ${one.name()} } }; a = q.x + q.y; }`,
+  (one, depth) => `{ const p = { g: three.bind(null, ${one.name()}), m() {} }; ${one.statement(depth)} b = p.g(1, 2); }`,
+  (one, depth) => `{ const all = [${one.name()}, 1, 2]; ${one.statement(depth)} a = three(...all) + ${one.load()}; }`,
   () => "b = map.get(0) ?? 7;", (one) => `a = made(${one.name()}).get() + ${one.load()};`,
 ];
 
@@ -103,7 +119,8 @@ class Writer {
 
   /** @param {number} depth @returns {string} */
   expression(depth) {
-    return depth === 0 ? this.draw.of([this.name(), String(this.draw.below(3))]) : this.draw.of(EXPRESSIONS)(this, depth - 1);
+    if (depth === 0) return this.draw.of([this.name(), String(this.draw.below(3))]);
+    return this.draw.of(EXPRESSIONS)(this, depth - 1);
   }
 
   /** @param {number} depth @returns {string} */
@@ -122,8 +139,17 @@ const three = (x, y, z) => (x * 3 + y * 2 + z) % 7;
 const sum = (x, y) => x + y;
 const made = (n) => ({ get() { return n; } });
 function increase() { count = (count + 1) % 3; return count; }
-function looks(x) { try { if (x > 1) return ld(0) + x; x += ld(1); } finally { count += Atomics.load(words, 0); } return x; }
-class Box { #n = 0; put(n) { this.#n = n % 2; } peek() { return this.#n; } get() { return this.#n + ld(0); } get is() { return this.#n * 2 + ld(1); } }
+function looks(x) {
+  try { if (x > 1) return ld(0) + x; x += ld(1); } finally { count += Atomics.load(words, 0); }
+  return x;
+}
+class Box {
+  #n = 0;
+  put(n) { this.#n = n % 2; }
+  peek() { return this.#n; }
+  get() { return this.#n + ld(0); }
+  get is() { return this.#n * 2 + ld(1); }
+}
 `;
 
 /** @param {number} seed @returns {string} the text of a module of agents */
@@ -149,7 +175,8 @@ export function programOf(seed) {
   const map = new Map();
   const box = new Box();
 ${body}
-  Atomics.store(words, 2, three(a, b, c) * 100 + three(o.n, other.n, count) * 10 + list[0] + list[1] + 1000 * box.peek() + 10000 * kept());
+  const sums = three(a, b, c) * 100 + three(o.n, other.n, count) * 10;
+  Atomics.store(words, 2, sums + list[0] + list[1] + 1000 * box.peek() + 10000 * kept());
   Atomics.add(words, 3, ((a | 0) & 15) + 16 * ((b | 0) & 15) + 256 * ((c | 0) & 15));
 }
 `;

@@ -7,7 +7,9 @@ import { readFileSync } from "node:fs";
 import { parseArgs } from "node:util";
 import { learnAgain, learnApart } from "../lib/every/learning/apart.mjs";
 
-const { values } = parseArgs({ options: { only: { type: "string", default: "" }, within: { type: "string", default: "60" } } });
+const { values } = parseArgs({
+  options: { only: { type: "string", default: "" }, within: { type: "string", default: "60" } },
+});
 
 /** @type {Record<string, { states: string, seconds: number | null, found: string[] }>} */
 const TRIAL = JSON.parse(readFileSync(new URL("./every-trial.json", import.meta.url), "utf8"));
@@ -29,14 +31,17 @@ const worked = () => {
 async function tried(path) {
   const module = new URL(`../${path}`, import.meta.url).href;
   const begun = worked();
-  const wanted = { module, args: [], place: {}, timeouts: /** @type {"early"} */ ("early"), limit: LIMIT, within: Number(values.within) };
+  const timeouts = /** @type {const} */ ("early");
+  const wanted = { module, args: [], place: {}, timeouts, limit: LIMIT, within: Number(values.within) };
   try {
-    const { edges, findings, isClosed, isShared, counts, nodes, plan, result: { states } } = await learnApart(wanted, { seconds: SECONDS });
-    const differs = isClosed ? await learnAgain({ module, args: [], plan, isShared, isFresh: false, nodes, edges }) : undefined;
+    const report = await learnApart(wanted, { seconds: SECONDS });
+    const { edges, findings, isClosed, isShared, counts, nodes, plan, result: { states } } = report;
+    const again = { module, args: [], plan, isShared, isFresh: false, nodes, edges };
+    const differs = isClosed ? await learnAgain(again) : undefined;
     const found = [...new Set(findings.map(({ kind }) => kind))].sort();
     return {
-      states: isClosed ? `${states}` : `>${states}`, nodes: counts.nodes.join("+"), seconds: worked() - begun, found, isClosed,
-      note: differs === undefined ? "" : "not as learned",
+      states: isClosed ? `${states}` : `>${states}`, nodes: counts.nodes.join("+"), seconds: worked() - begun, found,
+      isClosed, note: differs === undefined ? "" : "not as learned",
     };
   } catch (problem) {
     const note = /** @type {Error} */ (problem).message.split("\n")[0].slice(0, 100);
@@ -45,16 +50,19 @@ async function tried(path) {
 }
 
 console.log("# Every schedule of many modules\n");
-console.log("`recorder/bench/every.mjs` has made this. Seconds are those of processors: learning, search, and learning again. The");
-console.log("trial counted states up to renaming of agents, and merged moments whose futures looked alike in tests.\n");
-console.log("| Module | States | Nodes | Seconds | Found | Trial: states | Seconds | Found | |\n|---|---:|---:|---:|---|---:|---:|---|---|");
+console.log("`recorder/bench/every.mjs` has made this. Seconds are those of processors: learning, search, and");
+console.log("learning again. The trial counted states up to renaming of agents, and merged moments whose futures");
+console.log("looked alike in tests.\n");
+console.log("| Module | States | Nodes | Seconds | Found | Trial: states | Seconds | Found | |");
+console.log("|---|---:|---:|---:|---|---:|---:|---|---|");
 const closed = [];
 for (const [path, trial] of Object.entries(TRIAL).filter(([name]) => name.includes(values.only))) {
   const { states, nodes, seconds, found, isClosed, note } = await tried(path);
   if (isClosed) closed.push(seconds);
   const same = !isClosed || found.join() === trial.found.join() ? "" : "other findings";
   const theirs = [trial.states, trial.seconds ?? "", trial.found.join(", ")];
-  console.log(`| ${[path, states, nodes, seconds.toFixed(1), found.join(", "), ...theirs, [same, note].filter(Boolean).join("; ")].join(" | ")} |`);
+  const own = [path, states, nodes, seconds.toFixed(1), found.join(", ")];
+  console.log(`| ${[...own, ...theirs, [same, note].filter(Boolean).join("; ")].join(" | ")} |`);
 }
 /** @param {number} most */
 const within = (most) => closed.filter((seconds) => seconds <= most).length;

@@ -11,9 +11,8 @@ const { urls, flaw, limit, isUnmergedToo = true } = workerData;
 const asker = new Asker();
 installRealm(asker);
 
-/** @param {string} url @param {boolean} isUnmerged */
-function learned(url, isUnmerged) {
-  const code = loadCode(url, flaw);
+/** @param {import("../lib/every/learning/code.mjs").Code} code @param {boolean} isUnmerged */
+function learned(code, isUnmerged) {
   const one = new Learned(code, asker, { args: [], place: {}, timeouts: "early", limit, isUnmerged });
   const search = one.search();
   const kinds = new Kinds(search).find();
@@ -28,8 +27,9 @@ function learned(url, isUnmerged) {
 /** @param {string} url */
 function both(url) {
   try {
-    const merged = learned(url, false);
-    return isUnmergedToo ? { merged, unmerged: learned(url, true) } : { merged };
+    const code = loadCode(url, flaw);
+    const merged = learned(code, false);
+    return isUnmergedToo ? { merged, unmerged: learned(code, true) } : { merged };
   } catch (problem) {
     asker.refused = undefined;
     return { problem: `${problem.constructor.name}: ${problem.message}` };

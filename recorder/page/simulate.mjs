@@ -1,4 +1,4 @@
-// The simulator of a page: the module, which the page has as base64, run by the page's loader.
+// The simulator of a page: the module, which the page has packed by gzip, as base64, run by the page's loader.
 
 import { by } from "./dom.mjs";
 
@@ -6,14 +6,20 @@ import { by } from "./dom.mjs";
 /** @typedef {{ command: (words: string[], read: () => Uint8Array) => Ended }} Simulator */
 /** @typedef {new (module: WebAssembly.Module) => Simulator} SimulatorClass */
 
+/** @param {string} text the module as the page has it */
+async function unpacked(text) {
+  const packed = Uint8Array.from(atob(text), (sign) => sign.charCodeAt(0));
+  const bytes = new Blob([packed]).stream().pipeThrough(new DecompressionStream("gzip"));
+  return new Response(bytes).arrayBuffer();
+}
+
 /**
  * @param {SimulatorClass} Simulator
  * @returns {Promise<import("../schedule/editing.mjs").Simulate>}
  * @throws {Error} if the browser can't compile the module
  */
 export async function simulateBy(Simulator) {
-  const text = atob((by("simulator").textContent ?? "").trim());
-  const bytes = Uint8Array.from(text, (sign) => sign.charCodeAt(0));
+  const bytes = await unpacked((by("simulator").textContent ?? "").trim());
   const simulator = new Simulator(await WebAssembly.compile(bytes));
   return (words, input) => {
     const { status, output, complaint } = simulator.command(words, () => input);

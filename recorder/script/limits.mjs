@@ -11,6 +11,9 @@ export const SCRIPT_LIMITS = Object.freeze({
   text: 1_048_576,
 });
 
+/** How many bytes a file of automata can have at most. */
+export const MOST_OF_AUTOMATA = 16_777_216;
+
 /** For how many seconds an agent may make no call, if nothing else is asked for. */
 export const DEFAULT_SECONDS = 10;
 

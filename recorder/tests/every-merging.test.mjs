@@ -9,7 +9,7 @@ import { after, test } from "node:test";
 import { pathToFileURL } from "node:url";
 import { Worker } from "node:worker_threads";
 import graphFlags from "../lib/program/graph-flags.cjs";
-import { BODIES, LONG, longModuleOf, moduleOf } from "./every/nasty.mjs";
+import { BODIES, LONG, MODULES, longModuleOf, moduleOf } from "./every/nasty.mjs";
 
 const FOLDER = mkdtempSync(join(tmpdir(), "sabsim-every-"));
 after(() => rmSync(FOLDER, { recursive: true }));
@@ -45,7 +45,8 @@ export default function agent(given) {
 });
 
 test("what can't be read any more doesn't keep moments apart", async () => {
-  const [{ merged, unmerged }] = await learned([written("dead", moduleOf("let a = ld(0); ld(1); a = 5; ld(1); out(a);"))]);
+  const text = moduleOf("let a = ld(0); ld(1); a = 5; ld(1); out(a);");
+  const [{ merged, unmerged }] = await learned([written("dead", text)]);
   assert.deepEqual(left(merged), left(unmerged));
   assert.ok(merged.nodes < unmerged.nodes, `${merged.nodes} of ${unmerged.nodes}`);
 });
@@ -71,27 +72,40 @@ for (const [at, name] of NAMES.entries()) {
     const { problem, merged, unmerged } = (await RESULTS)[at];
     assert.equal(problem, undefined);
     assert.ok(merged.isClosed && unmerged.isClosed);
-    assert.ok(unmerged.finals.length > 1, "the first load must make a difference");
+    assert.ok(unmerged.finals.length + unmerged.failed.length > 1, "the first load must make a difference");
     assert.deepEqual(left(merged), left(unmerged));
     assert.ok(merged.nodes <= unmerged.nodes);
   });
 }
 
-/** @param {string} hides @returns {Promise<string[]>} the names of the modules that leave something else then */
-async function noticed(hides) {
-  const results = await learned(URLS, { flaw: { hides } });
-  return NAMES.filter((_, at) => {
-    const { problem, merged, unmerged } = results[at];
-    if (problem !== undefined) return true;
-    return JSON.stringify(left(merged)) !== JSON.stringify(left(unmerged));
+const KEEPING = Object.entries(MODULES).map(([name, files]) => {
+  for (const [file, text] of files) writeFileSync(join(FOLDER, file), text);
+  return { name, url: pathToFileURL(join(FOLDER, files[0][0])).href };
+});
+const KEPT = learned(KEEPING.map(({ url }) => url));
+
+for (const [at, { name }] of KEEPING.entries()) {
+  test(`never merged wrongly, in a module: ${name}`, async () => {
+    const { problem, merged, unmerged } = (await KEPT)[at];
+    assert.equal(problem, undefined);
+    assert.ok(unmerged.finals.length > 1);
+    assert.deepEqual(left(merged), left(unmerged));
   });
 }
 
-test("leaving out temporaries, closures or private fields is noticed", async () => {
-  const [temporaries, closures, privates] = await Promise.all(["temporaries", "closures", "privates"].map(noticed));
-  for (const name of ["temporary in a sum", "temporary in a call", "temporary object", "temporary key of +="]) {
-    assert.ok(temporaries.includes(name), name);
-  }
-  assert.ok(closures.includes("closure alone") && closures.includes("methods in a literal"));
-  assert.ok(privates.includes("private field") && privates.includes("private field of a module's class"));
-});
+/** What notices that something is left out of an agent's state on purpose. */
+const NOTICING = {
+  temporaries: ["temporary in a sum", "temporary in a call", "temporary object", "temporary key of +="],
+  closures: ["closure alone", "methods in a literal"],
+  privates: ["private field", "private field of a module's class"],
+};
+
+for (const [hides, names] of Object.entries(NOTICING)) {
+  test(`leaving out ${hides} is noticed`, async () => {
+    const urls = names.map((name) => URLS[NAMES.indexOf(name)]);
+    for (const [at, { problem, merged, unmerged }] of (await learned(urls, { flaw: { hides } })).entries()) {
+      assert.equal(problem, undefined);
+      assert.notDeepEqual(left(merged), left(unmerged), names[at]);
+    }
+  });
+}

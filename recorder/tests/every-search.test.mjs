@@ -9,6 +9,7 @@ import { join } from "node:path";
 import { test } from "node:test";
 import { fileURLToPath, pathToFileURL } from "node:url";
 import { learnApart } from "../lib/every/learning/apart.mjs";
+import { resultIn, statusOf } from "../lib/every/search/lines.mjs";
 import { searched } from "../lib/every/search/second.mjs";
 import { needing } from "./helpers/needs.mjs";
 
@@ -33,19 +34,21 @@ for (const name of readdirSync(EXAMPLES).filter((file) => !file.endsWith(".resul
   });
 }
 
-// Prints files that the model's drawing makes, and the model's results, as JSON.
+// Prints files that the model's drawing makes, the model's results, and the lines that the program prints of each.
 const DRAWS = `
 import json, sys
 sys.path.insert(0, sys.argv[1])
 sys.dont_write_bytecode = True
 from checks.drawn import drawn
 from model.reading import read
+from model.lines import lines_of
 from model.result import result_of
 found = []
 for seed in range(int(sys.argv[2]), int(sys.argv[3])):
     it = drawn(seed)
     for choice in ("early", "last", "never"):
-        found.append([it.file, result_of(read(json.dumps(it.file).encode()), choice, it.limit)])
+        result = result_of(read(json.dumps(it.file).encode()), choice, it.limit)
+        found.append([it.file, result, "".join(line + "\\n" for line in lines_of(result))])
 print(json.dumps(found))
 `;
 
@@ -53,20 +56,27 @@ test("files that were drawn", withPython, () => {
   const folder = mkdtempSync(join(tmpdir(), "sabsim-drawn-"));
   const script = join(folder, "draws.py");
   writeFileSync(script, DRAWS);
-  const { stdout, error, status, stderr } = spawnSync("python3", [script, SEARCH, "1", "200"], { encoding: "utf8", maxBuffer: 2 ** 28 });
+  const options = /** @type {const} */ ({ encoding: "utf8", maxBuffer: 2 ** 28 });
+  const { stdout, error, status, stderr } = spawnSync("python3", [script, SEARCH, "1", "200"], options);
   rmSync(folder, { recursive: true });
   assert.equal(error, undefined);
   assert.equal(status, 0, stderr);
   const drawn = JSON.parse(stdout);
   assert.equal(drawn.length, 3 * 199);
-  for (const [data, wanted] of drawn) compare(data, wanted);
+  for (const [data, wanted, lines] of drawn) {
+    compare(data, wanted);
+    const { status, ...result } = wanted;
+    assert.deepEqual(resultIn(lines), result);
+    assert.equal(statusOf(resultIn(lines)), status);
+  }
 });
 
 // Modules of agents whose automata are searched by the model, too.
 const MODULES = [
   "examples/late-notify.agents.mjs", "examples/late-notify-mended.agents.mjs", "tests/known/spin-ordinarily.mjs",
-  "tests/known/flag-read-ordinarily.mjs", "tests/known/deque-wraps.mjs", "tests/known/struct.mjs", "tests/known/text.mjs",
-  "tests/known/failed-exchange.mjs", "tests/known/spin-on-shut-door.mjs", "tests/known/last-one-sums.mjs",
+  "tests/known/flag-read-ordinarily.mjs", "tests/known/deque-wraps.mjs", "tests/known/struct.mjs",
+  "tests/known/text.mjs", "tests/known/failed-exchange.mjs",
+  "tests/known/spin-on-shut-door.mjs", "tests/known/last-one-sums.mjs",
   "bench/programs/lost-wake-up.mjs", "bench/programs/ring-frees-first.mjs", "bench/pieces/wait-notify.mjs",
 ];
 
@@ -91,14 +101,17 @@ test("the automata of modules of agents", withPython, async (context) => {
   const folder = mkdtempSync(join(tmpdir(), "sabsim-automata-"));
   context.after(() => rmSync(folder, { recursive: true }));
   writeFileSync(join(folder, "spins.mjs"), SPINS);
-  const urls = [...MODULES.map((path) => new URL(`../${path}`, import.meta.url)), pathToFileURL(join(folder, "spins.mjs"))];
+  const known = MODULES.map((path) => new URL(`../${path}`, import.meta.url));
+  const urls = [...known, pathToFileURL(join(folder, "spins.mjs"))];
   for (const { href: module } of urls) {
-    const wanted = { module, args: [], place: {}, timeouts: /** @type {"early"} */ ("early"), limit: 20_000, within: 60 };
+    const timeouts = /** @type {const} */ ("early");
+    const wanted = { module, args: [], place: {}, timeouts, limit: 20_000, within: 60 };
     const { file, isClosed, result } = await learnApart(wanted, { seconds: 10 });
     assert.ok(isClosed, module);
     const path = join(folder, "automata.json");
     writeFileSync(path, JSON.stringify(file));
-    const { stdout, error, status, stderr } = spawnSync("python3", [join(SEARCH, "result"), "--limit", "20000", path], { encoding: "utf8" });
+    const words = [join(SEARCH, "result"), "--limit", "20000", path];
+    const { stdout, error, status, stderr } = spawnSync("python3", words, { encoding: "utf8" });
     assert.equal(error, undefined);
     assert.equal(status, 0, `${module}: ${stderr}`);
     const { status: _status, ...model } = JSON.parse(stdout);

@@ -8,16 +8,20 @@ import { test } from "node:test";
 import { fileURLToPath, pathToFileURL } from "node:url";
 import { Agreement } from "../lib/every/agreement.mjs";
 import { learnAgain, learnApart } from "../lib/every/learning/apart.mjs";
-import { comparedBySecond } from "../lib/every/second.mjs";
 import { programOf } from "../lib/every/search/file.mjs";
 import { searched } from "../lib/every/search/second.mjs";
 import { NotAsLearned, Refused, everySchedule, record } from "../recorder.mjs";
 import { assertAgents } from "../testing.mjs";
 import { BODIES, moduleOf as nastyOf } from "./every/nasty.mjs";
+import { ModuleSimulator } from "../lib/simulator/module.mjs";
 import { agentsPath, temporaryFolder } from "./helpers/common.mjs";
 
 const RECORD = fileURLToPath(new URL("../record.mjs", import.meta.url));
 const EXAMPLES = fileURLToPath(new URL("../examples/", import.meta.url));
+
+/** Whether the simulator can search. */
+const IS_PROVED = new ModuleSimulator().canSearch;
+const NOT_PROVED = "the search isn't proved (the simulator has no search yet)";
 
 /** @param {string[]} words @returns {Promise<{ status: number | null, out: string, problems: string }>} */
 const recorded = (...words) => new Promise((done) => {
@@ -52,10 +56,11 @@ test("a right lock: every schedule was tried, and nothing was found", async (con
   assert.equal(done.problems, "");
   assert.equal(done.status, 0);
   const [first, states, learned, ...rest] = done.out.split("\n");
-  assert.equal(first, "every schedule of 3 agents was tried: none deadlocks, throws, races or fails check; from every state "
-    + "all agents can still end");
+  assert.equal(first, "every schedule of 3 agents was tried: none deadlocks, throws, races or fails check; "
+    + "from every state all agents can still end");
   assert.match(states, /^ {2}20,590 states, 52,893 acts; 1 final state: /);
-  assert.match(learned, /the search isn't proved yet; .*: 39 moments of an agent, each of 78 edges twice; 20 real runs agree$/);
+  assert.ok(learned.startsWith(`  ${IS_PROVED ? "the search is proved" : NOT_PROVED}; what`), learned);
+  assert.match(learned, /: 39 moments of an agent, each of 78 edges twice; 20 real runs agree$/);
   assert.equal(rest.at(-2), `kept in ${out}: all.automata.json`);
   const file = JSON.parse(readFileSync(join(out, "all.automata.json"), "utf8"));
   assert.equal(searched(file, { timeouts: "early", limit: 1_000_000 }).states, 20_590);
@@ -77,8 +82,9 @@ test("a lost wake-up is found, and shown by a run of the code that can be replay
 test("JSON has what the text says", async () => {
   const done = await recorded(join(EXAMPLES, "late-notify.agents.mjs"), "--all", "--seeds", "1..5", "--format", "json");
   assert.equal(done.status, 1, done.problems);
-  const { every, closed, found, realRuns, searchProved, states } = JSON.parse(done.out);
-  assert.deepEqual({ every, closed, realRuns, searchProved, states }, { every: 1, closed: true, realRuns: 5, searchProved: false, states: 428 });
+  const { every, closed, found, notProved, realRuns, searchProved, states } = JSON.parse(done.out);
+  assert.deepEqual({ every, closed, realRuns, states }, { every: 1, closed: true, realRuns: 5, states: 428 });
+  assert.equal(searchProved, notProved === null);
   assert.equal(found.length, 1);
   assert.equal(found[0].kind, "threw");
   assert.match(found[0].detail[0], /^agent 0 threw Error: the answer to job \d+ is \d+, and not \d+/);
@@ -106,13 +112,19 @@ test("what can't be learned is refused, with its line", async (context) => {
     [LOADS("Math.random();"), /it asks for a random number, at agents\.mjs:5:8$/],
     [LOADS("performance.now();"), /it looks at a clock, at agents\.mjs:5:\d+$/],
     [LOADS("Date.now();"), /it looks at a clock, at agents\.mjs:5:\d+$/],
-    [LOADS("Atomics.add(new Int32Array(new SharedArrayBuffer(4)), 0, 1);"), /shared memory that isn't recorded, at agents\.mjs:5/],
+    [LOADS("Atomics.add(new Int32Array(new SharedArrayBuffer(4)), 0, 1);"), /that isn't recorded, at agents\.mjs:5/],
     [LOADS("eval('1');"), /what an agent keeps at agents\.mjs:5:3: `eval`/],
     [LOADS("(() => 0).constructor('return 1')();"), /agents\.mjs:5:3: \.constructor$/],
+    [LOADS("(() => 0)['constructor']('return 1')();"), /agents\.mjs:5:3: \.constructor$/],
+    [LOADS("const { constructor: R } = /a/; R.$1;"), /agents\.mjs:5:11: \.constructor$/],
+    [LOADS("performance.mark('a');"), /agents\.mjs:5:3: `performance` used in this way$/],
+    [LOADS("{ using one = null; }"), /agents\.mjs:5:5: `using`$/],
+    [LOADS("buffers[0].kept = 1;"), /gives the object of a buffer a property or another prototype$/],
     [`import "node:fs";\n${LOADS("")}`, /node:fs, which agents\.mjs imports$/],
   ])) {
     const module = moduleOf(context, text);
-    await assert.rejects(everySchedule({ module, seeds: 1 }), (error) => error instanceof Refused && wanted.test(error.message), text);
+    const isWanted = (/** @type {unknown} */ error) => error instanceof Refused && wanted.test(error.message);
+    await assert.rejects(everySchedule({ module, seeds: 1 }), isWanted, text);
   }
 });
 
@@ -168,16 +180,6 @@ test("moments that were merged wrongly are noticed by the second learning", asyn
   }
 });
 
-test("a second search that finds something else is noticed", async () => {
-  const file = readFileSync(fileURLToPath(new URL("../../tests/search/examples/late-notify.json", import.meta.url)), "utf8");
-  const data = JSON.parse(file);
-  const result = searched(data, { timeouts: "early", limit: 1_000 });
-  assert.equal(await comparedBySecond(data, result, async () => structuredClone(result)), true);
-  for (const change of [{ states: result.states + 1 }, { failed: [] }, { final: { ...result.final, count: 7 } }]) {
-    await assert.rejects(comparedBySecond(data, result, async () => ({ ...result, ...change })), NotAsLearned);
-  }
-});
-
 test("if not every schedule can be tried, it goes on with the seeds", async () => {
   const module = join(EXAMPLES, "mutex-three-state.agents.mjs");
   const done = await recorded(module, "--all", "--states", "500", "--seeds", "1..5");
@@ -201,7 +203,8 @@ test("an agent that never comes back ends its thread", async (context) => {
 test("an agent that catches everything is broken off", async (context) => {
   const module = moduleOf(context, LOADS("for (;;) try { Atomics.add(words, 0, 1); } catch {}"));
   const done = await recorded(module, "--all", "--seeds", "1..2", "--seconds", "2");
-  assert.match(done.out, /^not every schedule was tried: an agent that was called alone didn't come back within 2 s: .* catches everything/);
+  const late = /^not every schedule was tried: an agent .* alone didn't come back within 2 s: .* catches everything/;
+  assert.match(done.out, late);
 });
 
 test("options that don't go with it are refused by name", async () => {
@@ -227,16 +230,19 @@ test("a trial of a suite fails by what is found, and if not every schedule was t
   await assertAgents({ module: right, all: true, seeds: 5 });
   const wrong = join(EXAMPLES, "late-notify.agents.mjs");
   await assert.rejects(assertAgents({ module: wrong, all: true, seeds: 5 }), /RunFailed|agents can throw/);
-  await assert.rejects(assertAgents({ module: right, all: true, states: 10, seeds: 5 }), /not every schedule was tried/);
+  const small = { module: right, all: /** @type {const} */ (true), states: 10, seeds: 5 };
+  await assert.rejects(assertAgents(small), /not every schedule was tried/);
 });
 
 test("agents may assert", async (context) => {
   const module = moduleOf(context, `import assert from "node:assert/strict";
 import { equal } from "node:assert";
-${LOADS("const before = Atomics.add(words, 0, 1); equal(typeof before, 'number'); assert(before === 0 || self > 5);")}`);
+${LOADS(`const before = Atomics.add(words, 0, 1);
+  equal(typeof before, 'number');
+  assert(before === 0 || self > 5);`)}`);
   const { closed, found } = await everySchedule({ module, seeds: 5 });
   assert.ok(closed);
-  assert.deepEqual(found.map(({ kind, text }) => ({ kind, text })), [{ kind: "threw", text: "AssertionError [ERR_ASSERTION]" }]);
+  assert.deepEqual(found.map(({ kind, text }) => [kind, text]), [["threw", "AssertionError [ERR_ASSERTION]"]]);
   assert.match(found[0].detail?.[0] ?? "", /^agent \d threw AssertionError/);
 });
 
@@ -260,13 +266,15 @@ export const check = ([words, bytes]) => new Int32Array(words)[1] === 16 && new 
 });
 
 test("a time that is over at any moment, or never", async (context) => {
-  const module = moduleOf(context, LOADS("if (self === 0) Atomics.wait(words, 0, 0, 500); else Atomics.notify(words, 0);"));
+  const waits = "if (self === 0) Atomics.wait(words, 0, 0, 500); else Atomics.notify(words, 0);";
+  const module = moduleOf(context, LOADS(waits));
   const early = await everySchedule({ module, seeds: 2 });
   assert.deepEqual(early.found, []);
   const never = await everySchedule({ module, timeouts: "never", seeds: 2 });
   assert.deepEqual(never.found.map(({ kind }) => kind), ["deadlock"]);
   const none = moduleOf(context, LOADS("if (self === 0) Atomics.wait(words, 0, 0, 0);"));
-  await assert.rejects(everySchedule({ module: none, timeouts: "never", seeds: 2 }), /waits for 0 ms, .*, at agents\.mjs:5/);
+  const endless = { module: none, timeouts: /** @type {const} */ ("never"), seeds: 2 };
+  await assert.rejects(everySchedule(endless), /waits for 0 ms, .*, at agents\.mjs:5/);
   assert.deepEqual((await everySchedule({ module: none, seeds: 2 })).found, []);
 });
 
@@ -286,7 +294,8 @@ export const [first, { second }] = [1, { second: 2 }];
 export class Lock { constructor(words) { this.words = words; } take() { return Atomics.add(this.words, 0, more()); } }
 export { more as another, more as "a name" };
 export default function () { return 7; }`,
-    "two.mjs": "export * from \"./one.mjs\"; export * as all from \"./one.mjs\"; export { default as seven } from \"./one.mjs\";\n"
+    "two.mjs": "export * from \"./one.mjs\"; export * as all from \"./one.mjs\";\n"
+      + "export { default as seven } from \"./one.mjs\";\n"
       + "import { main } from \"./agents.mjs\"; export const later = () => main;",
     "agents.mjs": `#!/usr/bin/env node
 import * as two from "./two.mjs";
@@ -307,5 +316,5 @@ export default ({ buffers }) => {
   };
   for (const [name, text] of Object.entries(files)) writeFileSync(join(folder, name), text);
   const { closed, finals, found } = await everySchedule({ module: join(folder, "agents.mjs"), fresh: true, seeds: 3 });
-  assert.deepEqual({ closed, found, finals: finals.map(({ text }) => text) }, { closed: true, found: [], finals: ["020000000a000000"] });
+  assert.deepEqual([closed, found, finals.map(({ text }) => text)], [true, [], ["020000000a000000"]]);
 });

@@ -55,7 +55,7 @@ test("files of --require and --import are loaded for agents too, whatever the nu
   const words = small(folder, `
     Atomics.add(new Int32Array(buffers[0]), 0, fromRequire + fromImport);
   `);
-  const nodeWords = ["--require", join(folder, "pre.cjs"), "--import", join(folder, "pre.mjs")];
+  const nodeWords = ["--require", join(folder, "pre.cjs"), "--import", pathToFileURL(join(folder, "pre.mjs")).href];
   const [one, two] = ["1", "2"].map((jobs) => run([...words, "--seeds", "1..20", "--jobs", jobs], nodeWords));
   assert.equal(one.status, 0, one.stdout);
   assert.match(one.stdout, /^20 runs: 20 finished\n1 final state: .*\n {2}20 runs .*: 0600000000000000$/m);

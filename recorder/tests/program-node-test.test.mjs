@@ -59,6 +59,14 @@ describe("node:test in a program", { concurrency: 2 }, () => {
     });
   }
 
+  it("runs in threads in which an earlier run has added to what all objects inherit", async (context) => {
+    const main = `import { test } from "node:test";
+test("a", () => {});
+process.on("exit", () => { Object.prototype.writable = false; });`;
+    const outcomes = await runsOf(context, { "main.mjs": main }, { seeds: [1, 2, 3, 4] });
+    assert.deepEqual(outcomes.map(({ ending, detail }) => [ending, detail]), Array(4).fill(["finished", ""]));
+  });
+
   for (const [what, [main, says]] of Object.entries(FAILING)) {
     it(`fails by ${what}, with the test's name, message and line`, async (context) => {
       for (const { ending, detail } of await runsOf(context, { "main.mjs": main }, { seeds: [1, 2] })) {

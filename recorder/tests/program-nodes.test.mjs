@@ -7,6 +7,7 @@ import { writeFileSync } from "node:fs";
 import nodeModule from "node:module";
 import { join } from "node:path";
 import { test } from "node:test";
+import { pathToFileURL } from "node:url";
 import { record } from "../recorder.mjs";
 import { RECORD, temporaryFolder } from "./helpers/common.mjs";
 import { whereNodeHasIt } from "./helpers/where-node-has-it.mjs";
@@ -109,7 +110,8 @@ const withTypeScript = whereNodeHasIt(isLoaded || nodeModule.registerHooks !== u
 withTypeScript("a program in TypeScript has its own lines", (context) => {
   const file = filesIn(context, { "main.ts": RACING, "other.mts": RACING, "hook.mjs": HOOK });
   for (const name of ["main.ts", "other.mts"]) {
-    const { status, stdout, stderr } = ranBy(["--program", file(name)], isLoaded ? [] : ["--import", file("hook.mjs")]);
+    const hook = isLoaded ? [] : ["--import", pathToFileURL(file("hook.mjs")).href];
+    const { status, stdout, stderr } = ranBy(["--program", file(name)], hook);
     assert.equal(status, 1, stderr);
     assert.match(stdout, new RegExp(`agent 1 \\(${name}, started at ${name}:5:19\\) (?:reads|writes) .* at ${name}:6:`));
   }

@@ -372,7 +372,7 @@ test("the cause of a worker's death while its module is loaded is reported", asy
   }
 });
 
-const soon = async (holds, milliseconds = 20_000) => {
+const soon = async (holds, milliseconds = 300_000) => {
   const until = Date.now() + milliseconds;
   while (!holds() && Date.now() < until) {
     await new Promise((done) => {

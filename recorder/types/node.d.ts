@@ -124,7 +124,11 @@ interface AbortSignal {
   removeEventListener(event: "abort", listener: () => void): void;
 }
 
-declare var AbortSignal: { readonly prototype: AbortSignal; new (): AbortSignal };
+declare var AbortSignal: {
+  readonly prototype: AbortSignal;
+  new (): AbortSignal;
+  any(signals: AbortSignal[]): AbortSignal;
+};
 
 declare class AbortController {
   readonly signal: AbortSignal;
@@ -141,6 +145,7 @@ declare namespace WebAssembly {
   }
   class Module {
     constructor(bytes: Uint8Array);
+    static exports(module: Module): { name: string }[];
   }
   class Instance {
     constructor(module: Module, imports: object);
@@ -190,6 +195,15 @@ declare module "node:child_process" {
     kill(signal: NodeJS.Signals): boolean;
     send(message: unknown, done?: (error: Error | null) => void): boolean;
   }
+  interface PipedChild extends Child {
+    readonly stdin: NodeJS.Listened & { end(input: string): void };
+    readonly stdout: NodeJS.Listened;
+    readonly stderr: NodeJS.Listened;
+  }
+  interface PipedOptions {
+    stdio: "pipe";
+    signal?: AbortSignal;
+  }
   interface ForkOptions {
     stdio: string[];
     execArgv: string[];
@@ -214,6 +228,7 @@ declare module "node:child_process" {
   export function fork(program: string, options: ForkOptions): Child;
   export function fork(program: string, words: string[], options: ForkOptions): Child;
   export function spawn(program: string, words: string[], options: { stdio: "inherit" }): Child;
+  export function spawn(program: string, words: string[], options: PipedOptions): PipedChild;
   export function spawnSync(program: string, words: string[], options: SyncOptions): SyncEnd;
   const all: object;
   export default all;

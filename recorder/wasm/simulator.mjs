@@ -10,8 +10,15 @@ const FIRST_ROOM = 2 ** 18;
 const JOBS = ["replay", "check", "judge", "judge-trace"];
 const FORMATS = ["plain", "explained", "json", "svg", "script"];
 
+/** What the search takes for when waits' times may be over, in its order from 0. */
+const TIMEOUTS = ["early", "last", "never"];
+
+// Room for what a search finds, as far as it isn't known. A memory has 4 GiB, and the search needs most of it.
+const ROOM_OF_SEARCH = 2 ** 26;
+const ROOM_OF_STATES = 2 ** 29;
+
 /** Where the numbers of a reply are in the memory, of eight bytes each. */
-const REPLY = { status: 0, output: 8, complaint: 16, wants: 24, size: 32 };
+const REPLY = { status: 0, output: 8, complaint: 16, wants: 24, leftOut: 32, size: 40 };
 
 /** What a reply wants to be read. */
 const WANTS_NOTHING = 0;
@@ -41,6 +48,17 @@ const GIVEN = { nothing: 0, bytes: 1, unreadable: 2 };
  * @property {Uint8Array} output what it writes to standard output
  * @property {string} complaint what it writes to standard error
  */
+
+/**
+ * @typedef {object} SearchJob how the schedules of a file of automata are to be searched
+ * @property {"early" | "last" | "never"} timeouts when a wait's time may be over
+ * @property {number} limit how many states at most
+ * @property {"plain" | "json"} [format] of what is found; plain if it isn't given
+ * @property {boolean} [states] as the program's option of this name; so is the next one
+ * @property {boolean} [explain]
+ */
+
+/** @typedef {Ended & { leftOut: number }} EndedSearch how many bytes of the output had no room */
 
 /** The simulator has stopped in the middle of a call: it is defective, or it needs a deeper stack. */
 export class Trapped extends Error {
@@ -98,19 +116,35 @@ export class Instance {
   }
 
   /**
+   * @param {SearchJob} job
+   * @param {Uint8Array} input
+   * @param {number} room how many bytes the output may have
+   * @returns {EndedSearch}
+   */
+  search({ timeouts, limit, format = "plain", states = false, explain = false }, input, room) {
+    const numbers = [TIMEOUTS.indexOf(timeouts), limit, FORMATS.indexOf(format), Number(states), Number(explain)];
+    const at = BigInt(this.#put(NOTHING, input));
+    const size = BigInt(input.length);
+    return this.#ask((...place) => {
+      this.exports.sabsim_search(...numbers, at, size, ...place);
+    }, 0, room).ended;
+  }
+
+  /**
    * @param {Uint8Array} line the words, with a 0 behind each
    * @param {number} given one of GIVEN
    * @param {Uint8Array} input
    * @param {boolean} isTerminal
-   * @returns {{ wants: number, ended: Ended }}
+   * @param {number} [room] how many bytes the output has at least room for
+   * @returns {{ wants: number, ended: EndedSearch }}
    */
-  command(line, given, input, isTerminal) {
+  command(line, given, input, isTerminal, room) {
     const at = this.#put(line, input);
     const words = [BigInt(at - line.length), BigInt(line.length)];
     const slice = [BigInt(at), BigInt(input.length)];
-    return this.#ask((...room) => {
-      this.exports.sabsim_command(...words, given, Number(isTerminal), ...slice, ...room);
-    }, input.length);
+    return this.#ask((...place) => {
+      this.exports.sabsim_command(...words, given, Number(isTerminal), ...slice, ...place);
+    }, input.length, room);
   }
 
   /**
@@ -146,14 +180,18 @@ export class Instance {
 
   /**
    * Calls an export until its room is large enough.
-   * @param {(at: bigint, size: bigint, reply: bigint) => void} call what is called with the room's address and length and
-   * the reply's address
+   * @param {(at: bigint, size: bigint, reply: bigint) => void} call what is called with the room's address and length
+   * and the reply's address
    * @param {number} size of the input: most reports are a few times as long
-   * @returns {{ wants: number, ended: Ended }}
+   * @param {number} [room] at least
+   * @returns {{ wants: number, ended: EndedSearch }}
    */
-  #ask(call, size) {
-    for (let wanted = Math.max(FIRST_ROOM, 4 * size); ; ) {
+  #ask(call, size, room = 0) {
+    for (let wanted = Math.max(FIRST_ROOM, 4 * size, room); ; ) {
       this.room = this.#placeFor(this.room, wanted);
+      this.#look();
+      // A module without a search leaves it as it is.
+      this.view.setBigUint64(this.given.at + REPLY.leftOut, 0n, true);
       try {
         call(BigInt(this.room.at), BigInt(this.room.size), BigInt(this.given.at));
       } catch (error) {
@@ -165,7 +203,8 @@ export class Instance {
       if (wanted > this.room.size) continue;
       const bytes = this.bytes.slice(this.room.at, this.room.at + wanted);
       const complaint = output === wanted ? "" : decoder.decode(bytes.subarray(output));
-      const ended = { status: this.#replied(REPLY.status), output: bytes.subarray(0, output), complaint };
+      const [status, leftOut] = [this.#replied(REPLY.status), this.#replied(REPLY.leftOut)];
+      const ended = { status, output: bytes.subarray(0, output), complaint, leftOut };
       return { wants: this.#replied(REPLY.wants), ended };
     }
   }
@@ -201,25 +240,43 @@ export class Simulator {
     return this.#calling((instance) => instance.run(job, input));
   }
 
+  /** Whether this module can search. */
+  get canSearch() {
+    return WebAssembly.Module.exports(this.#module).some(({ name }) => name === "sabsim_search");
+  }
+
+  /**
+   * Searches the schedules of a file of automata, once. What has no room is left out at the end of a line.
+   * @param {SearchJob} job
+   * @param {Uint8Array} input
+   * @param {number} [room] how many bytes the output may have
+   * @returns {EndedSearch}
+   * @throws {Trapped}
+   */
+  search(job, input, room = job.states ? ROOM_OF_STATES : ROOM_OF_SEARCH) {
+    return { leftOut: 0, ...this.#calling((instance) => instance.search(job, input, room)) };
+  }
+
   /**
    * Does what a command line asks for.
    * @param {string[]} words without the program's name; none has a character 0
    * @param {(file: string | undefined) => Uint8Array} read returns what a file has, or what standard input has if none
    * is named; if it throws, the input can't be read
    * @param {boolean} [isTerminal] whether refusals are to be explained, as on a terminal
-   * @returns {Ended}
+   * @returns {EndedSearch}
    * @throws {Trapped}
    */
   command(words, read, isTerminal = false) {
     const line = new TextEncoder().encode(["sabsim", ...words].map((word) => `${word}\0`).join(""));
-    return this.#calling((instance) => {
+    const ended = this.#calling((instance) => {
       const first = instance.command(line, GIVEN.nothing, NOTHING, isTerminal);
       if (first.wants === WANTS_NOTHING) return first.ended;
       const name = first.wants === WANTS_STANDARD ? undefined : decoder.decode(first.ended.output);
       const input = bytesOf(read, name);
       const given = input === undefined ? GIVEN.unreadable : GIVEN.bytes;
-      return instance.command(line, given, input ?? NOTHING, isTerminal).ended;
+      return instance.command(line, given, input ?? NOTHING, isTerminal, roomOf(words)).ended;
     });
+    return { leftOut: 0, ...ended };
   }
 
   /**
@@ -240,6 +297,12 @@ export class Simulator {
       throw error;
     }
   }
+}
+
+/** @param {string[]} words of a command line @returns {number | undefined} how many bytes its output may have */
+function roomOf(words) {
+  if (words[0] !== "search") return undefined;
+  return words.includes("--states") ? ROOM_OF_STATES : ROOM_OF_SEARCH;
 }
 
 /**

@@ -34,7 +34,8 @@ import { FinalStates } from "../run/final-state.mjs";
  * @property {number} edgesByOne of these, both times by the same history
  * @property {{ why: string, nodes: number }[]} hidden moments that were compared with no others, and why
  * @property {number} realRuns that agree with what was learned
- * @property {boolean} searchProved whether the proved search has found the same
+ * @property {boolean} searchProved whether the proved search has found the same: the numbers are its own then
+ * @property {string | null} notProved why there was no proved search
  * @property {{ automaton: number, nodes: number, line: string | null, answers: number } | null} widest the automaton
  * with the most nodes, and the line whose answers are the most
  * @property {number} milliseconds
@@ -47,8 +48,10 @@ const NOTHING = Object.freeze({
 });
 
 /** @param {Tried} tried @returns {EveryData} */
-export function dataOf({ report, open, realRuns, isSecond, shown, milliseconds }) {
-  const common = { closed: open === undefined, open: open ?? null, realRuns, searchProved: isSecond, milliseconds };
+export function dataOf({ report, open, realRuns, isProved, notProved, shown, milliseconds }) {
+  const closed = open === undefined;
+  const proved = { searchProved: isProved, notProved: notProved ?? null };
+  const common = { closed, open: open ?? null, realRuns, ...proved, milliseconds };
   if (report === undefined) return { ...NOTHING, agents: 0, ...common };
   const { counts, depth = null, edges, findings, hidden, plan, result, widest } = report;
   const found = findings.map(({ row: _row, goesOn: _goesOn, ...finding }) => {

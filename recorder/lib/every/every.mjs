@@ -3,14 +3,16 @@
 
 import { Runs } from "../seeds/runs.mjs";
 import { Agreement } from "./agreement.mjs";
-import { DoesOtherwise, Unlearned, learnAgain, learnApart } from "./learning/apart.mjs";
+import { DoesOtherwise, Unlearned, beginAgain, learnAgain, learnApart } from "./learning/apart.mjs";
 import { NotAsLearned } from "./not-as-learned.mjs";
 import { programOf } from "./search/file.mjs";
-import { comparedBySecond } from "./second.mjs";
+import { beginSearch } from "./proved.mjs";
+import { comparedBySecond, needFound } from "./second.mjs";
 import { shown } from "./showing.mjs";
 
 /** @typedef {import("./learning/report.mjs").Report} Report */
 /** @typedef {import("./showing.mjs").Shown} Shown */
+/** @typedef {import("./proved.mjs").Thread} Thread */
 
 /**
  * @typedef {import("../seeds/runs.mjs").RunsOptions & { within: number, states: number, agents?: number,
@@ -22,7 +24,8 @@ import { shown } from "./showing.mjs";
  * @property {Report | undefined} report undefined: nothing could be learned
  * @property {string | undefined} open why not every schedule was tried; undefined: every one was
  * @property {number} realRuns how many real runs agree with what was learned
- * @property {boolean} isSecond whether a second search found the same
+ * @property {boolean} isProved whether the proved search has found the same: the report's result is its own then
+ * @property {string | undefined} notProved why there was no proved search
  * @property {Shown[]} shown
  * @property {number} milliseconds
  */
@@ -40,6 +43,8 @@ export class Every {
     this.onProgress = onProgress;
     /** @type {import("../seeds/job.mjs").Checked[]} of the real runs */
     this.outcomes = [];
+    /** @type {{ again: Thread, search: Thread | undefined } | undefined} */
+    this.threads = undefined;
   }
 
   /** @returns {Promise<Tried>} */
@@ -55,24 +60,42 @@ export class Every {
     const running = this.#take(real);
     // If something else fails, nobody waits for the runs.
     running.catch(() => {});
+    const ending = new AbortController();
+    // These load what they need while the agents are learned.
+    this.threads = { again: beginAgain(), search: this.options.sabsim ? undefined : beginSearch() };
     try {
       const report = await this.#report();
-      const nothing = { realRuns: 0, isSecond: false, shown: [] };
+      const nothing = { realRuns: 0, isProved: false, notProved: undefined, shown: [] };
       if (typeof report === "string") return { report: undefined, open: report, ...nothing };
       if (!report.isClosed) return { report, open: openText(report), ...nothing };
       if (report.changesBuiltins) throw new NotAsLearned(CHANGES_BUILTINS);
-      const isSecond = await comparedBySecond(report.file, report.result);
-      await Promise.all([this.#learnAgain(report), running]);
-      const realRuns = this.#agreeing(report);
-      return { report, open: undefined, realRuns, isSecond, shown: await this.#shown(report) };
+      const [{ result = report.result, why }, realRuns] = await Promise.all([
+        this.#second(report, ending.signal), this.#agreeing(report, running), this.#learnAgain(report),
+      ]);
+      const shown = await this.#shown(report);
+      const proved = { isProved: why === undefined, notProved: why };
+      return { report: { ...report, result }, open: undefined, realRuns, ...proved, shown };
     } finally {
-      await real.close();
+      ending.abort();
+      const { again, search } = this.threads;
+      await Promise.all([real.close(), again.stop(), search?.stop()]);
     }
+  }
+
+  /** @param {Report} report @param {AbortSignal} ending */
+  async #second({ file, findings, result }, ending) {
+    const { sabsim } = this.options;
+    const signal = this.signal === undefined ? ending : AbortSignal.any([ending, this.signal]);
+    const { search: thread } = this.threads ?? {};
+    const second = await comparedBySecond(file, result, { program: sabsim || undefined, signal, thread });
+    if (second.result !== undefined) needFound(findings, second.result);
+    return second;
   }
 
   /** What agents do before their first calls is searched in the order of the agents, so they begin in turn. */
   #ofRuns() {
-    return { ...this.options, inTurn: true, isBrief: false, trace: true, checkEvery: 1, sabsim: /** @type {false} */ (false) };
+    const sabsim = /** @type {false} */ (false);
+    return { ...this.options, inTurn: true, isBrief: false, trace: true, checkEvery: 1, sabsim };
   }
 
   /** @param {Runs} runs */
@@ -98,16 +121,25 @@ export class Every {
   /** @param {Report} report */
   async #learnAgain({ edges, isShared, nodes, plan }) {
     const { args, fresh, module } = this.options;
-    const differs = await learnAgain({ module, args, plan, isShared, isFresh: fresh === true, nodes, edges });
+    const given = { module, args, plan, isShared, isFresh: fresh === true, nodes, edges };
+    const differs = await learnAgain(given, this.threads?.again);
     if (differs === undefined) return;
     throw new NotAsLearned(`the code as it is written, loaded anew, does something else than was learned. ${differs}. `
       + "It may keep something from run to run, or go by chance or by a clock");
   }
 
-  /** @param {Report} report @returns {number} how many real runs are ways through the automata */
-  #agreeing({ file }) {
+  /**
+   * Compares the real runs, those that were made first.
+   * @param {Report} report
+   * @param {Promise<void>} running
+   * @returns {Promise<number>} how many are ways through the automata
+   */
+  async #agreeing({ file }, running) {
     const agreement = new Agreement(programOf(file));
-    for (const outcome of this.outcomes) agreement.needs(outcome);
+    const early = this.outcomes.length;
+    for (const outcome of this.outcomes.slice(0, early)) agreement.needs(outcome);
+    await running;
+    for (const outcome of this.outcomes.slice(early)) agreement.needs(outcome);
     return agreement.compared;
   }
 

@@ -56,8 +56,8 @@ function finalText({ finalCount, finals }) {
 }
 
 /** @param {EveryData} data */
-function learnedText({ edges, moments, realRuns, searchProved }) {
-  const search = searchProved ? "the search is proved" : "the search isn't proved yet";
+function learnedText({ edges, moments, notProved, realRuns, searchProved }) {
+  const search = searchProved ? "the search is proved" : `the search isn't proved (${notProved})`;
   const runs = realRuns === 1 ? "1 real run agrees" : `${digits(realRuns)} real runs agree`;
   const learned = `what the agents do was learned from their code: ${counted(moments, "moment")} of an agent`;
   return `${search}; ${learned}, each of ${counted(edges, "edge")} twice; ${runs}`;

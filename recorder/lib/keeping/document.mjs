@@ -3,6 +3,7 @@
 
 import { createHash } from "node:crypto";
 import { existsSync, readFileSync } from "node:fs";
+import { gzipSync } from "node:zlib";
 import { bundleOf } from "./bundle.mjs";
 
 const PAGES = new URL("../../page/", import.meta.url);
@@ -11,7 +12,7 @@ const SIMULATOR = new URL("../../wasm/", import.meta.url);
 /**
  * @typedef {object} SimulatorParts
  * @property {URL} loader the module whose class `Simulator` runs it
- * @property {string} module of WebAssembly, in base64
+ * @property {string} module of WebAssembly, packed by gzip, in base64: it is most of a page
  */
 
 /**
@@ -21,7 +22,7 @@ const SIMULATOR = new URL("../../wasm/", import.meta.url);
 export function builtSimulator() {
   const [loader, module] = ["simulator.mjs", "sabsim.wasm"].map((name) => new URL(name, SIMULATOR));
   if (!existsSync(loader) || !existsSync(module)) return undefined;
-  return { loader, module: readFileSync(module, "base64") };
+  return { loader, module: gzipSync(readFileSync(module)).toString("base64") };
 }
 
 /**

@@ -224,9 +224,10 @@ export class Ends {
 
   /** @param {number} code of the first thread @param {string} why @returns {string} */
   #failedText(code, why) {
-    const [first, ...others] = this.#failedTests;
+    // The program may have replaced the iterators of arrays.
+    const { 0: first, length } = this.#failedTests;
     if (first === undefined) return `agent 0 exited with code ${code}${why === "" ? "" : `: it ${why}`}`;
-    return `agent 0 ${first}${others.length === 0 ? "" : `\nand ${others.length} more failed`}`;
+    return `agent 0 ${first}${length === 1 ? "" : `\nand ${length - 1} more failed`}`;
   }
 
   /** What the first thread has done is taken. */

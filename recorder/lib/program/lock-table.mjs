@@ -1,5 +1,7 @@
 // The locks of a run, by their names: who holds each, and who waits for it, in the order of the requests. Each thread
-// has such a table, and all make the same changes in the same order.
+// has such a table, and all make the same changes in the same order. The program may have replaced iterators.
+
+import { mapForEach } from "../primordials.mjs";
 
 /** @typedef {"exclusive" | "shared"} Mode */
 /** @typedef {{ agent: number, number: number, name: string, mode: Mode, port: number, where: string }} Request */
@@ -32,7 +34,7 @@ export class LockTable {
       /** @type {Effect[]} */
       const stolen = named.held.map((each) => ({ fate: "stolen", request: each }));
       named.held = [request];
-      return [...stolen, { fate: "granted", request }];
+      return stolen.concat([{ fate: "granted", request }]);
     }
     if (ifAvailable && (named.pending.length > 0 || !fits(request, named.held))) return [{ fate: "missed", request }];
     named.pending.push(request);
@@ -57,7 +59,7 @@ export class LockTable {
   removeOf(agent, grants) {
     const those = this.all().filter((each) => each.agent === agent);
     those.forEach((each) => this.#drop(each));
-    const names = [...new Set(those.map(({ name }) => name))];
+    const names = those.map(({ name }) => name).filter((name, at, all) => all.indexOf(name) === at);
     return grants ? names.flatMap((name) => this.#grant(name)) : [];
   }
 
@@ -73,9 +75,10 @@ export class LockTable {
 
   /** @returns {Request[]} those that hold a lock or wait for one */
   all() {
-    // A program without locks may have replaced the iterators.
-    if (this.named.size === 0) return [];
-    return [...this.named.values()].flatMap(({ held, pending }) => [...held, ...pending]);
+    /** @type {Request[]} */
+    let all = [];
+    mapForEach(this.named, (/** @type {Named} */ { held, pending }) => { all = all.concat(held, pending); });
+    return all;
   }
 
   /** @param {Request} request */

@@ -65,9 +65,10 @@ class Places {
     const { _load: load } = Modules;
     const places = this.#places;
     this.#load = load;
-    Modules._load = function (/** @type {any} */ request, /** @type {any} */ parent, /** @type {any[]} */ ...more) {
+    Modules._load = function (/** @type {any[]} */ ...given) {
+      const { 0: request, 1: parent } = given;
       if (parent && !isOfNode(request)) places.add(`${parent.path}${BETWEEN}${request}`);
-      return apply(load, this, [request, parent, ...more]);
+      return apply(load, this, given);
     };
   }
 

@@ -90,11 +90,12 @@ export class WorkersStdio {
     if (port === undefined) return;
     serve(ports, port, (name) => this.#streams[name]);
     if (piped.stdin) this.#streams.stdin = new WritableWorkerStdio(port, "stdin");
-    for (const name of PRINTED.filter((each) => piped[each])) {
+    PRINTED.forEach((name) => {
+      if (!piped[name]) return;
       const readable = new ReadableWorkerStdio(port, name);
       this.#streams[name] = readable;
       if (!options[name]) this.#passOn(readable, process[name]);
-    }
+    });
   }
 
   /** @returns {any} null, if the program hasn't asked for it */
@@ -126,10 +127,11 @@ export class WorkersStdio {
       meta.refed = false;
       meta.closed = true;
     }
-    for (const name of PRINTED) {
+    // The program may have replaced the iterators of arrays.
+    PRINTED.forEach((name) => {
       const found = this.#streams[name];
       if (found !== undefined && !found.readableEnded) found.push(null);
-    }
+    });
   }
 
   /**
@@ -184,6 +186,8 @@ export function beginStdio(ports, { port, stdin, ...printed }) {
 /** Nothing of an earlier run is left. */
 export function clearStdio() {
   input = undefined;
-  for (const name of PRINTED.filter((each) => own[each])) put(name, plain[name]);
+  PRINTED.forEach((name) => {
+    if (own[name]) put(name, plain[name]);
+  });
   Object.assign(own, { stdout: false, stderr: false });
 }

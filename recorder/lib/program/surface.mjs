@@ -204,16 +204,18 @@ export function refuseRest(given) {
     done.add(id);
     if (MEMBERS[id] !== undefined) refuseOf(MEMBERS[id]);
     const exports = engineLoad(request, undefined, false);
-    for (const name of namesIn(exports)) {
+    // The program may have replaced the iterators of arrays.
+    namesIn(exports).forEach((name) => {
       const checkOf = REPLACED[/** @type {"refused" | "real"} */ (kindOf(id, name))];
-      if (checkOf === undefined) continue;
+      if (checkOf === undefined) return;
       replace(exports, name, `${id.replace("node:", "")}.${name}`, (shown) => checkOf(shown, given));
-    }
+    });
   };
   const engineLoad = Modules._load;
-  Modules._load = function (/** @type {any} */ request, /** @type {any[]} */ ...more) {
+  Modules._load = function (/** @type {any[]} */ ...asked) {
+    const { 0: request } = asked;
     if (isBuiltin(request)) refuseOf(request);
-    return apply(engineLoad, this, [request, ...more]);
+    return apply(engineLoad, this, asked);
   };
   const { getBuiltinModule } = /** @type {any} */ (process);
   /** @type {any} */ (process).getBuiltinModule &&= function (/** @type {any} */ id) {

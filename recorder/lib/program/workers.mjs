@@ -102,6 +102,7 @@ function execArgvOf({ execArgv }, refuse) {
 const LIMITS = Object.freeze({
   maxYoungGenerationSizeMb: 48, maxOldGenerationSizeMb: 4_096, codeRangeSizeMb: 0, stackSizeMb: 4,
 });
+const LIMITED = Object.freeze(Object.keys(LIMITS));
 
 /** Node gives a thread at least so much. */
 const LEAST_OLD = 2;
@@ -110,10 +111,10 @@ const LEAST_OLD = 2;
 function limitsOf({ resourceLimits }) {
   /** @type {Limits} */
   const limits = { ...LIMITS };
-  for (const name of Object.keys(LIMITS)) {
+  LIMITED.forEach((name) => {
     const given = resourceLimits?.[name];
     if (typeof given === "number") limits[name] = name === "maxOldGenerationSizeMb" ? Math.max(given, LEAST_OLD) : given;
-  }
+  });
   return limits;
 }
 

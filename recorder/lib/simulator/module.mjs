@@ -4,6 +4,7 @@ import { readFileSync } from "node:fs";
 import { Simulator } from "../../wasm/simulator.mjs";
 
 /** @typedef {import("../../wasm/simulator.mjs").Job} Job */
+/** @typedef {import("../../wasm/simulator.mjs").SearchJob} SearchJob */
 
 /**
  * @typedef {object} Ended how a job ends
@@ -11,6 +12,8 @@ import { Simulator } from "../../wasm/simulator.mjs";
  * @property {string} output
  * @property {string} complaint
  */
+
+/** @typedef {Ended & { leftOut: number }} EndedSearch how many bytes of the output had no room */
 
 const FOLDER = new URL("../../wasm/", import.meta.url);
 
@@ -87,5 +90,23 @@ export class ModuleSimulator {
   run(job, input) {
     const { status, output, complaint } = this.#asked().run(job, bytesOf(input));
     return { status, output: decoder.decode(output), complaint };
+  }
+
+  /** Whether this module can search. */
+  get canSearch() {
+    return this.#asked().canSearch;
+  }
+
+  /**
+   * Searches the schedules of a file of automata.
+   * @param {SearchJob} job
+   * @param {string} input
+   * @param {number} room how many bytes the output may have
+   * @returns {EndedSearch}
+   * @throws {Error} as above
+   */
+  search(job, input, room) {
+    const { output, ...ended } = this.#asked().search(job, bytesOf(input), room);
+    return { ...ended, output: decoder.decode(output) };
   }
 }

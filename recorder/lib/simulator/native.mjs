@@ -1,10 +1,12 @@
 // The native program, which takes the same jobs as the module: it is started once for each job.
 
-import { spawnSync } from "node:child_process";
+import { spawn, spawnSync } from "node:child_process";
 import { accessSync, constants, statSync } from "node:fs";
 
 /** @typedef {import("./module.mjs").Job} Job */
 /** @typedef {import("./module.mjs").Ended} Ended */
+/** @typedef {import("./module.mjs").SearchJob} SearchJob */
+/** @typedef {import("./module.mjs").EndedSearch} EndedSearch */
 
 // The longest report has 100,000 lines, and the bytes of four blocks; the longest trace has a million lines.
 const MOST_OUTPUT = 2 ** 26;
@@ -55,6 +57,30 @@ export class NativeSimulator {
     throw new NoSabsim(`${this.path} can't do ${job.job}, so it is older than the recorder: ${ended.complaint.trim()}`);
   }
 
+  /**
+   * Searches the schedules of a file of automata.
+   * @param {SearchJob} job
+   * @param {string} input
+   * @param {AbortSignal} [signal] ends the program
+   * @returns {Promise<EndedSearch | undefined>} undefined: the program has no search
+   * @throws {NoSabsim}
+   */
+  async search({ timeouts, limit, format = "plain" }, input, signal) {
+    const words = ["search", "--timeouts", timeouts, "--limit", `${limit}`, "--format", format];
+    const child = spawn(this.path, words, { stdio: "pipe", signal });
+    const [output, complaint] = [child.stdout, child.stderr].map(textOf);
+    // A program that ends before it has read all breaks the pipe.
+    child.stdin.on("error", () => {});
+    child.stdin.end(input);
+    /** @type {number | null} */
+    const status = await new Promise((done, fail) => {
+      child.on("error", (error) => fail(signal?.reason ?? new NoSabsim(`${this.path} can't be run: ${error.message}`)));
+      child.on("close", done);
+    });
+    if (status === REFUSED_WORDS) return undefined;
+    return { status, output: output(), complaint: complaint(), leftOut: 0 };
+  }
+
   /** @param {string[]} words @param {string} input @returns {Ended} */
   #ended(words, input) {
     const encoding = /** @type {const} */ ("utf8");
@@ -66,6 +92,14 @@ export class NativeSimulator {
     }
     return { status, output: stdout, complaint: stderr };
   }
+}
+
+/** @param {NodeJS.Listened} stream @returns {() => string} all that has come of it */
+function textOf(stream) {
+  /** @type {Buffer[]} */
+  const parts = [];
+  stream.on("data", (part) => void parts.push(part));
+  return () => Buffer.concat(parts).toString();
 }
 
 /**

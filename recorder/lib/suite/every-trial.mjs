@@ -1,4 +1,5 @@
-// A trial of every schedule of a module of agents: it fails if something is found, and if not every schedule could be tried.
+// A trial of every schedule of a module of agents: it fails if something is found, and if not every schedule could be
+// tried.
 
 import { dataOf } from "../every/data.mjs";
 import { Every } from "../every/every.mjs";

@@ -80,13 +80,20 @@ async function next(thread, why) {
   return message;
 }
 
+/** @returns {Thread} one that learns again, once it is given what: it loads the recorder's modules ahead of that */
+export function beginAgain() {
+  const thread = begunThread(AGAIN, FLAGS);
+  thread.giveAhead(AGAIN);
+  return thread;
+}
+
 /**
  * Learns each edge once more, in the code as it is written.
  * @param {import("./again-worker.mjs").Given} given
+ * @param {Thread} [thread] that was begun for it
  * @returns {Promise<string | undefined>} how it differs
  */
-export async function learnAgain(given) {
-  const thread = begunThread(AGAIN, FLAGS);
+export async function learnAgain(given, thread = beginAgain()) {
   thread.give(AGAIN, given);
   try {
     const { differs, failed } = await next(thread, "its thread ended");

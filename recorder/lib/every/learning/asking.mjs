@@ -24,6 +24,13 @@ const BROKEN = Object.freeze({ isBrokenOff: true });
 /** So often an agent may catch that. */
 const MOST_CAUGHT = 10_000;
 
+const PUTS = "--all can't learn what the agents do: one gives the object of a buffer a property or another prototype";
+const { prototype: ofBuffers } = SharedArrayBuffer;
+
+/** @param {object} buffer @returns {boolean} whether an agent keeps something in its object, from run to run */
+const hasMore = (buffer) =>
+  Reflect.ownKeys(buffer).length > 0 || Reflect.getPrototypeOf(buffer) !== ofBuffers || !Reflect.isExtensible(buffer);
+
 export class Asker {
   constructor() {
     /** @type {number[]} of each buffer where it begins in the bytes of all */
@@ -77,6 +84,7 @@ export class Asker {
       return { isBroken: this.isBroken, thrown, hasThrown: true };
     } finally {
       this.run = undefined;
+      if (this.buffers.some(hasMore)) this.refused ??= new CantLearn(PUTS, true);
       if (this.refused !== undefined) throw this.refused;
     }
   }

@@ -46,6 +46,9 @@ export class Graph {
     this.texts = new Map();
     /** @type {Module[]} each after all that it imports */
     this.modules = [];
+    /** @type {string | undefined} the URL of the agents' own module */
+    this.entry = undefined;
+    this.isEntryImported = false;
     /** @type {Record<string, object>} what node's own modules export, by their names */
     this.nodes = {};
   }
@@ -60,17 +63,25 @@ export class Graph {
     const name = basename(fileURLToPath(url));
     if (!/\.m?js$/.test(url)) throw new Refused(`--all can't read ${name}: it takes modules in .mjs or .js files`);
     const source = readFileSync(fileURLToPath(url), "utf8").replace(/^\uFEFF/, "");
-    const text = rewritten(parsed(url, source), source, { file: name, isEntry, isPlain: this.isPlain });
+    const tree = parsed(url, source);
+    const how = { file: name, isPlain: this.isPlain };
+    if (isEntry) this.entry = url;
+    let text = rewritten(tree, source, { ...how, isAlone: isEntry });
     this.texts.set(url, text);
     /** @type {(string | object)[]} */
     const imports = [];
     for (const specifier of text.imports) imports.push(this.#imported(specifier, url));
+    if (isEntry && this.isEntryImported) {
+      text = rewritten(tree, source, { ...how, isAlone: false });
+      this.texts.set(url, text);
+    }
     this.modules.push({ url, make: new Script(text.code, { filename: url }).runInThisContext(), imports });
   }
 
   /** @param {string} specifier @param {string} parent @returns {string | object} */
   #imported(specifier, parent) {
     const url = resolveModule(specifier, parent);
+    if (url === this.entry) this.isEntryImported = true;
     if (!url.startsWith("node:")) {
       this.take(url);
       return url;

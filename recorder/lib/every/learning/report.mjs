@@ -17,8 +17,8 @@ import { Findings } from "./findings.mjs";
  * @property {number} automaton
  * @property {From} from
  * @property {number} to the node to which it leads
- * @property {{ at: number, by: From }} [besides] another history than the one by which it was learned: the node at which
- * it comes by another edge than the first
+ * @property {{ at: number, by: From }} [besides] another history than the one by which it was learned: the node at
+ * which it comes by another edge than the first
  */
 
 /** @typedef {Asked & { id: number, origin: From | undefined }} NodeData with the first edge that has led there */

@@ -11,13 +11,19 @@ export const GLOBALS = new Set([
   "decodeURIComponent", "structuredClone", "Date", "performance", "arguments", "this", "new.target",
 ]);
 
-/** Members by which code could be made of a text, or that show what a regular expression has found last. */
-export const HIDDEN_MEMBERS = new Set(["constructor", "__proto__", "__defineGetter__", "__defineSetter__"]);
+/**
+ * Members by which code could be made of a text, or that show what a regular expression has found last, or what node's
+ * `inspect` keeps.
+ */
+export const HIDDEN_MEMBERS = new Set([
+  "constructor", "__proto__", "__defineGetter__", "__defineSetter__", "defaultOptions",
+]);
 
 /** Names that may be used only as `isAllowedUse` says: their objects keep something. */
-export const NOT_CALLED = new Set(["RegExp", "TextDecoder", "console", "Error"]);
+export const NOT_CALLED = new Set(["RegExp", "TextDecoder", "console", "Error", "performance"]);
 
 const SAID = /^\.(?:log|error|warn|info|debug)\b/;
+const CLOCK = /^\.(?:now|timeOrigin)\b/;
 
 /**
  * Whether a use of such a name keeps nothing out of sight.
@@ -29,6 +35,8 @@ const SAID = /^\.(?:log|error|warn|info|debug)\b/;
 export function isAllowedUse(source, name, start, end) {
   const after = source.slice(end, end + 40).trimStart();
   if (name === "console") return SAID.test(after);
+  // Its marks are kept. A look at a clock is refused when it is made.
+  if (name === "performance") return CLOCK.test(after);
   // What such an object has decoded in part is kept in it.
   if (name === "TextDecoder") return !/\bstream\b/.test(source);
   if (name === "Error") return !after.startsWith(".");

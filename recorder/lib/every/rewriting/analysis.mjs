@@ -5,53 +5,12 @@ import { Refused } from "../../options/refused.mjs";
 import { GLOBALS, NOT_CALLED, HIDDEN_MEMBERS, isAllowedUse } from "./allowed.mjs";
 import { Info, Scope, newId } from "./scopes.mjs";
 import { childrenOf, functionIn, isClass, isFunction, isLoop, namesIn, runsCode } from "./tree.mjs";
+import { VISITS } from "./visits.mjs";
 
 /** @typedef {import("./tree.mjs").Tree} Tree */
 /** @typedef {import("./scopes.mjs").Reference} Reference */
 
 /** @typedef {{ scope: Scope, within: Info | null }} Here where something is */
-
-/** @type {Record<string, (one: Analysis, tree: Tree, here: Here) => void>} what is done with trees of some types */
-const VISITS = {
-  Identifier: (one, tree, here) => one.refer(tree.name, tree, here, true),
-  ThisExpression: (one, tree, here) => one.refer("this", tree, here, true),
-  Super: (one, tree, here) => one.refer("this", tree, here, true),
-  MetaProperty: (one, tree, here) => {
-    if (tree.meta.name !== "new") one.refuse(tree, "`import.meta`");
-    one.refer("new.target", tree, here, true);
-  },
-  WithStatement: (one, tree) => one.refuse(tree, "`with`"),
-  ImportExpression: (one, tree) => one.refuse(tree, "an import while it runs"),
-  AwaitExpression: (one, tree, { within }) => {
-    if (within === null) one.refuse(tree, "`await` at the top level");
-    one.hide(within);
-  },
-  MemberExpression: (one, tree, here) => one.visitMember(tree, here),
-  Property: (one, tree, here) => {
-    if (tree.shorthand) one.shorthand.add(tree.value.start);
-    one.visitAll([tree.computed ? tree.key : null, tree.value], here);
-  },
-  LabeledStatement: (one, tree, here) => one.visit(tree.body, here),
-  BreakStatement: () => {},
-  ContinueStatement: () => {},
-  ImportDeclaration: (one, tree, { scope }) => {
-    one.imports.push(tree);
-    for (const { local } of tree.specifiers) scope.declare(local.name, "import");
-  },
-  ExportAllDeclaration: (one, tree) => void one.imports.push(tree),
-  ExportNamedDeclaration: (one, tree, here) => one.visitExport(tree, here),
-  BlockStatement: (one, tree, here) => one.visitBlock(tree, here),
-  StaticBlock: (one, tree) => one.refuse(tree, "a static block"),
-  CatchClause: (one, tree, here) => one.visitCatch(tree, here),
-  SwitchStatement: (one, tree, here) => one.visitSwitch(tree, here),
-  VariableDeclarator: (one, tree, here) => one.visitDeclarator(tree, here),
-  AssignmentExpression: (one, tree, here) => one.visitAssignment(tree, here),
-  UpdateExpression: (one, tree, here) => one.visitUpdate(tree, here),
-  ExpressionStatement: (one, tree, here) => {
-    one.unused.add(tree.expression);
-    one.visit(tree.expression, here);
-  },
-};
 
 export class Analysis {
   /** @param {Tree} tree of the module @param {string} source @param {string} file as messages name it */
@@ -80,6 +39,12 @@ export class Analysis {
     this.unused = new Set();
     /** @type {Set<string>} the names of private methods: what they are can't change */
     this.privateMethods = new Set();
+    /** @type {Set<string>} the names of other private members */
+    this.privateOthers = new Set();
+    /** Whether it has templates with tags, each with strings that are always the same object. */
+    this.hasTags = false;
+    /** How many loops at the top level are around what is gone over. */
+    this.loops = 0;
     this.tree = tree;
     this.root = this.newScope(tree, null, null, "module");
     this.root.declareLexical(tree.body);
@@ -146,6 +111,21 @@ export class Analysis {
     else this.visitAll(childrenOf(tree), here);
   }
 
+  /**
+   * A method with `super` depends on the object to which it belongs. At the top level there is one.
+   * @param {Tree} tree
+   * @param {Here} here
+   */
+  visitSuper(tree, here) {
+    this.refer("this", tree, here, true);
+    /** @type {Info[]} */
+    const around = [];
+    let at = here.within;
+    for (; at !== null && at.tree.type === "ArrowFunctionExpression"; at = at.outer) around.push(at);
+    if (at === null || (at.outer === null && this.loops === 0)) return;
+    for (const info of [...around, at]) info.usesSuper = true;
+  }
+
   /** @param {Tree} tree @param {Here} here */
   visitFunction(tree, { scope, within }) {
     const info = new Info(newId(), tree, within);
@@ -186,14 +166,20 @@ export class Analysis {
     if (member.computed) this.visit(member.key, here);
     if (member.type === "StaticBlock") this.refuse(member, "a static block");
     if (member.type === "MethodDefinition") {
-      if (member.key.type === "PrivateIdentifier" && member.kind === "method") this.privateMethods.add(member.key.name);
+      if (member.key.type === "PrivateIdentifier") this.#namesOf(member).add(member.key.name);
       this.visitFunction(member.value, here);
       if (member.kind === "constructor") this.#visitConstructor(member.value, tree.superClass !== null);
-    } else if (member.value) {
+    } else if (member.key.type === "PrivateIdentifier") this.#namesOf(member).add(member.key.name);
+    if (member.type !== "MethodDefinition" && member.value) {
       const inner = functionIn(member.value);
       if (inner !== undefined) this.refuse(inner, "a function in what a field begins with");
       this.visit(member.value, inside);
     }
+  }
+
+  /** @param {Tree} member that is private @returns {Set<string>} the names among which its own is */
+  #namesOf({ kind }) {
+    return kind === "method" ? this.privateMethods : this.privateOthers;
   }
 
   /** @param {Tree} tree @param {boolean} isDerived */
@@ -223,14 +209,17 @@ export class Analysis {
       else this.visitPattern(tree.left, inside, false);
     }
     if (tree.update) this.unused.add(tree.update);
+    if (here.within === null) this.loops += 1;
     this.visitAll([tree.test, tree.update, tree.body], inside);
+    if (here.within === null) this.loops -= 1;
     if (tree.type === "ForInStatement") this.hidden.push([tree.right.end, tree.end]);
   }
 
   /** @param {Tree} tree @param {Here} here */
   visitMember(tree, here) {
     const { object, property, computed } = tree;
-    if (!computed && HIDDEN_MEMBERS.has(property.name)) this.refuse(tree, `.${property.name}`);
+    const name = computed ? property.value : property.name;
+    if (HIDDEN_MEMBERS.has(name)) this.refuse(tree, `.${name}`);
     this.visit(object, here);
     if (computed) this.visit(property, here);
   }
@@ -257,6 +246,8 @@ export class Analysis {
     this.own.set(tree, own);
     const here = { scope: own, within };
     this.visitPattern(tree.param, here, true);
+    // What was caught is nowhere else while it is taken apart.
+    if (runsCode(tree.param)) this.hidden.push([tree.param.start, tree.param.end]);
     own.declareLexical(tree.body.body);
     this.visitAll(tree.body.body, here);
   }
@@ -314,6 +305,8 @@ export class Analysis {
       case "ObjectPattern":
         for (const one of pattern.properties) {
           if (one.computed) this.visit(one.key, here);
+          const name = one.computed ? one.key.value : one.key?.name ?? one.key?.value;
+          if (HIDDEN_MEMBERS.has(name)) this.refuse(one, `.${name}`);
           this.visitPattern(one.type === "RestElement" ? one.argument : one.value, here, isDeclared);
         }
         return;
@@ -342,6 +335,8 @@ export class Analysis {
       }
       reference.binding = binding;
       binding.references.push(reference);
+      // In a class its name always means the class.
+      if (binding.kind === "class" && !reference.reads) this.refuse(reference, "a class's name that gets another value");
       if (binding.scope.kind === "module") continue;
       if (binding.scope.within === null && reference.within !== null) {
         this.refuse(reference.scope.tree, `\`${reference.name}\`, a name of a block at the top level, in a function`);

@@ -21,10 +21,31 @@ const hide = ({ analysis }, from, to) => void analysis.hidden.push([from, to]);
 export const EXPRESSIONS = {
   BinaryExpression: operands(({ left, right }) => (left.type === "PrivateIdentifier" ? [right] : [left, right])),
   ArrayExpression: operands(({ elements }) => elements),
-  TemplateLiteral: operands(({ expressions }) => expressions),
-  TaggedTemplateExpression: operands(({ tag, quasi }) => [tag, ...quasi.expressions]),
+  TemplateLiteral: (writer, { end, expressions }, info) => {
+    // Each is made a text at once.
+    const last = expressions.map(runsCode).lastIndexOf(true);
+    for (const one of expressions.slice(0, Math.max(last, 0))) {
+      if (isConstant(one)) continue;
+      writer.keep(info, one, end, "`${(", ")}`");
+    }
+    writer.writeAll(expressions, info);
+  },
+  TaggedTemplateExpression: (writer, tree, info) => {
+    const { tag, quasi: { expressions } } = tree;
+    // What it is called on must stay.
+    const isOfMember = tag.type === "MemberExpression" && expressions.some(runsCode);
+    if (isOfMember) hide(writer, tree.start, tree.end);
+    operands(() => (isOfMember ? expressions : [tag, ...expressions]))(writer, tree, info);
+    if (isOfMember) writer.write(tag, info);
+  },
+  SpreadElement: (writer, tree, info) => {
+    // What goes through it has more to do.
+    hide(writer, tree.start, tree.end);
+    writer.write(tree.argument, info);
+  },
   NewExpression: (writer, tree, info) => {
     if (!["Identifier", "MemberExpression"].includes(tree.callee.type)) hide(writer, tree.start, tree.end);
+    spreadFirst(writer, tree);
     operands(({ callee, arguments: given }) => [callee, ...given])(writer, tree, info);
   },
   MemberExpression: operands(({ object, property, computed }) => (computed ? [object, property] : [object])),
@@ -36,6 +57,19 @@ export const EXPRESSIONS = {
   VariableDeclarator: (writer, { init }, info) => writer.write(init, info),
 };
 
+/**
+ * What goes through a spread argument would be called at the place of the whole call: it is gone through before that.
+ * @param {Writer} writer
+ * @param {Tree} tree a call, or its like
+ */
+function spreadFirst({ edits }, { arguments: given }) {
+  for (const { argument, type } of given) {
+    if (type !== "SpreadElement") continue;
+    edits.before(argument.start, "[...(");
+    edits.after(argument.end, ")]");
+  }
+}
+
 /** @type {Write} */
 function writeObject(writer, tree, info) {
   const { properties } = tree;
@@ -44,22 +78,26 @@ function writeObject(writer, tree, info) {
     return [...(one.computed ? [one.key] : []), ...(isMethod(one) ? [] : [one.value])];
   });
   const last = values.map(runsCode).lastIndexOf(true);
+  const keys = new Set(properties.flatMap((/** @type {Tree} */ one) => (one.computed ? [one.key] : [])));
   /** @type {Set<Tree>} */
   const shorthand = new Set(properties.flatMap((/** @type {Tree} */ one) => (one.shorthand ? [one.value] : [])));
   values.forEach((/** @type {Tree} */ one, /** @type {number} */ at) => {
-    if (at >= last || !writer.isKept(one)) return;
+    if (at >= last || !(keys.has(one) ? !isConstant(one) : writer.isKept(one))) return;
     if (one.type === "SpreadElement") {
       hide(writer, tree.start, tree.end);
       return;
     }
     const isImported = writer.analysis.bindingOf(one)?.kind === "import";
     if (shorthand.has(one) && !isImported) writer.edits.before(one.start, `${one.name}: `);
-    writer.keep(info, one, tree.end);
+    // A key is made a text or a symbol at once.
+    if (keys.has(one)) writer.keep(info, one, tree.end, "$R.key(", ")");
+    else writer.keep(info, one, tree.end);
   });
   for (const one of properties) {
     if (one.computed) writer.write(one.key, info);
     if (isMethod(one)) writer.write(one.value, info, true);
-    else if (!one.shorthand) writer.write(one.value ?? one.argument, info);
+    else if (one.type === "SpreadElement") writer.write(one, info);
+    else if (!one.shorthand) writer.write(one.value, info);
   }
 }
 
@@ -71,6 +109,7 @@ function writeCall(writer, tree, info) {
     writer.writeAll([callee, ...given], info);
     return;
   }
+  spreadFirst(writer, tree);
   const object = callee.type === "MemberExpression" ? callee.object : undefined;
   if (object?.type === "Identifier" && writer.isGlobal(object)) writer.keepOperands(info, given, tree.end);
   else if (callee.type === "Super" || object?.type === "Super" || tree.optional || callee.optional) {
@@ -88,8 +127,8 @@ function writeCall(writer, tree, info) {
 }
 
 /** @param {Writer} writer @param {Tree} callee */
-const isPrivateMethod = ({ analysis }, { property }) =>
-  property.type === "PrivateIdentifier" && analysis.privateMethods.has(property.name);
+const isPrivateMethod = ({ analysis: { privateMethods, privateOthers } }, { property: { name, type } }) =>
+  type === "PrivateIdentifier" && privateMethods.has(name) && !privateOthers.has(name);
 
 /**
  * A call of an object's member: the object and the function are kept while the arguments are evaluated.
@@ -118,7 +157,11 @@ function writeAssignment(writer, tree, info) {
   // While a setter runs, the engine has what the whole is worth.
   if (left.type === "MemberExpression" && !writer.analysis.unused.has(tree)) hide(writer, tree.start, right.start);
   const binary = operator === "=" || LOGICAL.has(operator) ? undefined : operator.slice(0, -1);
-  if (isPattern(left)) writer.write(right, info);
+  if (isPattern(left)) {
+    // What is taken apart is nowhere else.
+    hide(writer, tree.start, tree.end);
+    writer.write(right, info);
+  }
   else if (left.type === "Identifier") {
     if (binary !== undefined && runsCode(right)) {
       const old = writer.room(info, left.end, tree.end);

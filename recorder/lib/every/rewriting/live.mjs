@@ -1,6 +1,6 @@
 // Which names of a function it can still read itself after an expression was evaluated: backward over its tree.
 
-import { childrenOf, isFunction, namesIn } from "./tree.mjs";
+import { childrenOf, isFunction, isMethod, namesIn } from "./tree.mjs";
 
 /** @typedef {import("./tree.mjs").Tree} Tree */
 /** @typedef {import("./scopes.mjs").Binding} Binding */
@@ -45,6 +45,7 @@ const BEFORE = {
   MemberExpression: (live, { object, property, computed }, out) =>
     live.all(computed ? [object, property] : [object], out),
   Property: (live, { key, value, computed }, out) => live.all(computed ? [key, value] : [value], out),
+  ObjectExpression: (live, { properties }, out) => live.object(properties, out),
   AssignmentExpression: (live, tree, out) => live.assignment(tree, out),
   UpdateExpression: (live, { argument }, out) => live.before(argument, out),
   LogicalExpression: (live, { left, right }, out) => live.before(left, union(out, live.before(right, out))),
@@ -70,7 +71,8 @@ const BEFORE = {
   }),
   ForStatement: (live, tree, out) => live.outside(tree, live.before(tree.init, live.loop(out, (head, target) => {
     target.again = live.before(tree.update, head);
-    return live.before(tree.test, union(tree.test ? out : NONE, live.before(tree.body, target.again)));
+    // A loop without a test is left by a jump, or by what is thrown.
+    return live.before(tree.test, union(tree.test ? out : live.caught, live.before(tree.body, target.again)));
   }))),
   ForOfStatement: (live, tree, out) => live.each(tree, out),
   ForInStatement: (live, tree, out) => live.each(tree, out),
@@ -167,6 +169,16 @@ class Liveness {
   /** @param {Tree} tree @param {Alive} out */
   choice({ test, consequent, alternate }, out) {
     return this.before(test, union(this.before(consequent, out), alternate ? this.before(alternate, out) : out));
+  }
+
+  /**
+   * What methods capture can be read as soon as their object is made, and nothing shows an object that is half made.
+   * @param {Tree[]} properties
+   * @param {Alive} out
+   */
+  object(properties, out) {
+    const methods = properties.filter(isMethod).map(({ value }) => value);
+    return this.all(properties, methods.reduce((alive, one) => union(alive, this.#captured(one)), out));
   }
 
   /** @param {Tree | null} pattern that is assigned to @param {Alive} out @returns {Alive} with what it reads */

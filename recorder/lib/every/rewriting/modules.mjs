@@ -13,6 +13,9 @@ import { namesIn } from "./tree.mjs";
  * @property {Set<string>} exported the names of its own bindings that it exports
  */
 
+/** The name of what a module exports as its default, if that is an expression. */
+export const DEFAULT = "$default";
+
 /** @param {Tree} name an identifier or a string @returns {string} */
 const nameOf = (name) => name.name ?? name.value;
 
@@ -88,8 +91,8 @@ class Linker {
       this.remove(statement, declaration.start);
       return;
     }
-    this.exports.push(["default", "$default"]);
-    this.edits.replace(start, declaration.start - start, 'const $default = ({ "default": ');
+    this.exports.push(["default", DEFAULT]);
+    this.edits.replace(start, declaration.start - start, `const ${DEFAULT} = ({ "default": `);
     this.left.push([start, declaration.start]);
     this.edits.after(declaration.end, ` })["default"]${declaration.end === end ? ";" : ""}`);
   }

@@ -14,6 +14,7 @@ import { aliveIn } from "./live.mjs";
  * @property {boolean} makes whether it is a constructor
  * @property {[number, number][]} alive scopes and positions of the names that can still be read
  * @property {number[]} kept the values that are kept in the frame
+ * @property {boolean} isAccess whether only a getter, a setter or their like can have been called there
  */
 
 /** What can be going on at a place while something that it called runs. */
@@ -21,6 +22,9 @@ const CALLERS = new Set([
   "Identifier", "MemberExpression", "CallExpression", "NewExpression", "ThisExpression", "AssignmentExpression",
   "UpdateExpression", "TaggedTemplateExpression", "PrivateIdentifier",
 ]);
+
+/** What calls a getter, a setter, or a trap of a proxy. */
+const ACCESSES = new Set(["MemberExpression", "UpdateExpression", "AssignmentExpression"]);
 
 export class Places {
   /** @param {import("./analysis.mjs").Analysis} analysis */
@@ -47,13 +51,14 @@ export class Places {
     if (info.isHidden) return unknown("a generator, an async function, a constructor of a derived class or the like");
     const isHidden = this.analysis.hidden.some(([from, to]) => from <= offset && offset < to);
     if (isHidden) return unknown("a place with values that aren't shown");
-    const alive = this.#aliveAt(info, offset);
+    if (info.usesSuper) return unknown("a method of an object in a function, with `super`");
+    const { alive, isAccess } = this.#aliveAt(info, offset);
     if (typeof alive === "string") return unknown(`a call by ${alive}`);
     if (info.made !== undefined) alive.add(info.made);
     const shown = [...alive].filter(({ isShown }) => isShown);
     const kept = info.temporaries.filter(({ from, to }) => from <= offset && offset < to);
     return {
-      fn: info.id, makes: info.made !== undefined, kept: kept.map(({ id }) => id),
+      fn: info.id, makes: info.made !== undefined, kept: kept.map(({ id }) => id), isAccess,
       alive: shown.map(placeOf).sort(([a, b], [c, d]) => a - c || b - d),
     };
   }
@@ -67,7 +72,8 @@ export class Places {
   /**
    * @param {Info} info
    * @param {number} offset
-   * @returns {Set<Binding> | string} what is alive after the calls that can be going on there, or what it is instead
+   * @returns {{ alive: Set<Binding> | string, isAccess: boolean }} what is alive after the calls that can be going on
+   * there, or what it is instead
    */
   #aliveAt(info, offset) {
     info.alive ??= /** @type {Map<Tree, Set<Binding>>} */ (aliveIn(info, this.analysis));
@@ -76,17 +82,19 @@ export class Places {
     /** @type {Tree | undefined} */
     let least;
     let isCall = false;
+    let isAccess = true;
     for (const [tree, out] of info.alive) {
       // The end as well: a call that was rewritten begins where its callee ends.
       if (tree.start > offset || offset > tree.end) continue;
       if (canCallAt(tree, offset)) {
         isCall = true;
+        isAccess &&= ACCESSES.has(tree.type);
         for (const one of out) alive.add(one);
       }
       if (offset < tree.end && (least === undefined || tree.end - tree.start <= least.end - least.start)) least = tree;
     }
-    if (least !== undefined && !CALLERS.has(least.type)) return least.type;
-    return isCall ? alive : "something that isn't known";
+    if (least !== undefined && !CALLERS.has(least.type)) return { alive: least.type, isAccess };
+    return { alive: isCall ? alive : "something that isn't known", isAccess };
   }
 }
 
@@ -109,4 +117,4 @@ function canCallAt(tree, offset) {
 const placeOf = ({ scope, index }) => [scope.id, index];
 
 /** @param {string} why @returns {Place} */
-const unknown = (why) => ({ unknown: why, fn: 0, makes: false, alive: [], kept: [] });
+const unknown = (why) => ({ unknown: why, fn: 0, makes: false, alive: [], kept: [], isAccess: false });

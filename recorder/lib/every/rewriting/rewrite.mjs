@@ -1,7 +1,7 @@
 // One module, rewritten.
 
 import { Analysis } from "./analysis.mjs";
-import { linked } from "./modules.mjs";
+import { DEFAULT, linked } from "./modules.mjs";
 import { Places } from "./places.mjs";
 import { Writer } from "./writer.mjs";
 
@@ -11,6 +11,7 @@ import { Writer } from "./writer.mjs";
  * @typedef {object} Rewritten
  * @property {string} code an expression: the function of `$R`, what shows, and `$m`, what is imported and exported
  * @property {string[]} imports the specifiers of what it imports
+ * @property {boolean} hasTags whether it has templates with tags
  * @property {(place: number) => import("./places.mjs").Place} at what can be read at a place of the code
  * @property {(place: number) => string} lineOf the line and the column, in the module's text, of a place of the code
  */
@@ -22,12 +23,12 @@ const OWN_NAMES = /\$(?:R|m|f|i|o|x|e\d+|default)\b/;
  * Rewrites a module.
  * @param {Tree} tree
  * @param {string} source
- * @param {{ file: string, isEntry: boolean, isPlain?: boolean }} of the module: its name for messages, whether it is the
- * agents' own, and whether it only becomes a function, with nothing that shows what it keeps
+ * @param {{ file: string, isAlone: boolean, isPlain?: boolean }} of the module: its name for messages, whether no other
+ * imports from it, and whether it only becomes a function, with nothing that shows what it keeps
  * @returns {Rewritten}
  * @throws {import("../../options/refused.mjs").Refused}
  */
-export function rewritten(tree, source, { file, isEntry, isPlain = false }) {
+export function rewritten(tree, source, { file, isAlone, isPlain = false }) {
   const analysis = new Analysis(tree, source, file);
   const start = source.search(OWN_NAMES);
   if (start >= 0) analysis.refuse({ start }, "a name that the recorder uses here");
@@ -35,7 +36,7 @@ export function rewritten(tree, source, { file, isEntry, isPlain = false }) {
   const { edits } = writer;
   if (source.startsWith("#!")) edits.replace(0, 2, "//");
   const { imports, begins, exported } = linked(analysis, edits);
-  const shows = isPlain ? "" : shownModule(analysis, isEntry ? new Set() : exported);
+  const shows = isPlain ? "" : shownModule(analysis, isAlone ? new Set() : exported);
   edits.before(0, `(function ($R, $m) { "use strict"; ${shows} ${begins} `);
   if (!isPlain) {
     writer.registerDeclared(0, tree.body);
@@ -44,7 +45,7 @@ export function rewritten(tree, source, { file, isEntry, isPlain = false }) {
   const { code, original } = edits.made();
   const places = new Places(analysis);
   return {
-    code: `${code}\n})`, imports, at: (place) => places.at(original(place)),
+    code: `${code}\n})`, imports, hasTags: analysis.hasTags, at: (place) => places.at(original(place)),
     lineOf: (place) => lineAt(source, original(place)),
   };
 }
@@ -55,10 +56,11 @@ export function rewritten(tree, source, { file, isEntry, isPlain = false }) {
  * @param {Set<string>} exported
  */
 function shownModule({ root }, exported) {
-  const shown = [...root.names.values()].filter(({ kind, name, references }) =>
+  const names = [...root.names.values()].filter(({ kind, name, references }) =>
     kind !== "import" && (exported.has(name) || references.some(({ within }) => within !== null)));
-  const names = shown.map(({ index, name }) => `$i === ${index} ? ${name} : `);
-  return `$R.module(($i) => ${names.join("")}undefined, [${shown.map(({ index }) => index).join(", ")}]);`;
+  const shown = [...names, ...(exported.has(DEFAULT) ? [{ index: root.names.size, name: DEFAULT }] : [])];
+  const read = shown.map(({ index, name }) => `$i === ${index} ? ${name} : `);
+  return `$R.module(($i) => ${read.join("")}undefined, [${shown.map(({ index }) => index).join(", ")}]);`;
 }
 
 /** @param {string} source @param {number} place */

@@ -62,6 +62,8 @@ export class Info {
     this.captured = new Set();
     /** Whether what it has can't be shown while it runs. */
     this.isHidden = false;
+    /** Whether it uses `super`, and there may be many of it, each of an object of its own. */
+    this.usesSuper = false;
     /** @type {Map<Tree, Set<Binding>> | undefined} what is alive after each expression, when it was looked for */
     this.alive = undefined;
     /** @type {Binding | undefined} of a constructor what it makes */

@@ -79,12 +79,14 @@ export class Writer {
    * @param {Info} info
    * @param {Tree} tree
    * @param {number} to where it isn't needed any more
+   * @param {string} [before] what makes of it what is kept, up to it
+   * @param {string} [after] and behind it
    * @returns {string} what it is kept in
    */
-  keep(info, tree, to) {
+  keep(info, tree, to, before = "(", after = ")") {
     const room = this.room(info, tree.end, to);
-    this.edits.before(tree.start, `(${room} = (`);
-    this.edits.after(tree.end, "))");
+    this.edits.before(tree.start, `(${room} = ${before}`);
+    this.edits.after(tree.end, `${after})`);
     return room;
   }
 
@@ -179,7 +181,7 @@ export class Writer {
     const isStatement = tree.type === "FunctionDeclaration" && tree.id;
     if (!isStatement && !isMethodsValue) {
       edits.before(tree.start, `$R.fn(${info.id}, ${this.cells(info)}, (`);
-      edits.after(tree.end, "))");
+      edits.after(tree.end, info.usesSuper ? "), true)" : "))");
     }
     if (info.isHidden) {
       childrenOf(tree).forEach((child) => this.needsNoFunction(child));
@@ -205,43 +207,50 @@ export class Writer {
   #writeClass(tree, info) {
     const { body: { body, start }, superClass } = tree;
     this.write(superClass, info);
-    const cells = this.#cellsOfMethods(tree, body, info);
-    this.edits.before(start + 1, `static { $R.cls(${newId()}, this, ${readerOf(body)}, {${cells}}); }`);
+    const shown = `${readerOf(body)}, ${this.#methodsOf(body)}, ${this.#cellsOfClass(tree, info)}`;
+    this.edits.before(start + 1, `static { $R.cls(${newId()}, this, ${shown}); }`);
     for (const member of body) {
       if (member.computed) this.write(member.key, info);
       if (member.type === "MethodDefinition") this.write(member.value, info, true);
     }
   }
 
-  /**
-   * What the methods of a class or of an object capture, by their keys.
-   * @param {Tree} tree
-   * @param {Tree[]} members
-   * @param {Info | null} info
-   */
-  #cellsOfMethods(tree, members, info) {
-    if (info === null) return "";
-    const methods = members.filter((one) => one.type === "MethodDefinition" || isMethod(one));
-    const named = methods.filter((one) => one.kind !== "constructor" && one.key.type !== "PrivateIdentifier");
-    const cells = named.map((one) => {
-      const own = this.infoOf(one.value);
-      const isLost = one.computed && own.captured.size > 0;
-      if (isLost) this.analysis.refuse(one, "a method with a computed name in a function");
-      const kind = one.kind === "get" || one.kind === "set" ? one.kind : "value";
-      const key = one.computed ? undefined : `${one.static ? "s" : "p"} ${kind} ${one.key.name ?? one.key.value}`;
-      return key === undefined ? "" : `${JSON.stringify(key)}: ${this.cells(own)}, `;
-    });
-    if (!isClass(tree)) return cells.join("");
-    const makers = [tree, ...methods.filter((one) => one.kind === "constructor").map(({ value }) => value)];
+  /** @param {Tree} tree a class @param {Info | null} info @returns {string} the cells of what it captures itself */
+  #cellsOfClass(tree, info) {
+    if (info === null) return "null";
+    const made = tree.body.body.filter((/** @type {Tree} */ { kind }) => kind === "constructor");
+    const makers = [tree, ...made.map((/** @type {Tree} */ { value }) => value)];
     const captured = new Set(makers.flatMap((one) => [...this.infoOf(one).captured]));
-    const own = [...captured].map(({ scope, index }) => `[$e${scope.id}, ${index}]`).join(", ");
-    return `${cells.join("")}"class": [${own}]`;
+    return `[${[...captured].map(({ scope, index }) => `[$e${scope.id}, ${index}]`).join(", ")}]`;
+  }
+
+  /**
+   * The methods of a class or of an object, with what they capture. One whose name may be any isn't among them: such a
+   * function can't be shown.
+   * @param {Tree[]} members
+   */
+  #methodsOf(members) {
+    const last = members.map((one) => nameOf(one) === undefined).lastIndexOf(true);
+    const rows = members.flatMap((one, at) => {
+      const name = nameOf(one);
+      const isNamed = (one.type === "MethodDefinition" || isMethod(one)) && one.kind !== "constructor";
+      if (!isNamed || name === undefined || one.key.type === "PrivateIdentifier") return [];
+      const info = this.infoOf(one.value);
+      // Another member may have the same name: the function is known by its text then.
+      const others = members.filter((other) => other !== one && nameOf(other) === name && other.kind !== pairOf(one));
+      const isSure = others.length === 0 && at > last;
+      if (!isSure && info.isHidden) return [];
+      const kind = one.kind === "get" || one.kind === "set" ? one.kind : "value";
+      const more = `${one.static ? ", isStatic: true" : ""}${isSure ? "" : `, enters: ${info.id}`}`;
+      return [`{ kind: "${kind}", key: ${name}, cells: ${this.cells(info)}, usesSuper: ${info.usesSuper}${more} }`];
+    });
+    return `[${rows.join(", ")}]`;
   }
 
   /** @param {Tree} tree an object with methods @param {Info | null} info */
   #writeMethods(tree, info) {
     this.edits.before(tree.start, `$R.obj(${newId()}, (`);
-    this.edits.after(tree.end, `), {${this.#cellsOfMethods(tree, tree.properties, info)}})`);
+    this.edits.after(tree.end, `), ${this.#methodsOf(tree.properties)})`);
     if (info !== null) EXPRESSIONS.ObjectExpression(this, tree, info);
     else {
       for (const one of tree.properties) {
@@ -252,11 +261,26 @@ export class Writer {
   }
 }
 
-/** @param {Tree[]} body of a class @returns {string} what shows the private fields of an object, if there are any */
+/** @param {Tree} one a member @returns {string} the kind of the other function that its property may have */
+const pairOf = ({ kind }) => (kind === "get" ? "set" : kind === "set" ? "get" : "none");
+
+/** @param {Tree} member @returns {string | undefined} its name as an expression; undefined: that may be any */
+function nameOf({ computed, key, type }) {
+  if (type === "SpreadElement" || type === "StaticBlock") return undefined;
+  if (key.type === "Literal") return JSON.stringify(String(key.value));
+  if (!computed) return JSON.stringify(key.type === "PrivateIdentifier" ? `#${key.name}` : key.name);
+  const isWellKnown = key.type === "MemberExpression" && !key.computed && key.object.name === "Symbol"
+    && typeof (/** @type {any} */ (Symbol)[key.property.name]) === "symbol";
+  return isWellKnown ? `Symbol.${key.property.name}` : undefined;
+}
+
+/** @param {Tree[]} body of a class @returns {string} what shows an object's private members, if there are any */
 function readerOf(body) {
-  const fields = body.filter(({ type, key }) => type === "PropertyDefinition" && key.type === "PrivateIdentifier");
-  if (fields.length === 0) return "null";
-  const has = fields.map(({ key: { name } }) => `#${name} in $o`);
-  const read = fields.map(({ key: { name } }, at) => `${has[at]}, ${has[at]} ? $o.#${name} : 0`);
+  const names = new Map(body.flatMap(({ type, key }) =>
+    (key?.type === "PrivateIdentifier" ? [/** @type {[string, string]} */ ([key.name, type])] : [])));
+  if (names.size === 0) return "null";
+  const has = [...names.keys()].map((name) => `#${name} in $o`);
+  const read = [...names].map(([name, type], at) =>
+    (type === "PropertyDefinition" ? `${has[at]}, ${has[at]} ? $o.#${name} : 0` : has[at]));
   return `($o) => ${has.join(" || ")} ? [${read.join(", ")}] : null`;
 }

@@ -27,6 +27,8 @@ export class Builtins {
     this.had = [];
     /** @type {[object, string][]} */
     this.queue = [];
+    /** @type {object[]} objects of the language that have no names of their own */
+    this.others = [];
   }
 
   /** @param {unknown} object @param {string} name */
@@ -49,8 +51,17 @@ export class Builtins {
     this.names.set(globalThis, "globalThis");
     this.queue.push([globalThis, "globalThis"]);
     const generator = (function* generator() {}).prototype;
-    this.add(Reflect.getPrototypeOf(generator), "generator");
-    this.add(Reflect.getPrototypeOf([][Symbol.iterator]()), "arrayIterator");
+    /** @type {[object | null, string][]} */
+    const others = [
+      [Reflect.getPrototypeOf(generator), "generator"],
+      [Reflect.getPrototypeOf([][Symbol.iterator]()), "arrayIterator"],
+      [Reflect.getPrototypeOf(new Map()[Symbol.iterator]()), "mapIterator"],
+      [Reflect.getPrototypeOf(new Set()[Symbol.iterator]()), "setIterator"],
+    ];
+    for (const [object, name] of others) {
+      this.add(object, name);
+      if (object !== null) this.others.push(object);
+    }
     this.add(Reflect.getPrototypeOf(Int8Array), "TypedArray");
     for (const [name, module] of Object.entries(modules)) this.add(module, name);
     for (let at = 0; at < this.queue.length; at += 1) this.#addMembers(...this.queue[at]);
@@ -88,7 +99,7 @@ export class Builtins {
   /** @returns {object[]} */
   #owners() {
     const all = LANGUAGE.map((name) => /** @type {any} */ (globalThis)[name]);
-    return all.flatMap((one) => (isObject(one.prototype) ? [one, one.prototype] : [one]));
+    return [...all.flatMap((one) => (isObject(one.prototype) ? [one, one.prototype] : [one])), ...this.others];
   }
 
   /** @returns {unknown[]} */

@@ -9,6 +9,9 @@ import { CantShow, Walk } from "./walk.mjs";
 /** Functions that the engine calls while it has more to do, which isn't shown. */
 const CALLED_BY_ENGINE = new Set(["next", "return", "throw", "valueOf", "toString", "toJSON", "then"]);
 
+/** How functions are named that are written as getters or setters. */
+const ACCESSOR = /^[gs]et /;
+
 const LIBRARY = new URL("../../", import.meta.url).href;
 const ELEMENTS = new URL("../../agent/ordinary/elements.mjs", import.meta.url).href;
 const ATOMICS = new URL("../../agent/atomics.mjs", import.meta.url).href;
@@ -27,11 +30,12 @@ export class Capture {
     this.builtins = builtins;
     this.texts = texts;
     this.flaw = flaw;
+    this.how = { ...flaw, hasTags: [...texts.values()].some(({ hasTags }) => hasTags) };
   }
 
   /** @returns {Walk} */
   #walk() {
-    return new Walk(this.runtime, this.builtins, this.flaw);
+    return new Walk(this.runtime, this.builtins, this.how);
   }
 
   /** @returns {string} what the modules keep */
@@ -56,7 +60,9 @@ export class Capture {
     needsDirect(frames.slice(0, first));
     const { stack } = this.runtime;
     const count = stack.length;
-    for (let at = 0; at < count; at += 1) this.#putFrame(walk, frames[first + at], stack[count - 1 - at]);
+    for (let at = 0; at < count; at += 1) {
+      this.#putFrame(walk, frames[first + at], stack[count - 1 - at], at === 0 ? undefined : frames[first + at - 1]);
+    }
     const below = frames[first + count]?.getFileName() ?? "";
     if (!below.startsWith(LEARNING)) throw new CantShow("more functions than were seen");
     this.#putModules(walk);
@@ -80,8 +86,13 @@ export class Capture {
     }
   }
 
-  /** @param {Walk} walk @param {NodeJS.CallSite | undefined} site @param {import("./runtime.mjs").Frame} frame */
-  #putFrame(walk, site, frame) {
+  /**
+   * @param {Walk} walk
+   * @param {NodeJS.CallSite | undefined} site
+   * @param {import("./runtime.mjs").Frame} frame
+   * @param {NodeJS.CallSite | undefined} called the agents' own function that it has called
+   */
+  #putFrame(walk, site, frame, called) {
     const name = site?.getFunctionName() ?? "";
     const text = this.texts.get(site?.getFileName() ?? "");
     if (site === undefined || text === undefined) throw new CantShow(`a function of the engine that calls ${name}`);
@@ -90,6 +101,8 @@ export class Capture {
     const position = site.getPosition();
     const place = text.at(position);
     if (place.unknown !== undefined) throw new CantShow(place.unknown);
+    const isOther = place.isAccess && called !== undefined && !ACCESSOR.test(called.getFunctionName() ?? "");
+    if (isOther) throw new CantShow(`${called.getFunctionName()}, which the engine calls`);
     const isSame = frame.id === place.fn && site.isConstructor() === place.makes;
     if (!isSame) throw new CantShow("another function than was seen");
     walk.put(`|${place.fn}:${position}`);

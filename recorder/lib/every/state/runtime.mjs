@@ -8,8 +8,28 @@ import { watchedOf } from "../../agent/ordinary/watched.mjs";
 /** @typedef {[Environment, number]} Cell a name: what it is among, and its position there */
 
 /**
- * @typedef {{ id: string, cells: Cell[] | null }} Made a function of the modules: which one it is, and what it captures
+ * @typedef {object} Made a function of the modules
+ * @property {string} id which one it is
+ * @property {Cell[] | null} cells what it captures
+ * @property {object} [home] the object whose method it is, if its code uses `super`
+ * @property {boolean} [isHidden] whether it keeps something that can't be shown
  */
+
+/**
+ * @typedef {object} Method of a class or of an object, as it is written
+ * @property {boolean} [isStatic]
+ * @property {"value" | "get" | "set"} kind
+ * @property {string | symbol} key
+ * @property {Cell[] | null} cells
+ * @property {boolean} usesSuper
+ * @property {number} [enters] the number of its function, if another member may have put another one there
+ */
+
+const { toString: textOf } = Function.prototype;
+const ENTERS = /\$R\.enter\((\d+),/;
+
+/** @param {unknown} fn @param {number} id @returns {boolean} whether it is the function that has this number */
+const isOf = (fn, id) => typeof fn === "function" && Number(ENTERS.exec(textOf.call(fn))?.[1]) === id;
 
 /** Names that can be read. */
 export class Environment {
@@ -56,7 +76,6 @@ export class ShownIterator {
 /** What stands in a frame for a value that can't be shown. */
 export const UNKNOWN = Object.freeze({ isUnknown: true });
 
-const KINDS = /** @type {const} */ (["value", "get", "set"]);
 const iteratorOfArrays = Array.prototype[Symbol.iterator];
 
 export class Runtime {
@@ -102,26 +121,22 @@ export class Runtime {
     if (at >= 0) this.stack.length = at;
   }
 
-  /** @param {Function} fn @param {string} id @param {Cell[] | null} cells */
-  #register(fn, id, cells) {
-    if (!this.functions.has(fn)) this.functions.set(fn, { id, cells });
+  /** @param {Function} fn @param {Made} made */
+  #register(fn, made) {
+    if (!this.functions.has(fn)) this.functions.set(fn, made);
   }
 
   /**
    * @param {object} holder of methods
    * @param {string} id
-   * @param {string} where
-   * @param {Record<string, Cell[] | null>} cells what methods capture, by their keys
+   * @param {Method[]} methods that it has
    */
-  #registerMethods(holder, id, where, cells) {
-    for (const key of Reflect.ownKeys(holder)) {
-      const descriptor = /** @type {PropertyDescriptor} */ (Reflect.getOwnPropertyDescriptor(holder, key));
-      for (const kind of KINDS) {
-        const fn = descriptor[kind];
-        if (typeof fn !== "function" || key === "constructor") continue;
-        const name = `${where} ${kind} ${String(key)}`;
-        this.#register(fn, `${id} ${name}`, Object.hasOwn(cells, name) ? cells[name] : null);
-      }
+  #registerMethods(holder, id, methods) {
+    for (const { cells, enters, isStatic = false, key, kind, usesSuper } of methods) {
+      const fn = Reflect.getOwnPropertyDescriptor(holder, key)?.[kind];
+      if (enters !== undefined && !isOf(fn, enters)) continue;
+      const name = `${id} ${isStatic ? "s" : "p"} ${kind} ${String(key)}`;
+      this.#register(fn, { id: name, cells, home: usesSuper ? holder : undefined });
     }
   }
 
@@ -138,34 +153,46 @@ export class Runtime {
       leave: (frame) => this.#leave(frame),
       /** @param {(index: number) => unknown} read */
       environment: (read) => new Environment(read),
-      /** @param {number} id @param {Cell[] | null} cells @param {Function} fn */
-      fn: (id, cells, fn) => {
-        this.#register(fn, `f${id}`, cells);
+      /** @param {(index: number) => unknown} read @param {number[]} indexes */
+      module: (read, indexes) => void this.modules.push({ environment: new Environment(read), indexes }),
+      iterable,
+      key,
+      ...this.#makers(),
+    };
+  }
+
+  /** What is called where functions, classes and objects are made. */
+  #makers() {
+    return {
+      /** @param {number} id @param {Cell[] | null} cells @param {Function} fn @param {boolean} [isHidden] */
+      fn: (id, cells, fn, isHidden) => {
+        this.#register(fn, { id: `f${id}`, cells, isHidden });
         return fn;
       },
       /**
        * @param {number} id
        * @param {any} cls
        * @param {((object: object) => unknown[] | null) | null} read
-       * @param {Record<string, any>} cells
+       * @param {Method[]} methods
+       * @param {Cell[] | null} cells of what its constructor and its fields capture
        */
-      cls: (id, cls, read, cells) => {
-        this.#registerMethods(cls, `c${id}`, "s", cells);
-        this.#registerMethods(cls.prototype, `c${id}`, "p", cells);
-        this.#register(cls, `c${id}`, cells.class ?? null);
+      cls: (id, cls, read, methods, cells) => {
+        this.#registerMethods(cls, `c${id}`, methods.filter(({ isStatic }) => isStatic));
+        this.#registerMethods(cls.prototype, `c${id}`, methods.filter(({ isStatic }) => !isStatic));
+        this.#register(cls, { id: `c${id}`, cells });
         if (read !== null) this.readers.push({ cls, read });
       },
-      /** @param {number} id @param {object} object @param {Record<string, any>} cells */
-      obj: (id, object, cells) => {
-        this.#registerMethods(object, `o${id}`, "p", cells);
+      /** @param {number} id @param {object} object @param {Method[]} methods */
+      obj: (id, object, methods) => {
+        this.#registerMethods(object, `o${id}`, methods);
         return object;
       },
-      /** @param {(index: number) => unknown} read @param {number[]} indexes */
-      module: (read, indexes) => void this.modules.push({ environment: new Environment(read), indexes }),
-      iterable,
     };
   }
 }
+
+/** @param {any} value @returns {string | symbol} the key that it is among an object's members */
+const key = (value) => Reflect.ownKeys({ [value]: 0 })[0];
 
 /**
  * What a loop goes through: its iterator is kept in the frame, where it can be shown.

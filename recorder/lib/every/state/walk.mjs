@@ -3,6 +3,7 @@
 import { types } from "node:util";
 import { anyWatchedOf } from "../../agent/ordinary/watched.mjs";
 import { blockNumber } from "../../agent/ordinary/context.mjs";
+import { hexOf } from "../search/elements.mjs";
 import { ShownIterator, UNKNOWN } from "./runtime.mjs";
 
 /** @typedef {import("./runtime.mjs").Cell} Cell */
@@ -14,7 +15,30 @@ import { ShownIterator, UNKNOWN } from "./runtime.mjs";
 /** Something that can't be shown. */
 export class CantShow extends Error {}
 
+/**
+ * @param {object} prototype
+ * @param {string} name
+ * @returns {(object: any) => any} what reads that of an object, whatever this has of its own
+ */
+function reader(prototype, name) {
+  const { get, value } = /** @type {PropertyDescriptor} */ (Reflect.getOwnPropertyDescriptor(prototype, name));
+  return (object) => Reflect.apply(get ?? value, object, []);
+}
+
 const { get: weakMapGet, has: weakMapHas } = WeakMap.prototype;
+const TypedArray = Reflect.getPrototypeOf(Int8Array.prototype) ?? Int8Array.prototype;
+const OF_ARRAYS = ["length", "byteOffset", "buffer"].map((name) => reader(TypedArray, name));
+const OF_VIEWS = ["byteLength", "byteOffset", "buffer"].map((name) => reader(DataView.prototype, name));
+const tagOf = /** @type {PropertyDescriptor} */ (Reflect.getOwnPropertyDescriptor(TypedArray, Symbol.toStringTag)).get;
+const timeOf = reader(Date.prototype, "getTime");
+const sourceOf = reader(RegExp.prototype, "source");
+const FLAGS = [
+  "hasIndices", "global", "ignoreCase", "multiline", "dotAll", "unicode", "unicodeSets", "sticky",
+].map((name) => reader(RegExp.prototype, name));
+const isResizable = reader(ArrayBuffer.prototype, "resizable");
+// It is watched when the agents' code is there.
+const EngineBytes = Uint8Array;
+const stackOfErrors = /** @type {PropertyDescriptor} */ (Reflect.getOwnPropertyDescriptor(new Error("stack"), "stack"));
 const { has: weakSetHas } = WeakSet.prototype;
 const entriesOf = Map.prototype.entries;
 const valuesOf = Set.prototype.values;
@@ -23,9 +47,11 @@ export class Walk {
   /**
    * @param {import("./runtime.mjs").Runtime} runtime
    * @param {import("./builtins.mjs").Builtins} builtins
-   * @param {{ hides?: string }} flaw what is left out on purpose, so that tests see that they notice it
+   * @param {{ hides?: string, hasTags?: boolean }} how what is left out on purpose, so that tests see that they notice
+   * it; and whether the modules have templates with tags
    */
-  constructor(runtime, builtins, { hides }) {
+  constructor(runtime, builtins, { hides, hasTags = false }) {
+    this.hasTags = hasTags;
     this.runtime = runtime;
     this.builtins = builtins;
     this.hides = hides;
@@ -40,6 +66,8 @@ export class Walk {
     this.queue = [];
     /** @type {Weak[]} */
     this.weak = [];
+    /** @type {[Function, object][]} functions with prototypes that nothing was put into */
+    this.bare = [];
   }
 
   /** @returns {string} what was walked, with all that can be reached from it */
@@ -47,6 +75,10 @@ export class Walk {
     for (let at = 0; at < this.queue.length || this.#walkWeak(); at += 1) {
       if (at < this.queue.length) this.#object(this.queue[at]);
       else at -= 1;
+    }
+    // Whether such a prototype is one that can be reached in another way.
+    for (const [fn, prototype] of this.bare) {
+      if (this.seen.has(prototype)) this.out.push(`b${this.seen.get(fn)}=${this.seen.get(prototype)}`);
     }
     return this.out.join(" ");
   }
@@ -77,13 +109,17 @@ export class Walk {
     if (key !== undefined) return `y${JSON.stringify(key)}`;
     const name = symbol.description?.replace(/^Symbol\./, "") ?? "";
     const isWellKnown = /** @type {any} */ (Symbol)[name] === symbol;
-    return isWellKnown ? `Y${name}` : `y#${this.#number(symbol)}`;
+    if (isWellKnown) return `Y${name}`;
+    const isKnown = this.seen.has(symbol);
+    const number = this.#number(symbol);
+    return isKnown ? `y#${number}` : `y@${number}${JSON.stringify(symbol.description)}`;
   }
 
   /** @param {object} object */
   #reference(object) {
     const name = this.builtins.nameOf(object);
     if (name !== undefined) {
+      if (name === "globalThis.RegExp") throw new CantShow("the function RegExp, which keeps what was found last");
       this.out.push(`k${name}`);
       return;
     }
@@ -134,7 +170,7 @@ export class Walk {
       const { object, seen, hasValues } = weak;
       for (const key of [...this.seen.keys(), ...this.builtins.names.keys()]) {
         const has = hasValues ? weakMapHas : weakSetHas;
-        if (typeof key === "symbol" || seen.has(key) || !has.call(object, /** @type {object} */ (key))) continue;
+        if (seen.has(key) || !has.call(object, /** @type {object} */ (key))) continue;
         seen.add(key);
         this.out.push(`w${this.seen.get(object)}`);
         this.value(key);
@@ -149,14 +185,16 @@ export class Walk {
     this.out.push("{");
     if (object === UNKNOWN) throw new CantShow("how a `try` was left, or how far a loop is");
     const watched = anyWatchedOf(object);
+    const isMemory = watched === undefined && (types.isAnyArrayBuffer(object) || ArrayBuffer.isView(object));
     if (watched !== undefined) this.#watched(watched);
     else if (types.isProxy(object)) throw new CantShow("a proxy");
     else if (typeof object === "function") this.#function(object);
-    else if (!this.#content(object)) return;
+    else if (isMemory) this.#memory(object);
+    else this.#content(object);
     this.#prototype(object);
     if (!Reflect.isExtensible(object)) this.out.push("!x");
-    if (watched === undefined) this.#private(object);
-    if (watched === undefined && typeof object !== "function") this.#properties(object);
+    this.#private(object);
+    if (watched === undefined && !isMemory && typeof object !== "function") this.#properties(object);
   }
 
   /** @param {import("../../agent/ordinary/watched.mjs").Watched} watched */
@@ -170,39 +208,44 @@ export class Walk {
   #function(fn) {
     const made = this.runtime.functions.get(fn);
     if (made === undefined) throw new CantShow(`the function ${fn.name}, which isn't of the modules`);
+    if (made.isHidden === true) throw new CantShow("a function that uses `super`");
     this.out.push(made.id);
+    if (made.home !== undefined) this.value(made.home);
     if (made.cells !== null && this.hides !== "closures") for (const cell of made.cells) this.cell(cell);
     for (const key of Reflect.ownKeys(fn)) {
-      const { value } = /** @type {PropertyDescriptor} */ (Reflect.getOwnPropertyDescriptor(fn, key));
-      if (typeof value === "function" && this.runtime.functions.get(value)?.id.startsWith(`${made.id} s `)) continue;
-      if (key === "prototype" && this.#isBarePrototype(value)) continue;
+      if (key === "prototype" && this.#hasBarePrototype(fn)) continue;
       this.#property(fn, key);
     }
   }
 
-  /** @param {any} prototype of a function @returns {boolean} whether it has nothing of its own */
-  #isBarePrototype(prototype) {
-    if (typeof prototype !== "object" || prototype === null) return false;
-    const parent = Reflect.getPrototypeOf(prototype);
-    const isOwn = parent === null || this.builtins.nameOf(parent) === undefined;
-    return !isOwn && Reflect.ownKeys(prototype).every((key) => key === "constructor");
+  /** @param {Function} fn @returns {boolean} whether its prototype is as the engine has made it */
+  #hasBarePrototype(fn) {
+    const own = /** @type {PropertyDescriptor} */ (Reflect.getOwnPropertyDescriptor(fn, "prototype"));
+    const prototype = own.value;
+    if (typeof prototype !== "object" || prototype === null || !own.writable) return false;
+    const maker = Reflect.getOwnPropertyDescriptor(prototype, "constructor");
+    const isOwn = Reflect.getPrototypeOf(prototype) !== Object.prototype || !Reflect.isExtensible(prototype);
+    if (isOwn || Reflect.ownKeys(prototype).length > 1 || maker?.value !== fn) return false;
+    if (maker.enumerable || !maker.writable || !maker.configurable) return false;
+    this.bare.push([fn, prototype]);
+    return true;
   }
 
-  /** @param {any} object @returns {boolean} whether it may have a prototype and properties besides */
+  /** @param {any} object */
   #content(object) {
     if (types.isModuleNamespaceObject(object)) throw new CantShow("a module's namespace");
-    if (types.isAnyArrayBuffer(object) || ArrayBuffer.isView(object)) return this.#memory(object);
     if (types.isMap(object)) this.#entries("Map", entriesOf.call(object));
     else if (types.isSet(object)) this.#entries("Set", valuesOf.call(object));
-    else if (types.isDate(object)) this.out.push("Date", object.getTime());
-    else if (types.isRegExp(object)) this.out.push("RegExp", JSON.stringify(object.source), object.flags);
-    else if (object instanceof ShownIterator) this.out.push("iterator");
-    else if (types.isNativeError(object)) this.out.push("Error", JSON.stringify(String(object.stack)));
+    else if (types.isDate(object)) this.out.push("Date", timeOf(object));
+    else if (types.isRegExp(object)) {
+      this.out.push("RegExp", JSON.stringify(sourceOf(object)), FLAGS.map((flag) => (flag(object) ? 1 : 0)).join(""));
+    } else if (object instanceof ShownIterator) this.out.push("iterator");
+    else if (types.isNativeError(object)) this.out.push("Error");
     else if (types.isWeakMap(object) || types.isWeakSet(object)) {
+      if (this.hasTags) throw new CantShow("a WeakMap or WeakSet, whose keys may be strings of templates with tags");
       this.out.push("weak");
       this.weak.push({ object, seen: new Set(), hasValues: types.isWeakMap(object) });
     } else needsPlain(object);
-    return true;
   }
 
   /** @param {string} kind @param {Iterable<any>} entries */
@@ -214,23 +257,33 @@ export class Walk {
     }
   }
 
-  /** @param {any} object a buffer, or a view on one @returns {boolean} */
+  /** @param {any} object a buffer, or a view on one */
   #memory(object) {
+    if (types.isTypedArray(object)) {
+      const [length, offset, buffer] = OF_ARRAYS.map((read) => read(object));
+      this.out.push(String(tagOf?.call(object)), offset, length);
+      this.value(buffer);
+      if (Reflect.ownKeys(object).length !== length) throw new CantShow("a typed array with properties");
+      return;
+    }
+    if (Reflect.ownKeys(object).length > 0) throw new CantShow("a buffer, or a DataView, with properties");
     if (ArrayBuffer.isView(object)) {
-      const length = types.isTypedArray(object) ? /** @type {any} */ (object).length : object.byteLength;
-      this.out.push(/** @type {any} */ (object)[Symbol.toStringTag] ?? "DataView", object.byteOffset, length);
-      this.value(object.buffer);
-      const own = types.isTypedArray(object) ? length : 0;
-      if (Reflect.ownKeys(object).length !== own) throw new CantShow("a typed array with properties");
+      bytesOf(OF_VIEWS[2](object));
+      const [length, offset, buffer] = OF_VIEWS.map((read) => read(object));
+      this.out.push("DataView", offset, length);
+      this.value(buffer);
     } else if (types.isSharedArrayBuffer(object)) {
       const block = blockNumber(object);
       if (block < 0) throw new CantShow("shared memory of its own");
       this.out.push(`block${block}`);
-    } else {
-      this.out.push(Buffer.from(object).toString("hex"), object.byteLength, String(object.resizable));
-    }
-    this.#prototype(object);
-    return false;
+    } else this.#buffer(object);
+  }
+
+  /** @param {ArrayBuffer} buffer */
+  #buffer(buffer) {
+    if (isResizable(buffer)) throw new CantShow("a buffer that can be resized");
+    const bytes = bytesOf(buffer);
+    this.out.push(hexOf(bytes, 0, bytes.length), bytes.length);
   }
 
   /** @param {object} object */
@@ -259,8 +312,23 @@ export class Walk {
 
   /** @param {object} object */
   #properties(object) {
+    if (Array.isArray(object) && Object.isFrozen(object) && Object.hasOwn(object, "raw")) {
+      throw new CantShow("the strings of a template with a tag");
+    }
     const isError = types.isNativeError(object);
-    for (const key of Reflect.ownKeys(object)) if (!(isError && key === "stack")) this.#property(object, key);
+    for (const key of Reflect.ownKeys(object)) {
+      if (isError && key === "stack") this.#stack(object);
+      else this.#property(object, key);
+    }
+  }
+
+  /** @param {object} error with a stack of its own: on newer versions of node that is read by a function */
+  #stack(error) {
+    const { value, get, set, writable, enumerable, configurable } =
+      /** @type {PropertyDescriptor} */ (Reflect.getOwnPropertyDescriptor(error, "stack"));
+    const isPlain = get === stackOfErrors.get && set === stackOfErrors.set && (get !== undefined || writable === true);
+    if (!isPlain || enumerable || !configurable) throw new CantShow("an error whose stack was changed");
+    this.value(get === undefined ? value : Reflect.apply(get, error, []));
   }
 
   /** @param {object} object @param {string | symbol} key */
@@ -275,6 +343,15 @@ export class Walk {
       this.value(get);
       this.value(set);
     }
+  }
+}
+
+/** @param {ArrayBufferLike} buffer @returns {Uint8Array} its bytes */
+function bytesOf(buffer) {
+  try {
+    return new EngineBytes(buffer);
+  } catch {
+    throw new CantShow("a buffer that was given away");
   }
 }
 

@@ -1,0 +1,24 @@
+// The thread that has the simulator's module search a file of automata. Its work is one: it reports, and ends.
+
+import { workerData } from "node:worker_threads";
+import { ModuleSimulator } from "../simulator/module.mjs";
+
+/**
+ * @typedef {object} Given
+ * @property {string} text of the file
+ * @property {import("../simulator/module.mjs").SearchJob} job
+ * @property {number} room how many bytes the output may have
+ */
+
+/** Does its work. */
+export function main() {
+  const { job, port, room, text } =
+    /** @type {Given & { port: import("node:worker_threads").MessagePort }} */ (workerData);
+  try {
+    const simulator = new ModuleSimulator();
+    port.postMessage({ ended: simulator.canSearch ? simulator.search(job, text, room) : undefined });
+  } catch (problem) {
+    port.postMessage({ failed: /** @type {Error} */ (problem).message });
+  }
+  port.close();
+}

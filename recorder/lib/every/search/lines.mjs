@@ -1,0 +1,90 @@
+// What `sabsim search --format json` writes, read back: a line for the whole, and one for each thing that was found.
+
+/** @typedef {import("./result.mjs").Result} Result */
+
+/** Lines that no search writes, or not all that one has written. */
+export class BadLines extends Error {}
+
+/** What lines are about, in the order in which they come. */
+const KINDS = /** @type {const} */ (["deadlock", "failed", "no way out", "unknown", "conflict", "final"]);
+
+/** @typedef {(typeof KINDS)[number]} Kind */
+
+/** The members of the first line, and of a line of each kind besides those that all have. */
+const WHOLE = [
+  "timeouts", "limit", "closed", "states", "acts", "expanded", "depth", "conflicts", "finals", "final_states",
+];
+const OWN = /** @type {Record<Kind, string[]>} */ ({
+  deadlock: [], failed: ["text"], "no way out": [], unknown: ["automaton", "node", "answer"], conflict: ["pair"],
+  final: ["blocks"],
+});
+
+/** So many are listed at most. */
+const MOST = /** @type {Record<Kind, number>} */ ({
+  deadlock: 1, failed: Infinity, "no way out": 1, unknown: Infinity, conflict: 100, final: 1_000,
+});
+
+/** @param {boolean} holds @param {string} what is wrong if it doesn't @returns {asserts holds} */
+function need(holds, what) {
+  if (!holds) throw new BadLines(what);
+}
+
+/** @param {string} line @param {number} at its number from 0 @returns {any} */
+function parsed(line, at) {
+  try {
+    return JSON.parse(line);
+  } catch {
+    throw new BadLines(`line ${at + 1} isn't JSON`);
+  }
+}
+
+/** @param {object} row @param {string[]} names @param {number} at the number of its line */
+function needMembers(row, names, at) {
+  const [found, wanted] = [Object.keys(row ?? {}), names].map((all) => [...all].sort().join(", "));
+  need(found === wanted, `line ${at + 1} has the members ${found}, and not ${wanted}`);
+}
+
+/**
+ * @param {string} text all that was written
+ * @returns {Result}
+ * @throws {BadLines}
+ */
+export function resultIn(text) {
+  need(text.endsWith("\n"), "the last line has no end");
+  const [first, ...lines] = text.slice(0, -1).split("\n");
+  const whole = parsed(first, 0);
+  needMembers(whole, WHOLE, 0);
+  /** @type {Record<Kind, any[]>} */
+  const found = { deadlock: [], failed: [], "no way out": [], unknown: [], conflict: [], final: [] };
+  let last = 0;
+  lines.forEach((line, at) => {
+    const { kind, ...row } = parsed(line, at + 1);
+    const rank = KINDS.indexOf(kind);
+    need(rank >= last, `line ${at + 2} is of the kind ${kind}, which isn't known or comes too late`);
+    last = rank;
+    needMembers(row, [...OWN[/** @type {Kind} */ (kind)], "states", "schedule"], at + 1);
+    found[/** @type {Kind} */ (kind)].push(row);
+  });
+  for (const kind of KINDS) need(found[kind].length <= MOST[kind], `there are ${found[kind].length} lines of ${kind}`);
+  const counts = /** @type {[Kind, number][]} */ ([["conflict", whole.conflicts], ["final", whole.finals]]);
+  for (const [kind, count] of counts) {
+    const listed = Math.min(count, MOST[kind]);
+    need(found[kind].length === listed, `there are ${found[kind].length} lines of ${kind}, and not ${listed}`);
+  }
+  return resultOf(whole, found);
+}
+
+/** @param {any} whole the first line @param {Record<Kind, any[]>} found @returns {Result} */
+function resultOf({ conflicts, finals, final_states: finalStates, ...whole }, found) {
+  return {
+    ...whole, deadlock: found.deadlock[0] ?? null, failed: found.failed, no_way_out: found["no way out"][0] ?? null,
+    unknown: found.unknown, conflicts: { count: conflicts, listed: found.conflict },
+    final: { states: finalStates, count: finals, listed: found.final },
+  };
+}
+
+/** @param {Result} result @returns {number} the status with which the search ends */
+export function statusOf({ closed, conflicts, deadlock, failed, no_way_out: noWayOut, unknown }) {
+  if (deadlock !== null || failed.length > 0 || noWayOut !== null || conflicts.count > 0) return 5;
+  return unknown.length > 0 || !closed ? 6 : 0;
+}
