@@ -188,52 +188,6 @@ declare module "node:buffer" {
   export default all;
 }
 
-declare module "node:child_process" {
-  interface Child extends NodeJS.Listened {
-    readonly pid?: number;
-    readonly connected: boolean;
-    kill(signal: NodeJS.Signals): boolean;
-    send(message: unknown, done?: (error: Error | null) => void): boolean;
-  }
-  interface PipedChild extends Child {
-    readonly stdin: NodeJS.Listened & { end(input: string): void };
-    readonly stdout: NodeJS.Listened;
-    readonly stderr: NodeJS.Listened;
-  }
-  interface PipedOptions {
-    stdio: "pipe";
-    signal?: AbortSignal;
-  }
-  interface ForkOptions {
-    stdio: string[];
-    execArgv: string[];
-    env?: Record<string, string | undefined>;
-    serialization: "advanced" | "json";
-    detached?: boolean;
-    windowsHide: boolean;
-  }
-  interface SyncOptions {
-    input: string;
-    encoding: "utf8";
-    maxBuffer: number;
-    timeout: number;
-  }
-  interface SyncEnd {
-    error?: Error;
-    status: number | null;
-    stdout: string;
-    stderr: string;
-  }
-  export type ChildProcess = Child;
-  export function fork(program: string, options: ForkOptions): Child;
-  export function fork(program: string, words: string[], options: ForkOptions): Child;
-  export function spawn(program: string, words: string[], options: { stdio: "inherit" }): Child;
-  export function spawn(program: string, words: string[], options: PipedOptions): PipedChild;
-  export function spawnSync(program: string, words: string[], options: SyncOptions): SyncEnd;
-  const all: object;
-  export default all;
-}
-
 declare module "node:crypto" {
   interface Hash {
     update(data: string | Uint8Array): this;
