@@ -53,7 +53,7 @@ function needKnown({ unknown: [first] }) {
   if (first === undefined) return;
   const { answer, automaton, node } = first;
   const where = `node ${node} of automaton ${automaton}`;
-  throw new NotAsLearned(`the proved search comes to ${where} with the answer ${answer}, which wasn't learned`);
+  throw new NotAsLearned(`the proved search reaches ${where} with the answer ${answer}, which wasn't learned`);
 }
 
 /** @param {{ states: number } | null} kind */
