@@ -1,69 +1,116 @@
-// A table of every schedule of many modules: whether all were tried, how many states there are, how long it took, and
-// what was found; beside it what the trial before this code had. `every-trial.json` has that.
+// A table of every schedule of many modules, as `everySchedule` tries them: whether all were tried, how many states
+// there are, how long it took, and what was found. Beside it is what the real runs of the seeds 1 to 300 find, and what
+// the trial before this code had (`every-trial.json`). Bash is needed.
 //
-// node --expose-gc recorder/bench/every.mjs [--only TEXT] [--within SECONDS] > recorder/bench/EVERY.md
+// node recorder/bench/every.mjs [--only TEXT] [--within SECONDS] > recorder/bench/EVERY.md
 
+import { spawnSync } from "node:child_process";
 import { readFileSync } from "node:fs";
+import { fileURLToPath } from "node:url";
 import { parseArgs } from "node:util";
-import { learnAgain, learnApart } from "../lib/every/learning/apart.mjs";
+import { dataOf } from "../lib/every/data.mjs";
+import { Every } from "../lib/every/every.mjs";
+import { everyOptions } from "../lib/library/every-schedule.mjs";
 
 const { values } = parseArgs({
-  options: { only: { type: "string", default: "" }, within: { type: "string", default: "60" } },
+  options: {
+    // A module that is tried in this process.
+    one: { type: "string" },
+    only: { type: "string", default: "" },
+    // Other work on the machine is not to end a search.
+    within: { type: "string", default: "1800" },
+  },
 });
 
 /** @type {Record<string, { states: string, seconds: number | null, found: string[] }>} */
 const TRIAL = JSON.parse(readFileSync(new URL("./every-trial.json", import.meta.url), "utf8"));
 
-const LIMIT = 1_000_000;
-const SECONDS = 10;
-
-/** @returns {number} the seconds that processors have worked for this process */
-const worked = () => {
-  const { user, system } = process.cpuUsage();
-  return (user + system) / 1e6;
-};
+/** Bash writes a command's processor time, and that of all processes that it began, to its last line. */
+const TIMED = 'TIMEFORMAT="%3U %3S"; time "$@"';
 
 /**
- * @param {string} path
- * @returns {Promise<{ states: string, nodes: string, seconds: number, found: string[], isClosed: boolean, note: string
- * }>}
+ * @typedef {object} Tried a row of the table, as far as it is of this code
+ * @property {string} states
+ * @property {string} moments
+ * @property {string[]} found
+ * @property {string[]} seedsFind
+ * @property {boolean} isClosed
+ * @property {string} note
  */
+
+const TITLE = `# Every schedule of many modules
+
+\`recorder/bench/every.mjs\` has made this. Seconds are those of processors, of all that \`everySchedule\` does: with
+300 real runs, and the proved search by the module. The trial counted states up to renaming of agents, merged moments
+whose futures looked alike in tests, and made no real runs.
+
+| Module | States | Moments | Seconds | Found | Seeds find | Trial: states | Seconds | Found | |
+|---|---:|---:|---:|---|---|---:|---:|---|---|`;
+
+/** @param {string[]} kinds @returns {string[]} each once */
+const once = (kinds) => [...new Set(kinds)].sort();
+
+/** @param {import("../lib/seeds/job.mjs").Checked} outcome of a real run @returns {string[]} what it finds */
+function kindsOf({ detail, ending, races }) {
+  const threw = ending === "failed" && /^agent \d+ threw /.test(detail);
+  const kind = ending === "bound" ? "no way out" : ending;
+  const own = ending === "finished" || ending === "race" ? [] : [threw ? "threw" : kind];
+  return races.length > 0 ? [...own, "race"] : own;
+}
+
+/** @param {string} path @returns {Promise<Tried>} */
 async function tried(path) {
-  const module = new URL(`../${path}`, import.meta.url).href;
-  const begun = worked();
-  const timeouts = /** @type {const} */ ("early");
-  const wanted = { module, args: [], place: {}, timeouts, limit: LIMIT, within: Number(values.within) };
+  const module = fileURLToPath(new URL(`../${path}`, import.meta.url));
+  const every = new Every(everyOptions({ module, within: Number(values.within) }, () => undefined), {});
+  const nothing = { states: "", moments: "", found: [], seedsFind: [], isClosed: false };
   try {
-    const report = await learnApart(wanted, { seconds: SECONDS });
-    const { edges, findings, isClosed, isShared, counts, nodes, plan, result: { states } } = report;
-    const again = { module, args: [], plan, isShared, isFresh: false, nodes, edges };
-    const differs = isClosed ? await learnAgain(again) : undefined;
-    const found = [...new Set(findings.map(({ kind }) => kind))].sort();
+    const { closed, found, moments, notProved, open, realRuns, states } = dataOf(await every.run());
+    const notes = [open, notProved, closed && realRuns !== 300 ? `${realRuns} real runs` : null];
     return {
-      states: isClosed ? `${states}` : `>${states}`, nodes: counts.nodes.join("+"), seconds: worked() - begun, found,
-      isClosed, note: differs === undefined ? "" : "not as learned",
+      states: closed ? `${states}` : `>${states}`, moments: `${moments}`, found: once(found.map(({ kind }) => kind)),
+      seedsFind: once(every.outcomes.flatMap(kindsOf)), isClosed: closed, note: notes.filter(Boolean).join("; "),
     };
   } catch (problem) {
-    const note = /** @type {Error} */ (problem).message.split("\n")[0].slice(0, 100);
-    return { states: "", nodes: "", seconds: worked() - begun, found: [], isClosed: false, note };
+    const { constructor: { name }, message } = /** @type {Error} */ (problem);
+    return { ...nothing, note: `${name}: ${message.split("\n")[0].slice(0, 150)}` };
   }
 }
 
-console.log("# Every schedule of many modules\n");
-console.log("`recorder/bench/every.mjs` has made this. Seconds are those of processors: learning, search, and");
-console.log("learning again. The trial counted states up to renaming of agents, and merged moments whose futures");
-console.log("looked alike in tests.\n");
-console.log("| Module | States | Nodes | Seconds | Found | Trial: states | Seconds | Found | |");
-console.log("|---|---:|---:|---:|---|---:|---:|---|---|");
-const closed = [];
-for (const [path, trial] of Object.entries(TRIAL).filter(([name]) => name.includes(values.only))) {
-  const { states, nodes, seconds, found, isClosed, note } = await tried(path);
-  if (isClosed) closed.push(seconds);
-  const same = !isClosed || found.join() === trial.found.join() ? "" : "other findings";
-  const theirs = [trial.states, trial.seconds ?? "", trial.found.join(", ")];
-  const own = [path, states, nodes, seconds.toFixed(1), found.join(", ")];
-  console.log(`| ${[...own, ...theirs, [same, note].filter(Boolean).join("; ")].join(" | ")} |`);
+/** @param {string} path @returns {Tried & { seconds: number }} by a process of its own */
+function triedApart(path) {
+  const words = [fileURLToPath(import.meta.url), "--one", path, "--within", values.within];
+  const command = ["-c", TIMED, "every", process.execPath, ...words];
+  const { stderr, stdout } = spawnSync("bash", command, { encoding: "utf8" });
+  const [user, system] = stderr.trimEnd().split("\n").slice(-1)[0].split(" ");
+  return { ...JSON.parse(stdout), seconds: Number(user) + Number(system) };
 }
-/** @param {number} most */
-const within = (most) => closed.filter((seconds) => seconds <= most).length;
-console.log(`\n${closed.length} of these closed: ${within(4)} within 4 s, ${within(10)} within 10 s.`);
+
+/** @param {string} path @returns {{ cells: string[], isClosed: boolean, seconds: number }} */
+function rowOf(path) {
+  const { found, isClosed, moments, note, seconds, seedsFind, states } = triedApart(path);
+  const trial = TRIAL[path];
+  const missed = seedsFind.filter((kind) => !found.includes(kind));
+  const notes = [
+    note, isClosed && found.join() !== trial.found.join() ? "other findings than the trial" : "",
+    isClosed && missed.length > 0 ? `only seeds find: ${missed.join(", ")}` : "",
+  ];
+  const own = [path, states, moments, seconds.toFixed(1), found.join(", "), isClosed ? seedsFind.join(", ") : ""];
+  const theirs = [trial.states, `${trial.seconds ?? ""}`, trial.found.join(", ")];
+  return { cells: [...own, ...theirs, notes.filter((one) => one !== "").join("; ")], isClosed, seconds };
+}
+
+/** Prints the table. */
+function table() {
+  console.log(TITLE);
+  const closed = [];
+  for (const path of Object.keys(TRIAL).filter((name) => name.includes(values.only))) {
+    const { cells, isClosed, seconds } = rowOf(path);
+    if (isClosed) closed.push(seconds);
+    console.log(`| ${cells.join(" | ")} |`);
+  }
+  const within = (/** @type {number} */ most) => closed.filter((seconds) => seconds <= most).length;
+  console.log(`\n${closed.length} of these closed: ${within(4)} within 4 s, ${within(10)} within 10 s.`);
+}
+
+if (values.one === undefined) table();
+else process.stdout.write(JSON.stringify(await tried(values.one)));

@@ -58,7 +58,7 @@ async function main() {
     return;
   }
   for (const program of asked.programs) {
-    const failures = await failuresOf(program, asked);
+    const failures = await failuresOf(program, asked).catch((problem) => [`not run to its end: ${problem.message}`]);
     const first = failures.length === 0 ? "" : `, ${failures[0]}`;
     console.log(`${program.name}: ${failures.length} of ${asked.seeds} failed${first}`);
     if (failures.length > 0) process.exitCode = 1;

@@ -8,13 +8,13 @@ import { test } from "node:test";
 import { fileURLToPath } from "node:url";
 import { NotSearched, provedSearch } from "../lib/every/proved.mjs";
 import { comparedBySecond, needFound } from "../lib/every/second.mjs";
+import { firstNotShown } from "../lib/every/showing.mjs";
 import { BadLines, resultIn, statusOf } from "../lib/every/search/lines.mjs";
 import { searched } from "../lib/every/search/second.mjs";
 import { ModuleSimulator } from "../lib/simulator/module.mjs";
 import { Simulator } from "../wasm/simulator.mjs";
-import { NotAsLearned, everySchedule } from "../recorder.mjs";
+import { NoSabsim, NotAsLearned, everySchedule } from "../recorder.mjs";
 import { temporaryFolder } from "./helpers/common.mjs";
-import { needing } from "./helpers/needs.mjs";
 import { linesOf } from "./helpers/search-lines.mjs";
 
 const HERE = new URL("./", import.meta.url);
@@ -22,9 +22,6 @@ const EXAMPLES = new URL("../../tests/search/examples/", HERE);
 const NAMES = readdirSync(EXAMPLES).filter((name) => !name.endsWith(".result.json")).map((name) => name.slice(0, -5));
 const PROGRAM = fileURLToPath(new URL("helpers/searching-program.mjs", HERE));
 const LOCK = fileURLToPath(new URL("../examples/mutex-three-state.agents.mjs", HERE));
-
-/** The module may be older than its search. */
-const withSearch = needing("search in the module", new ModuleSimulator().canSearch);
 
 /** @param {string} name of an example @returns {any} */
 const read = (name) => JSON.parse(readFileSync(new URL(`${name}.json`, EXAMPLES), "utf8"));
@@ -98,6 +95,18 @@ test("what the summary says must be what the proved search has found", () => {
   }
 });
 
+test("if no race is shown by its run, all that isn't shown is an error", () => {
+  const shownAs = (/** @type {string} */ kind, /** @type {boolean} */ isSame) =>
+    /** @type {any} */ ({ finding: { kind }, isSame });
+  const [race, lostRace] = [shownAs("race", true), shownAs("race", false)];
+  const [deadlock, lostDeadlock] = [shownAs("deadlock", true), shownAs("deadlock", false)];
+  for (const found of [[], [deadlock, race], [race, lostDeadlock], [race, lostRace]]) {
+    assert.equal(firstNotShown(found), undefined);
+  }
+  assert.equal(firstNotShown([deadlock, lostDeadlock]), lostDeadlock);
+  assert.equal(firstNotShown([lostRace, deadlock]), lostRace);
+});
+
 test("the native program that is chosen searches, and its answer is reported", async () => {
   const options = { module: LOCK, args: ["1"], seeds: 2, sabsim: PROGRAM };
   const data = await everySchedule(options);
@@ -111,6 +120,15 @@ test("the native program that is chosen searches, and its answer is reported", a
   const { notProved, searchProved } = await everySchedule(options);
   delete process.env.ENDS;
   assert.deepEqual([searchProved, notProved], [false, "there is no memory for it"]);
+});
+
+test("a native program that is older than the recorder can't search, and that is an error", async (context) => {
+  context.after(() => void delete process.env.ENDS);
+  process.env.ENDS = "2";
+  const options = { module: LOCK, args: ["1"], seeds: 2, sabsim: PROGRAM };
+  const older = /search, so it is older/;
+  const isWanted = (/** @type {unknown} */ error) => error instanceof NoSabsim && older.test(error.message);
+  await assert.rejects(everySchedule(options), isWanted);
 });
 
 test("automata that no file can have aren't searched again, and it is said", async () => {
@@ -129,7 +147,7 @@ test("automata that no file can have aren't searched again, and it is said", asy
   }
 });
 
-test("the module searches as the model does", withSearch, () => {
+test("the module searches as the model does", () => {
   const simulator = new ModuleSimulator();
   for (const name of NAMES) {
     for (const { status, ...result } of resultsOf(name)) {
@@ -141,17 +159,17 @@ test("the module searches as the model does", withSearch, () => {
   }
 });
 
-test("what has no room in the module is left out at the end of a line, and that is an error", withSearch, () => {
-  const text = JSON.stringify(read("mutex-of-3-agents"));
+test("what has no room in the module is left out at the end of a line, and that is an error", () => {
+  const text = JSON.stringify(read("mutex-of-3-agents-and-3-rounds"));
   const job = /** @type {const} */ ({ timeouts: "early", limit: 100_000, format: "json", states: true });
   const module = new WebAssembly.Module(readFileSync(new URL("../wasm/sabsim.wasm", HERE)));
-  // The room has never fewer bytes than four times the input's.
+  // The room has never fewer than 262,144 bytes.
   const { leftOut, output } = new Simulator(module).search(job, new TextEncoder().encode(text), 1);
   assert.ok(leftOut > 0);
   assert.equal(output.at(-1), 10);
 });
 
-test("a file that --out has kept is searched by the program, and by the module", withSearch, async (context) => {
+test("a file that --out has kept is searched by the program, and by the module", async (context) => {
   const out = temporaryFolder(context);
   const { data, result } = foundIn("mutex-of-2-agents");
   const file = join(out, "all.automata.json");

@@ -13,15 +13,10 @@ import { searched } from "../lib/every/search/second.mjs";
 import { NotAsLearned, Refused, everySchedule, record } from "../recorder.mjs";
 import { assertAgents } from "../testing.mjs";
 import { BODIES, moduleOf as nastyOf } from "./every/nasty.mjs";
-import { ModuleSimulator } from "../lib/simulator/module.mjs";
 import { agentsPath, temporaryFolder } from "./helpers/common.mjs";
 
 const RECORD = fileURLToPath(new URL("../record.mjs", import.meta.url));
 const EXAMPLES = fileURLToPath(new URL("../examples/", import.meta.url));
-
-/** Whether the simulator can search. */
-const IS_PROVED = new ModuleSimulator().canSearch;
-const NOT_PROVED = "the search isn't proved (the simulator has no search yet)";
 
 /** @param {string[]} words @returns {Promise<{ status: number | null, out: string, problems: string }>} */
 const recorded = (...words) => new Promise((done) => {
@@ -39,6 +34,8 @@ function moduleOf(context, text) {
   writeFileSync(path, text);
   return path;
 }
+
+const OTHER_NEXT = "Object.getPrototypeOf([][Symbol.iterator]()).next = () => ({ done: true });";
 
 /** A module of two agents that load and then do something. */
 const LOADS = (more) => `export const setup = { agents: 2, buffers: [8] };
@@ -59,8 +56,9 @@ test("a right lock: every schedule was tried, and nothing was found", async (con
   assert.equal(first, "every schedule of 3 agents was tried: none deadlocks, throws, races or fails check; "
     + "from every state all agents can still end");
   assert.match(states, /^ {2}20,590 states, 52,893 acts; 1 final state: /);
-  assert.ok(learned.startsWith(`  ${IS_PROVED ? "the search is proved" : NOT_PROVED}; what`), learned);
-  assert.match(learned, /: 39 moments of an agent, each of 78 edges twice; 20 real runs agree$/);
+  assert.match(learned, /^ {2}the search is proved; what .*: 39 moments of an agent, each of 78 edges twice; 20 real runs agree$/);
+  assert.match(rest[0], /^ {2}two moments counted as one only if all that the agent's code can still read was the /);
+  assert.equal(rest[1], "other numbers of agents, rounds or arguments weren't tried");
   assert.equal(rest.at(-2), `kept in ${out}: all.automata.json`);
   const file = JSON.parse(readFileSync(join(out, "all.automata.json"), "utf8"));
   assert.equal(searched(file, { timeouts: "early", limit: 1_000_000 }).states, 20_590);
@@ -84,7 +82,7 @@ test("JSON has what the text says", async () => {
   assert.equal(done.status, 1, done.problems);
   const { every, closed, found, notProved, realRuns, searchProved, states } = JSON.parse(done.out);
   assert.deepEqual({ every, closed, realRuns, states }, { every: 1, closed: true, realRuns: 5, states: 428 });
-  assert.equal(searchProved, notProved === null);
+  assert.deepEqual([searchProved, notProved], [true, null]);
   assert.equal(found.length, 1);
   assert.equal(found[0].kind, "threw");
   assert.match(found[0].detail[0], /^agent 0 threw Error: the answer to job \d+ is \d+, and not \d+/);
@@ -95,6 +93,8 @@ for (const [name, wanted] of /** @type {[string, [string, RegExp][]][]} */ ([
   ["lost-update", [["check", /^check threw Error: counted to 1/]]],
   ["flag-read-ordinarily", [["race", /reads .* at flag-read-ordinarily.mjs:15:17/]]],
   ["spin-ordinarily", [["race", /./]]],
+  ["stack-tag-wraps", [["check", /^check threw Error: node 2 is on the stack, and an agent's/]]],
+  ["stack-tagged", []],
   ["mutex", []],
 ])) {
   test(`what is known of ${name} is found`, async () => {
@@ -106,6 +106,17 @@ for (const [name, wanted] of /** @type {[string, [string, RegExp][]][]} */ ([
     for (const [at, [, detail]] of wanted.entries()) assert.match(found[at].detail?.join("\n") ?? "", detail);
   });
 }
+
+test("steps that one history alone leads to are counted", async (context) => {
+  const { edges, edgesByOne } = await everySchedule({ module: moduleOf(context, LOADS("")), seeds: 1 });
+  assert.deepEqual({ edges, edgesByOne }, { edges: 2, edgesByOne: 2 });
+});
+
+test("a race says which lines read and write", async (context) => {
+  const module = moduleOf(context, LOADS("words[1] = self;\n  Atomics.load(words, 0);"));
+  const { found } = await everySchedule({ module, seeds: 1 });
+  assert.deepEqual(found.map(({ kind, text }) => [kind, text]), [["race", "agents.mjs:5:12 and agents.mjs:5:12"]]);
+});
 
 test("what can't be learned is refused, with its line", async (context) => {
   for (const [text, wanted] of /** @type {[string, RegExp][]} */ ([
@@ -120,6 +131,10 @@ test("what can't be learned is refused, with its line", async (context) => {
     [LOADS("performance.mark('a');"), /agents\.mjs:5:3: `performance` used in this way$/],
     [LOADS("{ using one = null; }"), /agents\.mjs:5:5: `using`$/],
     [LOADS("buffers[0].kept = 1;"), /gives the object of a buffer a property or another prototype$/],
+    [LOADS(`${OTHER_NEXT}\n  Atomics.load(words, 0);`), /the `next` of all iterators of arrays, at agents\.mjs:6:11$/],
+    [LOADS(OTHER_NEXT), /the `next` of all iterators of arrays, at its end$/],
+    [`${OTHER_NEXT}\n${LOADS("")}`, /a module replaces the `next` of all iterators of arrays$/],
+    [LOADS("Array.prototype.push = 1;\n  Atomics.load(words, 0);"), /: one changes the language's own objects$/],
     [`import "node:fs";\n${LOADS("")}`, /node:fs, which agents\.mjs imports$/],
   ])) {
     const module = moduleOf(context, text);
@@ -128,10 +143,33 @@ test("what can't be learned is refused, with its line", async (context) => {
   }
 });
 
+test("what a module throws is learned as it is written", async (context) => {
+  for (const [more, wanted] of [
+    ["const lock = {};\n  lock.leave(Atomics.load(words, 1));", "TypeError: lock.leave is not a function"],
+    ["let leave;\n  leave(Atomics.load(words, 1));", "TypeError: leave is not a function"],
+    ["const lock = {};\n  new lock.Kind(Atomics.load(words, 1));", "TypeError: lock.Kind is not a constructor"],
+  ]) {
+    const { closed, found } = await everySchedule({ module: moduleOf(context, LOADS(more)), seeds: 2 });
+    assert.deepEqual([closed, found.map(({ text }) => text)], [true, [wanted]]);
+  }
+});
+
+test("what agents do before any call is learned a second time", async (context) => {
+  const module = moduleOf(context, `let runs = 0;
+export const setup = { agents: 2, buffers: [8] };
+export default function agent({ agent: self }) {
+  runs += 1;
+  if (runs > 1) throw new Error("not the first, " + self);
+}
+`);
+  const problem = await everySchedule({ module, seeds: 1 }).catch((error) => error);
+  assert.ok(problem instanceof NotAsLearned, problem);
+});
+
 test("agents that keep something from run to run aren't as they were learned", async () => {
   const problem = await everySchedule({ module: agentsPath("remembers"), seeds: 20 }).catch((error) => error);
   assert.ok(problem instanceof NotAsLearned, problem);
-  assert.match(problem.message, /does something else than was learned/);
+  assert.match(problem.message, /does something else than was learned\. .* keep something from run to run: with --f/);
   const done = await recorded(agentsPath("remembers"), "--all", "--seeds", "1..20");
   assert.equal(done.status, 3);
   assert.match(done.problems, /^record: .*does something else than was learned/);

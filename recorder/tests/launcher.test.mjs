@@ -7,7 +7,6 @@ import { cpSync, existsSync, openSync, readFileSync, writeFileSync } from "node:
 import { join } from "node:path";
 import { before, test } from "node:test";
 import { fileURLToPath } from "node:url";
-import { ModuleSimulator } from "../lib/simulator/module.mjs";
 import { MOST_OF_AUTOMATA, SCRIPT_LIMITS } from "../script/limits.mjs";
 import { temporaryFolder } from "./helpers/common.mjs";
 import { needing } from "./helpers/needs.mjs";
@@ -18,7 +17,6 @@ const SCRIPT = '{"blocks":[1],"views":[],"agents":[],"schedule":[]}';
 const REPORT = { status: 0, stdout: "block 0 00\n", stderr: "" };
 const TOO_LONG = { status: 1, stdout: "", stderr: "sabsim: 18 TooLong\n" };
 const MOST_WRITTEN = 2 ** 26;
-const withSearch = needing("search in the module", new ModuleSimulator().canSearch);
 
 /** @type {string} */
 let launcher;
@@ -52,7 +50,7 @@ test("a script may be as long as the limit says, and not longer", (context) => {
   }
 });
 
-test("a file of automata may be longer than a script, up to a limit of its own", withSearch, (context) => {
+test("a file of automata may be longer than a script, up to a limit of its own", (context) => {
   const text = readFileSync(new URL("../../tests/search/examples/semaphore.json", import.meta.url), "utf8");
   const longest = text.padEnd(MOST_OF_AUTOMATA);
   const file = join(temporaryFolder(context), "automata.json");

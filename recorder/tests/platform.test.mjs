@@ -4,8 +4,7 @@ import assert from "node:assert/strict";
 import { spawn, spawnSync } from "node:child_process";
 import { createHash } from "node:crypto";
 import {
-  appendFileSync, closeSync, constants, cpSync, existsSync, mkdirSync, openSync, readFileSync, readdirSync,
-  realpathSync, symlinkSync, writeFileSync,
+  appendFileSync, closeSync, constants, cpSync, existsSync, openSync, readFileSync, readdirSync, writeFileSync,
 } from "node:fs";
 import { syncBuiltinESMExports } from "node:module";
 import os from "node:os";
@@ -20,7 +19,6 @@ import { onceFree } from "../lib/keeping/once-free.mjs";
 import { endRest } from "../lib/processes/group-end.mjs";
 import { POSIX, WINDOWS } from "../lib/processes/platform.cjs";
 import { readAll } from "../lib/processes/read-all.mjs";
-import { realUrl } from "../lib/processes/real-url.mjs";
 import { GRAPH_FLAGS } from "../lib/program/graph-flags.cjs";
 import { ignoringCase } from "../lib/program/process-env.mjs";
 import { SourceNames } from "../lib/run/source-names.mjs";
@@ -28,7 +26,7 @@ import { startJob } from "../lib/seeds/start-job.cjs";
 import { keptFolder } from "../lib/suite/kept-folder.mjs";
 import { Browser, withBrowser } from "./helpers/browser.mjs";
 import { temporaryFolder } from "./helpers/common.mjs";
-import { needing, withLinks, withPosixPaths, withSignals } from "./helpers/needs.mjs";
+import { needing, withPosixPaths, withSignals } from "./helpers/needs.mjs";
 import { FACTS, FILE, OUTCOME, lines as linesOf } from "./helpers/page-run.mjs";
 
 const RECORDER = fileURLToPath(new URL("../", import.meta.url));
@@ -206,66 +204,6 @@ test("the environment of Windows finds a name in any case, and keeps it as it wa
   assert.deepEqual(Object.entries(env), [["Path", "other"], ["home", "h"], ["New", "1"]]);
   delete env.HOME;
   assert.deepEqual(Object.keys(env), ["Path", "New"]);
-});
-
-test("a file behind a link has the URL by which node's loader knows it", withLinks, (context) => {
-  const folder = realpathSync(temporaryFolder(context));
-  mkdirSync(join(folder, "real"));
-  writeFileSync(join(folder, "real", "a #1.mjs"), "");
-  symlinkSync(join(folder, "real"), join(folder, "link"));
-  const [link, real] = ["link", "real"].map((name) => pathToFileURL(join(folder, name, "a #1.mjs")).href);
-  assert.equal(realUrl(`${link}?x=/link#y`), `${realUrl(real)}?x=/link#y`);
-  assert.equal(realUrl("file:///no/such/file.mjs?a"), "file:///no/such/file.mjs?a");
-  assert.equal(realUrl("data:text/javascript,0"), "data:text/javascript,0");
-  const names = new SourceNames(link);
-  assert.equal(names.nameOf(`${real}:1:2`), "a #1.mjs:1:2");
-});
-
-/** A program's main module: each time that it is evaluated it writes down how it is known. @param {string} file */
-const mainOf = (file) => `import { appendFileSync } from "node:fs";
-import "./part.mjs";
-appendFileSync(${JSON.stringify(file)}, JSON.stringify([import.meta.url, process.argv[1]]) + "\\n");
-`;
-
-test("a program behind a link is known as in node, and its main module is evaluated once", withLinks, (context) => {
-  const folder = temporaryFolder(context);
-  mkdirSync(join(folder, "real"));
-  symlinkSync(join(folder, "real"), join(folder, "link"));
-  const written = join(folder, "written");
-  writeFileSync(join(folder, "real/main.mjs"), mainOf(written));
-  writeFileSync(join(folder, "real/part.mjs"), 'import "./main.mjs";\n');
-  const main = join(folder, "link/main.mjs");
-  /** @param {string[]} words @returns {string} what the program has written down */
-  const writtenBy = (words) => {
-    writeFileSync(written, "");
-    const { status, stderr } = spawnSync(process.execPath, words, { encoding: "utf8" });
-    assert.equal(status, 0, stderr);
-    return readFileSync(written, "utf8");
-  };
-  const inNode = writtenBy([main]);
-  assert.equal(inNode, `${JSON.stringify([realUrl(pathToFileURL(main).href), main])}\n`);
-  const words = ["--program", main, "--seeds", "1..1", "--jobs", "1", "--check", "0"];
-  assert.equal(writtenBy([join(RECORDER, "record.mjs"), ...words]), inNode);
-});
-
-test("places behind a link are named as without it", withLinks, (context) => {
-  const folder = temporaryFolder(context);
-  mkdirSync(join(folder, "real"));
-  symlinkSync(join(folder, "real"), join(folder, "link"));
-  writeFileSync(join(folder, "real/wait.mjs"), "export const wait = (view) => Atomics.wait(view, 0, 0);\n");
-  writeFileSync(join(folder, "real/agents.mjs"), `import { wait } from "./wait.mjs";
-export default ({ buffers: [buffer] }) => wait(new Int32Array(buffer));
-`);
-  const textOf = (name, flags = []) => {
-    const options = ["--agents", "1", "--buffers", "4", "--seeds", "1..1", "--check", "0"];
-    const words = [...flags, join(RECORDER, "record.mjs"), join(folder, name, "agents.mjs"), ...options];
-    const { stdout } = spawnSync(process.execPath, words, { encoding: "utf8" });
-    return stdout.replaceAll(join(folder, name), "");
-  };
-  const direct = textOf("real");
-  assert.match(direct, /\bat wait\.mjs:1:39\b/);
-  assert.equal(textOf("link"), direct);
-  assert.equal(textOf("link", ["--preserve-symlinks"]), direct);
 });
 
 test("without signals the status is the one that shells report", () => {

@@ -62,6 +62,39 @@ describe("a time that may end early", () => {
     assert.equal(mayEnd(board), false);
   });
 
+  it("counts for one whose own time is up from when its wait began", () => {
+    const board = boardOf({ milliseconds: 60 });
+    board.deadlines.end(0, 60);
+    // Agent 1, which lags, waits for a time, which is up.
+    board.rest(1, LOOP, 1);
+    board.rest(0, LOOP, 60);
+    board.deadlines.end(1, 1);
+    board.line.become(1, PHASE.ASKS);
+    assert.equal(mayEnd(board), false);
+  });
+
+  it("counts for an event loop with timers as it was, if one wakes it that lags less", () => {
+    const board = boardOf({ milliseconds: 60 });
+    board.deadlines.end(0, 60);
+    board.rest(1, LOOP, 30);
+    board.strategy.moves(0, 0);
+    board.line.notify(LOOP, 1, 1);
+    board.rest(0, LOOP, 60);
+    assert.equal(mayEnd(board), false);
+  });
+
+  it("counts what passes early while one waits whose time is up", () => {
+    const board = boardOf({ milliseconds: 60 });
+    board.rest(1, LOOP, 10);
+    board.deadlines.end(0, 60);
+    board.deadlines.end(1, 10);
+    board.line.become(1, PHASE.ASKS);
+    board.rest(0, LOOP, 60);
+    assert.equal(mayEnd(board), false);
+    board.rest(0, LOOP, 50);
+    assert.equal(mayEnd(board), true);
+  });
+
   it("ends by a row only so, unless the row is exact", () => {
     const drawn = (isExact, milliseconds) => {
       const board = boardOf({ milliseconds, memory: Board.memory() });
@@ -91,7 +124,35 @@ const chain = (limit) => ({
     parentPort.on("message", (left) => parentPort.postMessage(left));`,
 });
 
+/** Main has a limit for an answer, and a clock ticks beside; the worker reports each of its steps, between which it sleeps. */
+const STEPS = {
+  "main.mjs": `import { Worker } from "node:worker_threads";
+    const worker = new Worker(new URL("./w.mjs", import.meta.url));
+    const ticks = setInterval(() => {}, 90);
+    const late = setTimeout(() => { throw new Error("no answer in time"); }, 500);
+    worker.on("message", (step) => {
+      if (step < 20) return;
+      clearTimeout(late);
+      clearInterval(ticks);
+      worker.unref();
+    });
+    worker.postMessage("begin");`,
+  "w.mjs": `import { setTimeout as sleep } from "node:timers/promises";
+    import { parentPort } from "node:worker_threads";
+    parentPort.once("message", async () => {
+      for (let step = 1; step <= 20; step += 1) {
+        await sleep(1);
+        parentPort.postMessage(step);
+      }
+    });`,
+};
+
 describe("programs with limits of time", () => {
+  it("aren't late by early ends before each of a thread's short sleeps", async (context) => {
+    const outcomes = await runsOf(context, STEPS, { seeds: seedsTo(40) });
+    assert.deepEqual(endingsOf(outcomes), ["finished: "]);
+  });
+
   it("aren't late by many early ends, each a short time", async (context) => {
     const outcomes = await runsOf(context, chain(200), { seeds: seedsTo(60) });
     assert.deepEqual(endingsOf(outcomes), ["finished: "]);

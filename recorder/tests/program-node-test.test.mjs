@@ -42,6 +42,8 @@ const FAILING = {
     /^agent 0 failed the test "inner", at main\.mjs:3:3: 5\nand 1 more failed$/],
   "a hook": ['import { before, test } from "node:test";\nbefore(() => { throw new Error("no"); });\ntest("a", () => {});',
     /^agent 0 failed the test ".*", at .*main\.mjs:[\d:]+: Error: no\n/],
+  "a suite's hook": ['import { before, describe, it } from "node:test";\ndescribe("one", () => {\n  before(() => { throw new Error("no"); });\n  it("inner", () => {});\n});',
+    /^agent 0 failed the test "one", at main\.mjs:2:1: Error: no\n +at .*main\.mjs:3:24[^]*and 1 more failed$/],
   "a time that is up": ['import { test } from "node:test";\ntest("late", { timeout: 10 }, () => new Promise((done) => setTimeout(done, 1_000)));',
     /^agent 0 failed the test "late", at main\.mjs:2:1: "test timed out after 10ms"/],
   "an error in a task": ['import { test } from "node:test";\ntest("late", async () => {\n  setImmediate(() => { throw new Error("no"); });\n  await new Promise((done) => setTimeout(done, 5));\n});',

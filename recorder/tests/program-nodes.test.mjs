@@ -3,11 +3,12 @@
 
 import assert from "node:assert/strict";
 import { spawnSync } from "node:child_process";
-import { writeFileSync } from "node:fs";
+import { readFileSync, writeFileSync } from "node:fs";
 import nodeModule from "node:module";
 import { join } from "node:path";
 import { test } from "node:test";
 import { pathToFileURL } from "node:url";
+import { TRIED } from "../lib/processes/node-versions.mjs";
 import { record } from "../recorder.mjs";
 import { RECORD, temporaryFolder } from "./helpers/common.mjs";
 import { whereNodeHasIt } from "./helpers/where-node-has-it.mjs";
@@ -25,8 +26,9 @@ const AGENTS = `export const setup = { agents: 2, buffers: [4] };
 export default function agent({ buffers: [memory] }) { Atomics.add(new Int32Array(memory), 0, 1); }
 `;
 
-/** What a node has that lacks two functions of its inside: threads of programs alone can ask for these. */
-const LACKING = `try {
+/** What a node has that lacks functions of its inside: threads of programs alone can ask for two of these. */
+const LACKING = `delete process._getActiveHandles;
+try {
   delete require("internal/error_serdes").deserializeError;
   delete require("internal/util").decorateErrorStack;
 } catch { /* This thread can't ask for them. */ }
@@ -54,8 +56,8 @@ test("a node that lacks something of its inside refuses programs by name, and ru
   assert.equal(status, 2, stderr);
   assert.equal(stdout, "");
   assert.equal(stderr, `record: whole programs don't run on node ${process.versions.node}, which lacks deserializeError of `
-    + "internal/error_serdes, decorateErrorStack of internal/util. They were tried on node 20.20 and 24.22. Modules of "
-    + "agents run on this node, too\n");
+    + "internal/error_serdes, decorateErrorStack of internal/util, process._getActiveHandles. They were tried on node "
+    + "20.20 and 24.22. Modules of agents run on this node, too\n");
   const ofAgents = ranBy([file("agents.mjs")], nodeWords);
   assert.equal(ofAgents.status, 0, ofAgents.stderr);
 });
@@ -114,5 +116,13 @@ withTypeScript("a program in TypeScript has its own lines", (context) => {
     const { status, stdout, stderr } = ranBy(["--program", file(name)], hook);
     assert.equal(status, 1, stderr);
     assert.match(stdout, new RegExp(`agent 1 \\(${name}, started at ${name}:5:19\\) (?:reads|writes) .* at ${name}:6:`));
+  }
+});
+
+test("the package and the documents name the versions that were tried", () => {
+  const textOf = (name) => readFileSync(new URL(`../../${name}`, import.meta.url), "utf8");
+  assert.deepEqual(JSON.parse(textOf("package.json")).tried.node, TRIED);
+  for (const name of ["README.md", "recorder/README.md", "docs/RECORDER.md", "CHANGELOG.md"]) {
+    assert.ok(textOf(name).includes(TRIED.join(" and ")), name);
   }
 });

@@ -7,13 +7,18 @@ import { mkdtempSync, readFileSync, readdirSync, rmSync, writeFileSync } from "n
 import { tmpdir } from "node:os";
 import { dirname, join } from "node:path";
 import { after, before, test } from "node:test";
+import { pathToFileURL } from "node:url";
 import { MOST_DRAWS } from "../lib/board/row.mjs";
 import { Keeper } from "../lib/keeping/keep.mjs";
 import { keepProgram, keptProgram } from "../lib/keeping/kept-program.mjs";
 import { Refused } from "../lib/options/refused.mjs";
+import { defaultsOf } from "../lib/options/table.mjs";
+import { ProgramGroup } from "../lib/program/group.mjs";
+import { shorten } from "../lib/shorter/shorten.mjs";
 import { explore } from "../recorder.mjs";
 import { commandHere } from "./helpers/command-here.mjs";
 import { RECORD, temporaryFolder } from "./helpers/common.mjs";
+import { firstFailing } from "./helpers/groups.mjs";
 import { programIn, programOf } from "./helpers/whole-programs.mjs";
 
 // Main looks at the word when the first message has come. The worker may have stored it or not.
@@ -210,7 +215,26 @@ test("a row that is too long to be known whole isn't kept, and it is said so", (
   assert.deepEqual([kept(MOST_DRAWS - 1), keeper.names], [[], ["seed-7.program.json"]]);
 });
 
-test("a run in fresh threads is shortened, shown with its lines, kept and replayed in fresh threads", async (context) => {
+test("a run in fresh threads is shortened by runs in fresh threads", async (context) => {
+  // In threads that are kept no further run would throw.
+  const program = programOf(context, {
+    "main.mjs": `import { Worker } from "node:worker_threads";
+      const words = new Int32Array(new SharedArrayBuffer(4));
+      globalThis.times = (globalThis.times ?? 0) + 1;
+      new Worker(new URL("./worker.mjs", import.meta.url), { workerData: words });
+      for (let time = 0; time < 3; time += 1) Atomics.add(words, 0, 1);
+      if (globalThis.times === 1 && Atomics.load(words, 0) > 3) throw new Error("too soon");`,
+    "worker.mjs": `import { workerData as words } from "node:worker_threads";
+      for (let time = 0; time < 3; time += 1) Atomics.add(words, 0, 1);`,
+  });
+  const options = { ...defaultsOf("record"), isProgram: true, seconds: 20, args: [], module: pathToFileURL(program).href };
+  const group = await ProgramGroup.open(/** @type {any} */ ({ ...options, fresh: true }));
+  context.after(() => group.close());
+  const { shortened } = await shorten(group, await firstFailing(group), { milliseconds: 60_000, most: 5 });
+  assert.doesNotMatch(shortened.unchanged ?? "", /couldn't be made again/);
+});
+
+test("a run in fresh threads is shown with its lines, kept and replayed in fresh threads", async (context) => {
   // In threads that are kept the second run would find another number in the global.
   const { file, folder, name } = await kept(programOf(context, {
     "main.mjs": `import { Worker } from "node:worker_threads";

@@ -3,7 +3,8 @@
 
 import assert from "node:assert/strict";
 import { describe, it } from "node:test";
-import { runsOf } from "./helpers/whole-programs.mjs";
+import { record } from "../recorder.mjs";
+import { programOf, runsOf } from "./helpers/whole-programs.mjs";
 
 /** @param {any} context @param {Record<string, string>} files @returns {Promise<any>} the first run */
 async function runOf(context, files) {
@@ -74,6 +75,60 @@ describe("messages", () => {
   });
 });
 
+describe("a message that can't be read", () => {
+  const SENDS = `import { Worker } from "node:worker_threads";
+    const worker = new Worker(new URL("./w.mjs", import.meta.url));
+    worker.on("message", () => console.log("never"));
+    await new Promise((done) => worker.on(process.argv[2], done));`;
+  const LIST = `import { parentPort } from "node:worker_threads";
+    let list = null;
+    for (let at = 0; at < 6_000; at += 1) list = { at, next: list };
+    parentPort.postMessage(list);`;
+
+  it("is an event with the reason, also if nobody listens", async (context) => {
+    const { detail, tasks } = await runOf(context, { "main.mjs": SENDS.replace("process.argv[2]", '"answer"'), "w.mjs": LIST });
+    assert.match(detail, /^agent 0 exited with code 13: /);
+    const texts = tasks.map(({ agent, text }) => `${agent} ${text}`);
+    assert.ok(texts.includes("0 gets messageerror, RangeError: Maximum call stack size exceeded"), texts.join("\n"));
+  });
+
+  it("is emitted as messageerror", async (context) => {
+    const main = SENDS.replace("process.argv[2]", '"messageerror"');
+    assert.equal((await runOf(context, { "main.mjs": main, "w.mjs": LIST })).ending, "finished");
+  });
+
+  it("is an event without data in a browser, by each way", async (context) => {
+    const main = `const channel = new BroadcastChannel("a");
+      const worker = new Worker("w.js");
+      const { port1, port2 } = new MessageChannel();
+      const got = (target) => new Promise((done) => { target.onmessage = target.onmessageerror = done; });
+      const asked = [worker, port1, channel].map(got);
+      worker.postMessage(port2, [port2]);
+      const events = await Promise.all(asked);
+      const texts = events.map(({ type, data }) => type + " " + data);
+      if (texts.some((text) => text !== "messageerror null")) throw new Error(texts.join());
+      close();`;
+    const worker = `let list = null;
+      for (let at = 0; at < 6_000; at += 1) list = { at, next: list };
+      postMessage(list);
+      new BroadcastChannel("a").postMessage(list);
+      onmessage = ({ data }) => data.postMessage(list);`;
+    const options = { web: true };
+    const [{ ending, detail }] = await runsOf(context, { "main.mjs": main, "w.js": worker }, { seeds: [1], options });
+    assert.deepEqual([ending, detail], ["finished", ""]);
+  });
+
+  it("orders what its sender did before, and what its receiver does then", async (context) => {
+    const main = `import { Worker } from "node:worker_threads";
+      const words = new Int32Array(new SharedArrayBuffer(4));
+      const worker = new Worker(new URL("./w.mjs", import.meta.url), { workerData: words });
+      worker.on("messageerror", () => { words[0] += 1; });`;
+    const worker = LIST.replace("let list", "workerData[0] = 1; let list").replace("{ parentPort }", "{ parentPort, workerData }");
+    const outcomes = await runsOf(context, { "main.mjs": main, "w.mjs": worker }, { seeds: [1, 2, 3, 4, 5] });
+    assert.deepEqual(outcomes.map(({ ending }) => ending), Array(5).fill("finished"));
+  });
+});
+
 describe("an exit", () => {
   it("shows what was written to standard error before, and its line", async (context) => {
     const { detail } = await runOf(context, {
@@ -103,5 +158,24 @@ describe("an exit", () => {
       "first.mjs": "await 2;",
     });
     assert.match(detail, /^agent 0 exited with code 13: it has a top-level await that never settles, at main\.mjs:4:\d+$/);
+  });
+
+  it("with code 13 is shortened to one with the same line", async (context) => {
+    const program = programOf(context, {
+      "main.mjs": `import { Worker } from "node:worker_threads";
+        const workers = [0, 1].map(() => new Worker("require('worker_threads').parentPort.postMessage(1)", { eval: true }));
+        const said = (worker) => new Promise((done) => worker.on("message", done));
+        await said(workers[0]);
+        await said(workers[1]);`,
+    });
+    for (let seed = 1; seed <= 20; seed += 1) {
+      const { fails } = await record({ program, seed });
+      if (!fails) continue;
+      const { detail, shortened } = await record({ program, seed, shorten: true });
+      assert.match(detail, /never settles, at main\.mjs:[45]:\d+$/);
+      assert.doesNotMatch(shortened?.unchanged ?? "", /couldn't be made again/);
+      return;
+    }
+    assert.fail("no run has failed");
   });
 });

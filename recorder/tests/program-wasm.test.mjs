@@ -6,7 +6,7 @@ import { spawnSync } from "node:child_process";
 import { writeFileSync } from "node:fs";
 import { join } from "node:path";
 import { describe, it } from "node:test";
-import { fileURLToPath } from "node:url";
+import { fileURLToPath, pathToFileURL } from "node:url";
 import { hasSharedMemory, translated } from "../lib/program/wasm/translate.mjs";
 import { RECORD, temporaryFolder } from "./helpers/common.mjs";
 import { endingsOf, runsOf } from "./helpers/whole-programs.mjs";
@@ -151,7 +151,7 @@ describe("instructions that use the memory do what the engine's do", () => {
       const calls = callsOf(wasmAccesses.length);
       const folder = temporaryFolder(context);
       writeFileSync(join(folder, "calls.mjs"), CALLS);
-      const { results } = await import(join(folder, "calls.mjs"));
+      const { results } = await import(pathToFileURL(join(folder, "calls.mjs")).href);
       const memory = new WebAssembly.Memory({ initial: 1, maximum: 1, shared: true });
       const { exports } = new WebAssembly.Instance(new WebAssembly.Module(ALL), { env: { memory } });
       const expected = results(exports, memory, calls);

@@ -130,7 +130,10 @@ test("merge.mjs prints the summary of all shards, and names the folder of the fi
   assert.deepEqual([plain.status, plain.stderr, json.status, one.status], [1, "", 1, 1]);
   const [, seed] = /^first failing seed: (\d+), deadlock$/m.exec(one.stdout);
   const holder = Math.ceil(Number(seed) / 10);
-  assert.equal(plain.stdout, one.stdout.replace(join(folder, "found"), join(folder, `found-${holder}`)));
+  // On a slow machine one of them may stop before it has tried all shorter runs.
+  const summary = (text) => text.replace(/^(not shortened: no shorter one was found), .*$/m, "$1");
+  const inOne = one.stdout.replace(join(folder, "found"), join(folder, `found-${holder}`));
+  assert.equal(summary(plain.stdout), summary(inOne));
   const { asked, seeds, kept } = JSON.parse(json.stdout);
   assert.deepEqual([asked.seeds, asked.shard, seeds], [[{ first: 1, last: 30 }], null, [{ first: 1, last: 30 }]]);
   assert.equal(kept.path, join(folder, `found-${holder}`));

@@ -1,7 +1,7 @@
 // `sabsim/test` in a test suite: what node's runner says about a module of agents that fails, and of one that doesn't.
 
 import assert from "node:assert/strict";
-import { spawn } from "node:child_process";
+import { spawn, spawnSync } from "node:child_process";
 import {
   existsSync, mkdirSync, readFileSync, readdirSync, realpathSync, rmSync, symlinkSync, writeFileSync,
 } from "node:fs";
@@ -228,4 +228,23 @@ test("assertAgents fails with RunFailed, in any test", onLinux, async (the) => {
   const nowhere = { ...options, args: ["waitsForEver"], seeds: "4", out: "/proc/self" };
   const message = /: seed 4: deadlock\n.*\n\nIts last acts, [^]*\n\nnot kept: `out` \/proc\/self can't be used: /;
   await assert.rejects(assertAgents(nowhere), message);
+});
+
+test("node:test is loaded only when a test of it is asked for", () => {
+  const forms = [
+    ["mjs", `import { assertAgents, testAgents } from "${HELPER}";`],
+    ["cjs", `import { createRequire } from "node:module";
+      const { assertAgents, testAgents } = createRequire("${HELPER}")("./testing.cjs");`],
+  ];
+  for (const [name, line] of forms) {
+    const code = `${line}
+      const isLoaded = () => process.moduleLoadList.some((name) => name.includes("test_runner"));
+      await assertAgents({ module: "${HELPER}/none.mjs" }).catch(() => {});
+      const before = isLoaded();
+      testAgents("a test", {});
+      console.log(before, isLoaded());
+      process.exit();`;
+    const { stdout, stderr } = spawnSync(process.execPath, ["--input-type=module", "-e", code], { encoding: "utf8" });
+    assert.deepEqual([stdout, stderr], ["false true\n", ""], name);
+  }
 });

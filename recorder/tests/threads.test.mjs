@@ -1,7 +1,8 @@
 // Workers as their parent sees them: their messages, and what they died of.
 
 import assert from "node:assert/strict";
-import { readFileSync, writeFileSync } from "node:fs";
+import { spawnSync } from "node:child_process";
+import { writeFileSync } from "node:fs";
 import { join } from "node:path";
 import { test } from "node:test";
 import { setTimeout as sleep } from "node:timers/promises";
@@ -84,17 +85,28 @@ test("a message that other code sends by the worker's port is ignored", async (c
   assert.deepEqual([first, Object.keys(second)], [{ message: "true" }, ["ended"]]);
 });
 
-test("`stop` waits for a thread in native code no longer than its limit", withShell, async (context) => {
-  const mark = join(temporaryFolder(context), "mark");
+test("`stop` lets go of a thread that native code holds longer than its limit", withShell, (context) => {
+  const folder = temporaryFolder(context);
+  const [mark, worker, main] = ["mark", "worker.mjs", "main.mjs"].map((name) => join(folder, name));
   writeFileSync(mark, "");
-  const thread = threadOf(context, `execSync("echo $$ > '${mark}'; exec sleep 1000");`);
-  const sleeper = () => Number.parseInt(readFileSync(mark, "utf8"), 10);
-  while (!(sleeper() > 0)) await sleep(10);
-  const begun = performance.now();
-  assert.equal(await thread.stop(100), false);
-  assert.ok(performance.now() - begun >= 95);
-  // The native code is there all this time, and ends now.
-  process.kill(sleeper());
+  writeFileSync(worker, `import { execSync } from "node:child_process";
+execSync("echo $$ > '${mark}'; exec sleep 1000");`);
+  // The native code is there all the time, until it is killed.
+  writeFileSync(main, `import { readFileSync } from "node:fs";
+import { setTimeout as sleep } from "node:timers/promises";
+import { Thread } from ${JSON.stringify(new URL("../lib/processes/thread.mjs", import.meta.url).href)};
+const thread = new Thread(new URL("worker.mjs", import.meta.url), {}, { ownPort: true });
+const sleeper = () => Number.parseInt(readFileSync(${JSON.stringify(mark)}, "utf8"), 10);
+while (!(sleeper() > 0)) {
+  if (thread.ended !== undefined) throw new Error(thread.ended);
+  await sleep(10);
+}
+const begun = performance.now();
+const hasEnded = await thread.stop(100);
+console.log(hasEnded, performance.now() - begun >= 95, process.getActiveResourcesInfo().includes("MessagePort"));
+process.kill(sleeper());`);
+  const { stdout, stderr } = spawnSync(process.execPath, [main], { encoding: "utf8" });
+  assert.deepEqual([stdout, stderr], ["false true false\n", ""]);
 });
 
 test("a thread that loops can be stopped, and its end isn't reported", async (context) => {
@@ -141,6 +153,28 @@ test("a worker begins without the options of the engine and of the process, whic
     assert.deepEqual(await thread.next(), { message: unknown });
   }
   assert.throws(() => begunThread(root, [...words, "--no-such-option"]), { code: "ERR_WORKER_INVALID_EXEC_ARGV" });
+});
+
+test("a program's first thread has the stack of a process, and others have a Worker's", async (context) => {
+  const root = pathToFileURL(join(temporaryFolder(context), "root.mjs"));
+  writeFileSync(root, `import threads from "node:worker_threads";
+export function main() {
+  let depth = 0;
+  const deeper = () => { depth += 1; deeper(); };
+  try { deeper(); } catch { threads.workerData.port.postMessage(depth); }
+}
+`);
+  const { stdout } = spawnSync(process.execPath, ["-e", `let depth = 0;
+    const deeper = () => { depth += 1; deeper(); };
+    try { deeper(); } catch { console.log(depth); }`], { encoding: "utf8" });
+  beginThreads(root, 2, undefined, true);
+  const threads = [begunThread(root, undefined, true), begunThread(root), begunThread(root, undefined, true)];
+  context.after(() => Promise.all(threads.map((thread) => thread.stop())));
+  for (const thread of threads) thread.give(root);
+  const [first, other, another] = await Promise.all(threads.map(async (thread) => (await thread.next()).message));
+  const inNode = Number(stdout);
+  for (const depth of [first, another]) assert.ok(depth > 0.95 * inNode && depth < 1.2 * inNode, `${depth} and ${inNode}`);
+  assert.ok(other > 2 * first, `${other} and ${first}`);
 });
 
 test("a worker evaluates what is behind its module ahead of its data, and nothing twice", async (context) => {

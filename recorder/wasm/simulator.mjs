@@ -190,8 +190,6 @@ export class Instance {
     for (let wanted = Math.max(FIRST_ROOM, 4 * size, room); ; ) {
       this.room = this.#placeFor(this.room, wanted);
       this.#look();
-      // A module without a search leaves it as it is.
-      this.view.setBigUint64(this.given.at + REPLY.leftOut, 0n, true);
       try {
         call(BigInt(this.room.at), BigInt(this.room.size), BigInt(this.given.at));
       } catch (error) {
@@ -238,11 +236,6 @@ export class Simulator {
    */
   run(job, input) {
     return this.#calling((instance) => instance.run(job, input));
-  }
-
-  /** Whether this module can search. */
-  get canSearch() {
-    return WebAssembly.Module.exports(this.#module).some(({ name }) => name === "sabsim_search");
   }
 
   /**

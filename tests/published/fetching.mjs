@@ -111,7 +111,7 @@ function compile({ files, made = {} }, into) {
  */
 function finish(source, into) {
   const { mends = [], makings = [] } = source;
-  for (const { file } of mends) {
+  for (const file of new Set(mends.map((mend) => mend.file))) {
     writeFileSync(join(into, file), mended(file, readFileSync(join(into, file), "utf8"), mends));
   }
   make(into, makings);

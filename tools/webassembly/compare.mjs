@@ -10,8 +10,8 @@ import { readFileSync } from "node:fs";
 import { availableParallelism } from "node:os";
 import { limited } from "../../recorder/tests/helpers/limited-module.mjs";
 import { Instance, Simulator } from "../../recorder/wasm/simulator.mjs";
-import { COMMAND_LINES, SCRIPT_WAYS, TRACE_WAYS, besideExample, cases, examples } from "./inputs.mjs";
-import { largeInputs, randomScripts, randomTraces } from "./inputs.mjs";
+import { COMMAND_LINES, SCRIPT_WAYS, SEARCH_WAYS, TRACE_WAYS, automata, besideExample } from "./inputs.mjs";
+import { cases, changedAutomata, examples, largeInputs, randomScripts, randomTraces } from "./inputs.mjs";
 
 /** @typedef {import("../../recorder/wasm/simulator.mjs").Ended} Ended */
 /** @typedef {import("./inputs.mjs").Input} Input */
@@ -20,6 +20,12 @@ const [, , modulePath, refusingPath, program] = process.argv;
 const RANDOM_SCRIPTS = 500;
 const RANDOM_TRACES = 150;
 const MOST_SHOWN = 20;
+// Room for all that a search of an example writes, and the least room that the host gives.
+const MUCH_ROOM = 2 ** 24;
+const LEAST_ROOM = 2 ** 18;
+// The example of which each state is written in more than the least room.
+const LARGEST = "mutex-of-3-agents-and-3-rounds.json";
+const END_OF_LINE = 10;
 // In pages of 64 KiB. The module begins with 17.
 const MEMORIES = [17, 18, 20, 22, 24, 28, 32, 40, 48, 64, 96, 128, 192, 256, 384, 512, 768, 1024, 1536];
 const OUT_OF_MEMORY = "sabsim: 5 OutOfMemory\n";
@@ -76,6 +82,27 @@ function jobOf([command, ...options]) {
   };
 }
 
+/** @param {string[]} words of a search @returns {import("../../recorder/wasm/simulator.mjs").SearchJob} */
+function searchOf(words) {
+  const behind = (option, usual) => (words.includes(option) ? words[words.indexOf(option) + 1] : usual);
+  return {
+    timeouts: behind("--timeouts", "early"),
+    limit: Number(behind("--limit", 1_000_000)),
+    format: behind("--format", "plain"),
+    states: words.includes("--states"),
+    explain: words.includes("--explain"),
+  };
+}
+
+/**
+ * Does what words ask for, by the export that takes numbers.
+ * @param {Simulator | Instance} host @param {string[]} words @param {Uint8Array} bytes
+ * @param {number} [room] for what a search writes
+ * @returns {Ended}
+ */
+const done = (host, words, bytes, room = LEAST_ROOM) =>
+  words[0] === "search" ? host.search(searchOf(words), bytes, room) : host.run(jobOf(words), bytes);
+
 /** @param {() => Ended} call @returns {Ended} a trap as a status that no program has */
 function attempted(call) {
   try {
@@ -94,12 +121,13 @@ async function each(list, call) {
   await Promise.all(Array.from({ length: availableParallelism() }, lane));
 }
 
-const simulator = new Simulator(new WebAssembly.Module(readFileSync(modulePath)));
+const module = new WebAssembly.Module(readFileSync(modulePath));
+const simulator = new Simulator(module);
 
-/** Compares both exports with the program on an input. @param {Input} input @param {string[]} words */
+/** Compares two exports with the program on an input. @param {Input} input @param {string[]} words */
 async function compareOn({ name, bytes }, words) {
   const wanted = await native(words, bytes);
-  const calls = [() => simulator.run(jobOf(words), bytes), () => simulator.command(words, () => bytes)];
+  const calls = [() => done(simulator, words, bytes, MUCH_ROOM), () => simulator.command(words, () => bytes)];
   for (const came of calls.map(attempted)) {
     counts.calls += 1;
     const how = `${shown(came)}; the program: ${shown(wanted)}`;
@@ -110,12 +138,27 @@ async function compareOn({ name, bytes }, words) {
 async function compareInputs() {
   const scripts = [...cases(), ...randomScripts(RANDOM_SCRIPTS), ...largeInputs()];
   const traces = [...randomTraces(RANDOM_TRACES), ...examples(), ...largeInputs()];
+  const files = [...automata(), ...changedAutomata(), ...examples(), ...largeInputs()];
   const pairs = [
     ...scripts.flatMap((input) => SCRIPT_WAYS.map((words) => ({ input, words }))),
     ...traces.flatMap((input) => TRACE_WAYS.map((words) => ({ input, words }))),
+    ...files.flatMap((input) => SEARCH_WAYS.map((words) => ({ input, words }))),
   ];
   await each(pairs, ({ input, words }) => compareOn(input, words));
-  return `${scripts.length} scripts, ${traces.length} traces`;
+  return `${scripts.length} scripts, ${traces.length} traces, ${files.length} files of automata`;
+}
+
+/** What has no room is left out at the end of a line, and how much that is, is reported. */
+async function compareLeftOut() {
+  const { bytes } = automata().find(({ name }) => name === LARGEST);
+  for (const words of SEARCH_WAYS.filter((way) => way.includes("--states"))) {
+    counts.calls += 1;
+    const [came, wanted] = [done(new Simulator(module), words, bytes), await native(words, bytes)];
+    const size = wanted.output.lastIndexOf(END_OF_LINE, LEAST_ROOM - 1) + 1;
+    const expected = { ...wanted, output: wanted.output.subarray(0, size) };
+    const isReported = came.leftOut === wanted.output.length - size && came.leftOut > 0;
+    if (!isReported || !isSame(came, expected)) differs(`${words.join(" ")} without room:`, shown(came));
+  }
 }
 
 /** What is kept beside the examples, in every format. */
@@ -164,12 +207,14 @@ function compareWithSmallMemories(inputs, ways) {
   const bytes = readFileSync(modulePath);
   const modules = MEMORIES.map((pages) => new WebAssembly.Module(limited(bytes, pages)));
   const small = modules.map((module, at) => ({ pages: MEMORIES[at], host: new Simulator(module) }));
+  // A host that has had more room keeps it, and a search fills all of it.
+  const large = new Simulator(module);
   for (const input of inputs) {
     for (const words of ways) {
-      const wanted = simulator.run(jobOf(words), input.bytes);
+      const wanted = done(large, words, input.bytes);
       for (const { pages, host } of small) {
         counts.calls += 1;
-        const came = attempted(() => host.run(jobOf(words), input.bytes));
+        const came = attempted(() => done(host, words, input.bytes));
         counts.withoutMemory += Number(came.complaint === OUT_OF_MEMORY);
         if (!isAllowed(came, wanted)) differs(`${words.join(" ")} of ${input.name} in ${pages} pages:`, shown(came));
       }
@@ -180,10 +225,10 @@ function compareWithSmallMemories(inputs, ways) {
 /** Each request for memory refused in turn. @param {Input} input @param {string[]} words */
 function compareRefused(input, words) {
   const instance = new Instance(new WebAssembly.Module(readFileSync(refusingPath)));
-  const wanted = simulator.run(jobOf(words), input.bytes);
+  const wanted = done(simulator, words, input.bytes);
   for (let request = 1; ; request++) {
     instance.exports.refuse_request(BigInt(request));
-    const came = attempted(() => instance.run(jobOf(words), input.bytes));
+    const came = attempted(() => done(instance, words, input.bytes));
     if (instance.exports.requests_left() > 0n) return;
     counts.calls += 1;
     counts.refused += 1;
@@ -196,11 +241,15 @@ function compareRefused(input, words) {
 const compared = await compareInputs();
 compareExamples();
 await compareCommandLines();
+await compareLeftOut();
 const [few, traces] = [[...examples(), ...randomScripts(20)], randomTraces(20)];
+const files = automata().filter(({ name }) => !name.startsWith("mutex"));
 compareWithSmallMemories([...few, ...largeInputs().slice(0, 2)], SCRIPT_WAYS);
 compareWithSmallMemories(traces, TRACE_WAYS);
+compareWithSmallMemories(automata(), SEARCH_WAYS);
 for (const input of few) for (const words of SCRIPT_WAYS) compareRefused(input, words);
 for (const input of traces) for (const words of TRACE_WAYS) compareRefused(input, words);
+for (const input of files) for (const words of SEARCH_WAYS) compareRefused(input, words);
 console.log(
   `compared: ${counts.calls} calls (${compared}; ${counts.withoutMemory} ended without memory, ` +
     `${counts.refused} had one request for memory refused), ${counts.different} differ`,

@@ -1,4 +1,4 @@
-// What the module and the program are compared on: scripts, traces, and words of command lines.
+// What the module and the program are compared on: scripts, traces, files of automata, and words of command lines.
 
 import { readFileSync, readdirSync } from "node:fs";
 import { fileURLToPath } from "node:url";
@@ -8,8 +8,10 @@ import { Dice, generatedScript, timedScript } from "../../recorder/tests/helpers
 const ROOT = new URL("../../", import.meta.url);
 const CASES = new URL("crates/check_scripts/data/", ROOT);
 const VERDICTS = new URL("tests/verdicts/", ROOT);
+const SEARCHES = new URL("tests/search/examples/", ROOT);
 const MOVES = 100_000;
 const TOO_LONG = 1_048_577;
+const CHANGES = 10;
 
 /** @typedef {{ name: string, bytes: Uint8Array }} Input */
 
@@ -22,6 +24,12 @@ export const SCRIPT_WAYS = [
 
 /** The same for a trace. */
 export const TRACE_WAYS = ["judge --trace", "judge --trace --format json"].map((way) => way.split(" "));
+
+/** The same for a file of automata. */
+export const SEARCH_WAYS = [
+  "search", "search --states", "search --format json --states", "search --timeouts last --format json",
+  "search --timeouts never --states --explain", "search --limit 7 --format json --explain",
+].map((way) => way.split(" "));
 
 /** @param {URL} folder @returns {Input[]} the files of these endings */
 function filesIn(folder, ending = ".json") {
@@ -74,6 +82,19 @@ export function randomTraces(count) {
   });
 }
 
+/** @returns {Input[]} the examples of files of automata */
+export const automata = () => filesIn(SEARCHES).filter(({ name }) => !name.endsWith(".result.json"));
+
+/** @returns {Input[]} the same, each changed at one place, in several ways */
+export function changedAutomata() {
+  return automata().flatMap(({ name, bytes }, seed) => {
+    const dice = new Dice(seed);
+    return Array.from({ length: CHANGES }, (_, change) => ({
+      name: `${name}, change ${change}`, bytes: changed(dice, bytes),
+    }));
+  });
+}
+
 /** @returns {Input[]} scripts near the limits, and texts beyond them */
 export function largeInputs() {
   const view = { name: "a", kind: "Int32", block: 0, offset: 0, length: null };
@@ -96,11 +117,13 @@ export function largeInputs() {
 
 const FILE = fileURLToPath(new URL("examples/futex-mutex.json", CASES));
 const NOWHERE = "/nowhere/script.json";
+const searched = (name) => fileURLToPath(new URL(`${name}.json`, SEARCHES));
+const AUTOMATA = searched("late-notify");
 
 /** Command lines whose words decide what is written. `race` is done by the program alone. */
 export const COMMAND_LINES = [
   [], ["--help"], ["-h"], ["help"], ["--version"], ["-V"], ["help", "replay"], ["nothing"], ["--nothing"],
-  ["replay", "--help"], ["race", "--help"], ["judge", "--help"], ["check", "--help"],
+  ["replay", "--help"], ["race", "--help"], ["judge", "--help"], ["check", "--help"], ["search", "--help"],
   ["replay", FILE], ["replay", "-"], ["replay", "--", FILE], ["replay", FILE, FILE], ["replay", "--format=json", FILE],
   ["replay", ""], ["replay", NOWHERE], ["replay", "/nowhere/with\nline"], ["replay", "\u00e9t\u00e9.json"],
   ["replay", "--nothing"], ["replay", "--format"], ["replay", "--format", "nothing"], ["replay", "--format", "\u{1f600}"],
@@ -110,4 +133,9 @@ export const COMMAND_LINES = [
   ["judge", "--trace", "--finish"], ["judge", "--trace", "--explain"],
   ["race"], ["race", FILE], ["race", "--share", "nothing"], ["race", "--share", "lock", "--spins", "1001"],
   ["race", "--share", "ring", "--mix", "-1"],
+  ["search", AUTOMATA], ["search", "--states", AUTOMATA], ["search", "--format", "json", "--states", AUTOMATA],
+  ["search", "--timeouts", "last", AUTOMATA], ["search", "--timeouts", "never", "--format", "json", AUTOMATA],
+  ["search", "--limit", "3", AUTOMATA], ["search", "--limit", "4294967295", searched("mutex-of-3-agents")],
+  ["search", FILE], ["search", "--explain", FILE], ["search", NOWHERE], ["search"], ["search", "--limit", "0", AUTOMATA],
+  ["search", "--timeouts", "late", AUTOMATA], ["search", "--finish"],
 ];

@@ -87,7 +87,7 @@ fn an_error_prints_what_is_wrong(rt: HostRuntime) -> Result<(), Fail> {
     print(alloc, &READ_FAULTS, OF_READING)
 }
 
-const TOOL_FAULTS: [ToolFault; 16] = [
+const TOOL_FAULTS: [ToolFault; 19] = [
     ToolFault::TooMany,
     ToolFault::OutOfMemory,
     ToolFault::TooManyMoves,
@@ -104,6 +104,9 @@ const TOOL_FAULTS: [ToolFault; 16] = [
     ToolFault::ReadFailed,
     ToolFault::NoBlock,
     ToolFault::OrdinaryData,
+    ToolFault::BadEdge,
+    ToolFault::NoNode,
+    ToolFault::BadRange,
 ];
 
 /// The number of each, its name, and what it prints.
@@ -124,6 +127,9 @@ const OF_TOOLS: &str = "\
 19 ReadFailed ReadFailed
 20 NoBlock NoBlock
 21 OrdinaryData OrdinaryData
+22 BadEdge BadEdge
+23 NoNode NoNode
+24 BadRange BadRange
 ";
 
 #[test]

@@ -23,6 +23,8 @@ mod run;
 #[cfg(test)]
 mod scripts;
 #[cfg(test)]
+mod searching;
+#[cfg(test)]
 mod showing;
 #[cfg(test)]
 mod values;

@@ -1,9 +1,13 @@
 -- Equality of forms and jobs: those that the derived `==` finds equal are the same.
-use Rattle.std.proofs.Common.{◌≡◌, ℕ, Option, Some, None, true, nat_eq, refl, ap}
+use Rattle.std.proofs.Common.{◌≡◌, ℕ, Option, Some, None, true, nat_eq, refl, ap, rules}
 use Rattle.std.specs.Cmp.{booleans_Decides}
 use Rattle.std.specs.Option.{option_eq}
 use borrow.Author.Tests.{eqb-true}
 use Rattle.std.proofs.lemmas.Bool.{and_parts, false≢true}
+use denote.Enum.Bare.{same_true}
+use Rattle.sab_automata.specs.declared.program.Timeouts.{Timeouts}
+use Rattle.sab_automata.specs.contracts.program.Timeouts.{the_type as timeouts_type}
+use Rattle.sab_automata.specs.contracts.program.TimeoutsPartialEq.TheImpl as timeouts
 use Rattle.sab_race.proofs.Equality.{same_share}
 use Rattle.sab_text.proofs.Equality.{same_report_form, same_verdict_format}
 use Rattle.sab_command.specs.declared.job.RunForm.{RunForm}
@@ -14,8 +18,10 @@ use Rattle.sab_command.specs.declared.job.Job.TheVariants.{Replay, Check, Judge}
 use Rattle.sab_command.specs.contracts.job.JobPartialEq.TheImpl as job
 use Rattle.sab_command.specs.declared.job.RaceJob.{RaceJob}
 use Rattle.sab_command.specs.contracts.job.RaceJobPartialEq.TheImpl as race
+use Rattle.sab_command.specs.declared.job.SearchJob.{SearchJob}
+use Rattle.sab_command.specs.contracts.job.SearchJobPartialEq.TheImpl as search_job
 use Rattle.sab_command.specs.declared.request.Task.{Task}
-use Rattle.sab_command.specs.declared.request.Task.TheVariants.{OfScript, OfRace, OfTrace}
+use Rattle.sab_command.specs.declared.request.Task.TheVariants.{OfScript, OfRace, OfTrace, OfSearch}
 use Rattle.sab_command.specs.contracts.request.TaskPartialEq.TheImpl as task
 
 same_seed : (x y : Option ℕ) → option_eq nat_eq x y ≡ true → x ≡ y
@@ -56,8 +62,23 @@ same_race x y e =
     let finish_is = (booleans_Decides x.finish y.finish).0 forms.1 in
     λ i. record { share = share_is i; spins = spins_are i; mix = mix_is i; form = form_is i; finish = finish_is i }
 
+same_timeouts : (x y : Timeouts) → (timeouts.ghosts).eq x y ≡ true → x ≡ y
+same_timeouts = same_true timeouts_type (search rules)
+
+same_search : (x y : SearchJob) → (search_job.ghosts).eq x y ≡ true → x ≡ y
+same_search x y e =
+    let choices = and_parts _ _ e in
+    let limits = and_parts _ _ choices.1 in
+    let formats = and_parts _ _ limits.1 in
+    let timeouts_are = same_timeouts x.timeouts y.timeouts choices.0 in
+    let limit_is = eqb-true x.limit y.limit limits.0 in
+    let format_is = same_verdict_format x.format y.format formats.0 in
+    let states_are = (booleans_Decides x.states y.states).0 formats.1 in
+    λ i. record { timeouts = timeouts_are i; limit = limit_is i; format = format_is i; states = states_are i }
+
 same_task : (x y : Task) → (task.ghosts).eq x y ≡ true → x ≡ y
 same_task (OfScript j) (OfScript k) e = ap OfScript (same_job j k e)
 same_task (OfRace x) (OfRace y) e = ap OfRace (same_race x y e)
 same_task (OfTrace f) (OfTrace g) e = ap OfTrace (same_verdict_format f g e)
+same_task (OfSearch x) (OfSearch y) e = ap OfSearch (same_search x y e)
 same_task _ _ e = absurd (false≢true e)

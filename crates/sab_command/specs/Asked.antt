@@ -4,6 +4,8 @@ use Rattle.std.specs.Str.Parse.{IsNumeral, digits_value, without_leading_plus}
 use Rattle.clap.specs.Words.{Row, Text, first_of, kind_of, one_of, subcommand_of, takes}
 use Rattle.clap.specs.declared.error.Error.{Error}
 use Rattle.clap.specs.declared.error.kind.ErrorKind.TheVariants.{OutOfMemory}
+use Rattle.sab_automata.specs.declared.program.Timeouts.{Timeouts}
+use Rattle.sab_automata.specs.declared.program.Timeouts.TheVariants.{Early, Last, Never}
 use Rattle.sab_race.specs.declared.script_moves.TheConstants.{MAX_SPINS}
 use Rattle.sab_race.specs.declared.share.Share.{Share}
 use Rattle.sab_race.specs.declared.share.Share.TheVariants.{Lock, Ring}
@@ -17,11 +19,12 @@ use Rattle.sab_command.specs.CommandLine.{Lists, command_line}
 use Rattle.sab_command.specs.Source.{Names}
 use Rattle.sab_command.specs.declared.job.Job.TheVariants.{Replay, Check, Judge}
 use Rattle.sab_command.specs.declared.job.RaceJob.{RaceJob}
+use Rattle.sab_command.specs.declared.job.SearchJob.{SearchJob}
 use Rattle.sab_command.specs.declared.job.RunForm.{RunForm}
 use Rattle.sab_command.specs.declared.job.RunForm.TheVariants.{Report, Script}
 use Rattle.sab_command.specs.declared.request.Request.{Request}
 use Rattle.sab_command.specs.declared.request.Task.{Task}
-use Rattle.sab_command.specs.declared.request.Task.TheVariants.{OfScript, OfRace, OfTrace}
+use Rattle.sab_command.specs.declared.request.Task.TheVariants.{OfScript, OfRace, OfTrace, OfSearch}
 
 -- ---- what the value of an option asks for
 
@@ -74,6 +77,17 @@ abbrev pub IsMix : Option Text → Option ℕ → Type 0
 IsMix value mix = (value ≡ None → mix ≡ None)
     × ((text : Text) (n : ℕ) → value ≡ Some text → Spells text n → n < 2 ^ 64 → mix ≡ Some n)
 
+-- two choices of timeouts are asked for by their names, and early ones by every other value
+abbrev pub AreTimeouts : Option Text → Timeouts → Type 0
+AreTimeouts value Last = value ≡ Some (codes "last")
+AreTimeouts value Never = value ≡ Some (codes "never")
+AreTimeouts value Early = (value ≢ Some (codes "last")) × (value ≢ Some (codes "never"))
+
+-- as many states as the value spells, from 1 to the greatest number of 32 bits
+abbrev pub IsLimit : Option Text → ℕ → Type 0
+IsLimit value limit = (text : Text) (n : ℕ) → value ≡ Some text → Spells text n → 0 < n → n < 2 ^ 32
+    → limit ≡ n
+
 -- ---- what the matches of a subcommand ask for
 
 -- a replay, by --format, --acts and --finish
@@ -103,6 +117,17 @@ IsJudge rows (OfScript (Judge format finish)) = IsGiven (first_of (codes "trace"
     × IsGiven (first_of (codes "finish") rows) finish
 IsJudge rows _ = ⊥
 
+-- a search, by each of its options
+abbrev pub IsSearchJob : List Row → SearchJob → Type 0
+IsSearchJob rows job = AreTimeouts (first_of (codes "timeouts") rows) job.timeouts
+    × IsLimit (one_of (codes "limit") rows) job.limit
+    × IsVerdictFormat (first_of (codes "format") rows) job.format
+    × IsGiven (first_of (codes "states") rows) job.states
+
+abbrev pub IsSearch : List Row → Task → Type 0
+IsSearch rows (OfSearch job) = IsSearchJob rows job
+IsSearch rows _ = ⊥
+
 abbrev pub IsExplained : List Row → Bool → Type 0
 IsExplained rows explain = IsGiven (first_of (codes "explain") rows) explain
 
@@ -112,6 +137,7 @@ AsksFor name rows request = Names (first_of (codes "file") rows) request.source
     × (name ≡ codes "replay" → IsReplay rows request.task × IsExplained rows request.explain)
     × (name ≡ codes "race" → IsRace rows request.task × IsExplained rows request.explain)
     × (name ≡ codes "judge" → IsJudge rows request.task × IsExplained rows request.explain)
+    × (name ≡ codes "search" → IsSearch rows request.task × IsExplained rows request.explain)
     × (name ≡ codes "check" → (request.task ≡ OfScript Check) × (request.explain ≡ false))
 
 -- ---- what the words ask for

@@ -22,6 +22,9 @@ format_names = codes "plain" ∷ codes "explained" ∷ codes "json" ∷ codes "s
 abbrev pub verdict_format_names : List Text
 verdict_format_names = codes "plain" ∷ codes "json" ∷ []
 
+abbrev pub timeout_names : List Text
+timeout_names = codes "early" ∷ codes "last" ∷ codes "never" ∷ []
+
 abbrev pub share_names : List Text
 share_names = codes "lock" ∷ codes "ring" ∷ []
 
@@ -63,6 +66,20 @@ spins_rule = record (option_rule (codes "spins")) {
 abbrev pub mix_rule : Rule
 mix_rule = record (option_rule (codes "mix")) { parser = Some (Unsigned 0 18446744073709551615) }
 
+-- the waits may time out at any time unless the words say otherwise
+abbrev pub timeouts_rule : Choices → Rule
+timeouts_rule timeouts = record (option_rule (codes "timeouts")) {
+  defaults = codes "early" ∷ [];
+  parser = Some (Names timeouts);
+}
+
+-- a search lists a million states unless the words say how many
+abbrev pub limit_rule : Rule
+limit_rule = record (option_rule (codes "limit")) {
+  defaults = codes "1000000" ∷ [];
+  parser = Some (Signed (pos 1) (pos 4294967295));
+}
+
 -- a trace is judged, which excludes other options
 abbrev pub trace_rule : Rule
 trace_rule = record (flag_rule (codes "trace")) { is_free = false }
@@ -80,6 +97,10 @@ abbrev pub judge_rules : Choices → List Rule
 judge_rules formats = trace_rule ∷ format_rule formats ∷ flag_rule (codes "finish")
     ∷ flag_rule (codes "explain") ∷ file_rule ∷ []
 
+abbrev pub search_rules : Choices → Choices → List Rule
+search_rules timeouts formats = timeouts_rule timeouts ∷ limit_rule ∷ format_rule formats
+    ∷ flag_rule (codes "states") ∷ flag_rule (codes "explain") ∷ file_rule ∷ []
+
 abbrev pub with_rules : App → List Rule → App
 with_rules app rules = fold with_rule app rules
 
@@ -96,6 +117,9 @@ judge_app formats = with_rules (new_app (codes "judge")) (judge_rules formats)
 abbrev pub check_app : App
 check_app = with_rule (new_app (codes "check")) file_rule
 
+abbrev pub search_app : Choices → Choices → App
+search_app timeouts formats = with_rules (new_app (codes "search")) (search_rules timeouts formats)
+
 -- the program has a version, and a command has to be named
 abbrev pub program : App
 program = record (new_app (codes "sabsim")) {
@@ -111,18 +135,24 @@ with_runs app formats shares = with_command (with_command app (replay_app format
 abbrev pub with_checks : App → Choices → App
 with_checks app formats = with_command (with_command app (judge_app formats)) check_app
 
+abbrev pub with_search : App → Choices → Choices → App
+with_search app timeouts formats = with_command app (search_app timeouts formats)
+
 -- the names that options take
 pub record Lists : Type 0 where
   pub formats : Choices
   pub verdict_formats : Choices
   pub shares : Choices
+  pub timeouts : Choices
   pub formats_are : AreNames formats format_names
   pub verdict_formats_are : AreNames verdict_formats verdict_format_names
   pub shares_are : AreNames shares share_names
+  pub timeouts_are : AreNames timeouts timeout_names
 
 abbrev pub command_line : Lists → App
 command_line lists =
-    with_checks (with_runs program lists.formats lists.shares) lists.verdict_formats
+    with_search (with_checks (with_runs program lists.formats lists.shares) lists.verdict_formats)
+    lists.timeouts lists.verdict_formats
 
 -- ---- what the program builds
 

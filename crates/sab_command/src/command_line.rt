@@ -3,10 +3,12 @@
 ghost use Rattle.std.specs.Prelude.{◌≡◌, IfOk, Ok, false};
 ghost use Rattle.clap.specs.Words.{app_of, new_app, rule_of};
 ghost use Rattle.sab_command.specs.CommandLine.{HaveRules, IsLocal, Lists, command_line};
-ghost use Rattle.sab_command.specs.CommandLine.{file_rule, flag_rule, format_rule, mix_rule, share_rule};
-ghost use Rattle.sab_command.specs.CommandLine.{judge_rules, report_rules, spins_rule, thread_rules, trace_rule};
-ghost use Rattle.sab_command.specs.CommandLine.{check_app, judge_app, race_app, replay_app, with_command, with_rules};
+ghost use Rattle.sab_command.specs.CommandLine.{file_rule, flag_rule, format_rule, limit_rule, mix_rule, share_rule};
+ghost use Rattle.sab_command.specs.CommandLine.{judge_rules, report_rules, search_rules, spins_rule, thread_rules};
+ghost use Rattle.sab_command.specs.CommandLine.{timeouts_rule, trace_rule, with_command, with_rules};
+ghost use Rattle.sab_command.specs.CommandLine.{check_app, judge_app, race_app, replay_app, search_app};
 ghost use Rattle.sab_command.specs.CommandLine.{with_checks as checks_in, with_runs as runs_in};
+ghost use Rattle.sab_command.specs.CommandLine.{with_search as search_in};
 
 use crate::help;
 use clap::{Arg, ArgAction, Command, value_parser};
@@ -21,6 +23,9 @@ static FORMATS: [&str; 5] = ["plain", "explained", "json", "svg", "script"];
 
 /// What `--format` of a judge takes.
 static VERDICT_FORMATS: [&str; 2] = ["plain", "json"];
+
+/// What `--timeouts` takes.
+static TIMEOUTS: [&str; 3] = ["early", "last", "never"];
 
 /// The argument that names the input's file.
 fn file_argument<'a>(alloc: Global) -> Arg<'a>
@@ -81,6 +86,32 @@ fn mix_argument<'a>(alloc: Global) -> Arg<'a>
         .value_parser(value_parser!(u64))
 }
 
+/// The argument that says when a wait may time out, in one of these ways.
+fn timeouts_argument<'a>(alloc: Global, timeouts: &'a [&'a str]) -> Arg<'a>
+    ensures rule { rule_of result ≡ timeouts_rule timeouts.entry }
+    ensures local { result.global ≡ false }
+{
+    Arg::new(alloc, "timeouts")
+        .long("timeouts")
+        .value_name("WHEN")
+        .help(help::TIMEOUTS)
+        .default_value("early")
+        .value_parser(timeouts)
+}
+
+/// The argument that says how many states are listed at most.
+fn limit_argument<'a>(alloc: Global) -> Arg<'a>
+    ensures rule { rule_of result ≡ limit_rule }
+    ensures local { result.global ≡ false }
+{
+    Arg::new(alloc, "limit")
+        .long("limit")
+        .value_name("N")
+        .help(help::LIMIT)
+        .default_value("1000000")
+        .value_parser(value_parser!(u32).range(1..=4_294_967_295))
+}
+
 /// An argument that is there or not, called by its name.
 fn flag<'a>(alloc: Global, name: &'a str, help: &'a str) -> Arg<'a>
     ensures rule { rule_of result ≡ flag_rule name.entry.now }
@@ -133,6 +164,24 @@ fn judge_arguments<'a>(alloc: Global, formats: &'a [&'a str]) -> Result<Vec<Arg<
         format_argument(alloc, help::VERDICT_FORMAT, formats),
         flag(alloc, "finish", help::FINISH),
         flag(alloc, "explain", help::EXPLAIN),
+        file_argument(alloc),
+    ]?)
+}
+
+/// What says how a search is made, how what it finds is written, whether a refusal is explained, and the file.
+fn search_arguments<'a>(
+    alloc: Global,
+    timeouts: &'a [&'a str],
+    formats: &'a [&'a str],
+) -> Result<Vec<Arg<'a>>, AllocError>
+    ensures { IfOk result (λ arguments. HaveRules arguments.items (search_rules timeouts.entry formats.entry)) }
+{
+    Ok(vec![in alloc;
+        timeouts_argument(alloc, timeouts),
+        limit_argument(alloc),
+        format_argument(alloc, help::SEARCH_FORMAT, formats),
+        flag(alloc, "states", help::STATES),
+        flag(alloc, "explain", help::EXPLAIN_FILE),
         file_argument(alloc),
     ]?)
 }
@@ -209,6 +258,19 @@ fn check_command<'a>(alloc: Global) -> Result<Command<'a>, AllocError>
     described(alloc, "check", help::CHECK, help::CHECK_FORMS).arg(file_argument(alloc))
 }
 
+/// The command that searches all schedules of a file of automata.
+fn search_command<'a>(
+    alloc: Global,
+    timeouts: &'a [&'a str],
+    formats: &'a [&'a str],
+) -> Result<Command<'a>, AllocError>
+    ensures { IfOk result (λ command. (app_of command ≡ search_app timeouts.entry formats.entry) × IsLocal command) }
+{
+    let arguments = search_arguments(alloc, timeouts, formats)?;
+    let command = described(alloc, "search", help::SEARCH, help::SEARCH_FORMS);
+    with_arguments(command, arguments)
+}
+
 /// The command line, with its help.
 pub(crate) fn command<'a>(alloc: Global) -> Result<Command<'a>, AllocError>
     ensures { IfOk result (λ command. ((lists : Lists) × (app_of command ≡ command_line lists)) × IsLocal command) }
@@ -217,7 +279,9 @@ pub(crate) fn command<'a>(alloc: Global) -> Result<Command<'a>, AllocError>
         .version(help::VERSION)
         .subcommand_required(true);
     let sabsim = with_runs(alloc, sabsim, FORMATS.as_slice(), SHARES.as_slice())?;
-    with_checks(alloc, sabsim, VERDICT_FORMATS.as_slice())
+    let formats = VERDICT_FORMATS.as_slice();
+    let sabsim = with_checks(alloc, sabsim, formats)?;
+    with_search(alloc, sabsim, TIMEOUTS.as_slice(), formats)
 }
 
 /// The command with those below it that run agents.
@@ -245,6 +309,19 @@ fn with_checks<'a>(
 {
     let command = with_subcommand(command, judge_command(alloc, formats))?;
     with_subcommand(command, check_command(alloc))
+}
+
+/// The command with the one below it that searches all schedules.
+fn with_search<'a>(
+    alloc: Global,
+    command: Command<'a>,
+    timeouts: &'a [&'a str],
+    formats: &'a [&'a str],
+) -> Result<Command<'a>, AllocError>
+    ensures app { IfOk result (λ it. app_of it ≡ search_in (app_of command.entry) timeouts.entry formats.entry) }
+    ensures local { IfOk result (λ it. IsLocal command.entry → IsLocal it) }
+{
+    with_subcommand(command, search_command(alloc, timeouts, formats))
 }
 
 /// The command with another one below it, if that could be made.

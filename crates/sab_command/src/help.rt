@@ -11,15 +11,17 @@ pub(crate) const VERSION: &str = "0.1.0, proved with Rattle logic dac8208d650f15
 pub(crate) const STATUSES: &str = "\
 Exit status:
   0  done, or help was asked for
-  1  the script was refused
+  1  the script, or the file of automata, was refused
   2  the command line was refused
-  3  the script couldn't be read, or standard output failed
+  3  the input couldn't be read, or standard output failed
   4  there is no memory, or no thread
-  5  two accesses of a run that was judged are unordered; with --finish, some call hasn't returned
+  5  two accesses of a run that was judged are unordered; with --finish, some call hasn't returned;
+     a search found a deadlock, a failure, states without a way out, or a conflict
+  6  a search found none of these, but hasn't gone through all states, or a result has no edge
 
 With status 1, 3 or 4, standard error has a line with the fault's number and name, as
 `sabsim: 14 BadView`. If a file couldn't be read, the line has its name too. On a terminal, or
-with --explain, a second line says why a script is refused, and at which place. But `sabsim check`
+with --explain, a second line says why the input is refused, and at which place. But `sabsim check`
 prints a refusal on standard output.
 
 Begin with `sabsim replay --help`, which has a script to try.";
@@ -254,3 +256,80 @@ Example:
 
 Exit status: as for replay; 4 also if a thread couldn't be started (9 NoThread), and 1 if the
 agents have more than 1,048,576 moves in all (8 TooManyMoves)."#;
+
+/// What `search` does.
+pub(crate) const SEARCH: &str =
+    "Reads a file of automata, goes through all schedules, and writes what they can lead to";
+
+/// What `--timeouts` chooses.
+pub(crate) const TIMEOUTS: &str =
+    "When a wait with a timeout may time out: at any time, only if no other act changes anything, or never";
+
+/// What `--limit` says.
+pub(crate) const LIMIT: &str = "How many states to go through at most, 1 to 4294967295";
+
+/// What `--format` chooses of what a search finds.
+pub(crate) const SEARCH_FORMAT: &str = "How to write what is found: in words, or as JSON";
+
+/// What `--states` adds.
+pub(crate) const STATES: &str = "Write each state too";
+
+/// What `--explain` asks for of a file of automata.
+pub(crate) const EXPLAIN_FILE: &str =
+    "If the file is refused, print the place and the reason too, as on a terminal";
+
+/// What a file of automata says, what a search writes, and an example.
+pub(crate) const SEARCH_FORMS: &str = r#"The file is one JSON object, of at most 16,777,216 bytes:
+  blocks    as in a script: see `sabsim replay --help`
+  initial   may be left out: the bytes of each block at first, as two lower-case hexadecimal
+            digits each; without it all bytes are 0
+  views     as in a script
+  automata  objects, each with a name and nodes, at most 262,144 nodes in all
+  agents    at most 16 objects: automaton is the name of the one that it follows, from the first
+            node on, and block says whether the agent can wait
+
+A node is one of
+  {"call":CALL,"edges":EDGES}                 a call as in a script
+  {"read":[BLOCK,BYTE,LENGTH],"edges":EDGES}  an ordinary read of these bytes
+  {"write":[BLOCK,BYTE,BYTES],"edges":EDGES}  an ordinary write
+  {"finished":true}                           the agent's end
+  {"threw":TEXT}                              its end by an error
+EDGES has at most 65,536 arrays, as ["0",2]: after the result 0 the agent goes to node 2, counted
+from 0. The result of a call is spelled as in a report, that of a read is its bytes, and a write
+has one edge, of the result "". A result without an edge leads nowhere, and is reported.
+
+Each call is one act, and so is an ordinary access with "alone":true. Other ordinary accesses are
+made in the act before them. From one of these, an edge leads to a call, an end, an access that is
+alone, or a node with a greater number.
+
+Standard output has a line for the search:
+  closed: 193 states, 320 acts, timeouts early
+  not closed: 1000 states, 2300 acts, timeouts early; all runs of up to 12 acts
+Closed means that no schedule leads to another state. Else the search has as many states as
+--limit says. Then each of these has a line, with the number of states and a shortest schedule:
+  deadlock: 5 states; 0 act 0, 1 wait           some agent hasn't finished, and none can act
+  failed "gave up": 3 states; 0 act 1           an agent is at its end by this error
+  no way out: 2 states; 1 act 0                 from there no schedule ever ends
+  unknown: automaton 0, node 3, answer 5: ..    an act of which the result has no edge
+  conflict: automaton 0, node 1 and automaton 1, node 2: ..
+                                                their accesses are unordered, and one writes
+  final 0000000004000000: 1 state; at once      all agents have finished, with these bytes
+
+Example:
+  echo '{"blocks":[4],"views":[{"name":"m","kind":"Int32","block":0,"offset":0,"length":null}],
+  "automata":[{"name":"sleeper","nodes":[{"call":["wait","m",0,0],"edges":[["ok",1]]},{"finished":true}]}],
+  "agents":[{"automaton":"sleeper","block":true}]}' | sabsim search
+writes
+  closed: 2 states, 1 act, timeouts early
+  deadlock: 1 state; 0 wait
+
+Exit status: 0 the search is closed, and lists nothing but final bytes; 5 it lists something other
+than unknown results and final bytes; 6 it lists unknown results, or isn't closed; 1 the file is
+refused; 2, 3 and 4 as for replay.
+
+What a file is refused for besides the faults of a script (20 NoBlock, as there):
+  18 TooLong    the file has more than 16,777,216 bytes
+  22 BadEdge    an edge to no node, twice for one result, of a result that its node can't have, or
+                back from an ordinary access that isn't alone
+  23 NoNode     an automaton without nodes, or an agent of no automaton
+  24 BadRange   an ordinary access outside its block"#;

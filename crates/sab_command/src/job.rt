@@ -1,5 +1,6 @@
-//! What is done with a script.
+//! What is done with a script or a file of automata.
 
+use sab_automata::Timeouts;
 use sab_race::Share;
 use sab_text::{ReportForm, VerdictFormat};
 
@@ -46,4 +47,17 @@ pub struct RaceJob {
     pub form: RunForm,
     /// Whether the program ends with another status if some calls haven't returned.
     pub finish: bool,
+}
+
+/// How a file of automata is to be searched.
+#[derive(Clone, Copy, Debug, PartialEq, Eq)]
+pub struct SearchJob {
+    /// When a wait may end by its timeout.
+    pub timeouts: Timeouts,
+    /// How many states it lists at most, which isn't 0.
+    pub limit: u32,
+    /// How what it finds is written.
+    pub format: VerdictFormat,
+    /// Whether each state is written too.
+    pub states: bool,
 }

@@ -1,16 +1,18 @@
 //! What the words of the command line ask for.
 
-ghost use Rattle.std.specs.Prelude.{◌≡◌, ◌≤◌, IfErr, IfOk, codes, map};
+ghost use Rattle.std.specs.Prelude.{◌≡◌, ◌<◌, ◌≤◌, IfErr, IfOk, codes, map};
 ghost use Rattle.clap.specs.Words.{first_value, found_of, one_text, rows_of};
-ghost use Rattle.sab_command.specs.Asked.{AsksFor, IsAsked, IsForm, IsFormat, IsGiven, IsJudge, IsLines};
-ghost use Rattle.sab_command.specs.Asked.{IsMix, IsRaceJob, IsRefused, IsReplay, IsShare, IsSpins, IsVerdictFormat};
-ghost use Rattle.sab_command.specs.Job.{IsTaskWithinLimits, IsWithinLimits};
+ghost use Rattle.sab_command.specs.Asked.{AreTimeouts, AsksFor, IsAsked, IsForm, IsFormat, IsGiven, IsJudge};
+ghost use Rattle.sab_command.specs.Asked.{IsLimit, IsLines, IsMix, IsRaceJob, IsRefused, IsReplay, IsSearchJob};
+ghost use Rattle.sab_command.specs.Asked.{IsShare, IsSpins, IsVerdictFormat};
+ghost use Rattle.sab_command.specs.Job.{HasRoom, IsTaskWithinLimits, IsWithinLimits};
 ghost use Rattle.sab_command.specs.Source.{Names};
 
 use crate::command_line::command;
-use crate::job::{Job, RaceJob, RunForm};
+use crate::job::{Job, RaceJob, RunForm, SearchJob};
 use crate::request::{Request, Source, Task};
 use clap::{ArgMatches, Command, Error};
+use sab_automata::Timeouts;
 use sab_race::{MAX_SPINS, Share};
 use sab_text::{Format, Lines, ReportForm, VerdictFormat};
 use std::alloc::Global;
@@ -133,6 +135,39 @@ fn judge_task(matches: &ArgMatches<'_>) -> Task
     Task::OfScript(Job::Judge { format, finish })
 }
 
+/// When a wait may end by its timeout.
+fn timeouts_of(matches: &ArgMatches<'_>) -> Timeouts
+    ensures { AreTimeouts (first_value (found_of matches.now) (codes "timeouts")) result }
+{
+    match matches.get_str("timeouts") {
+        Some("last") => Timeouts::Last,
+        Some("never") => Timeouts::Never,
+        _ => Timeouts::Early,
+    }
+}
+
+/// How many states are to be listed at most.
+fn limit_of(matches: &ArgMatches<'_>) -> u32
+    ensures room { 0 < result }
+    ensures number { IsLimit (one_text (found_of matches.now) (codes "limit")) result }
+{
+    let limit = matches.get_one::<u32>("limit").unwrap_or(1_000_000);
+    limit.max(1)
+}
+
+/// The search that is asked for.
+fn search_job(matches: &ArgMatches<'_>) -> SearchJob
+    ensures job { IsSearchJob (rows_of (found_of matches.now)) result }
+    ensures room { HasRoom result }
+{
+    SearchJob {
+        timeouts: timeouts_of(matches),
+        limit: limit_of(matches),
+        format: verdict_format_of(matches),
+        states: has_flag(matches, "states"),
+    }
+}
+
 /// Where the input is read from: standard input if no file is given, or `-`.
 fn source_of<'a>(matches: &ArgMatches<'a>) -> Source<'a>
     ensures { Names (first_value (found_of matches.now) (codes "file")) result }
@@ -154,6 +189,7 @@ fn request_by<'a>(name: &str, matches: &ArgMatches<'a>) -> Request<'a>
         "replay" => replay_task(matches),
         "race" => Task::OfRace(race_job(matches)),
         "judge" => judge_task(matches),
+        "search" => Task::OfSearch(search_job(matches)),
         _ => {
             return Request {
                 task: Task::OfScript(Job::Check),

@@ -1,6 +1,6 @@
 //! What the program is asked for, and of which input.
 
-use crate::job::{Job, RaceJob};
+use crate::job::{Job, RaceJob, SearchJob};
 use sab_text::VerdictFormat;
 
 /// What is to be done with the input.
@@ -12,6 +12,8 @@ pub enum Task {
     OfRace(RaceJob),
     /// The input is a trace of a run, which is to be judged for unordered accesses; the verdict is written so.
     OfTrace(VerdictFormat),
+    /// The input is a file of automata, and all schedules of its agents are to be searched.
+    OfSearch(SearchJob),
 }
 
 /// Where the input is read from.

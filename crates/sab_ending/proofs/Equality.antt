@@ -4,7 +4,7 @@ use denote.Enum.Bare.{same_true}
 use Rattle.std.proofs.lemmas.Bool.{false≢true}
 use Rattle.sab_tool.proofs.Equality.{same_tool_fault}
 use Rattle.sab_ending.specs.declared.ending.Ending.{Ending}
-use Rattle.sab_ending.specs.declared.ending.Ending.TheVariants.{Done, Refused, ScriptRefused, Unfinished, Racy, Failed}
+use Rattle.sab_ending.specs.declared.ending.Ending.TheVariants.{Done, Refused, ScriptRefused, Unfinished, Racy, Flawed, Open, Failed}
 use Rattle.sab_ending.specs.declared.fault_line.FaultLine.{FaultLine}
 use Rattle.sab_ending.specs.contracts.ending.EndingPartialEq.TheImpl as ending
 use Rattle.sab_ending.specs.declared.outcome.Outcome.{Outcome}
@@ -18,6 +18,8 @@ same_ending Refused Refused e = refl
 same_ending ScriptRefused ScriptRefused e = refl
 same_ending Unfinished Unfinished e = refl
 same_ending Racy Racy e = refl
+same_ending Flawed Flawed e = refl
+same_ending Open Open e = refl
 same_ending (Failed f) (Failed g) e = ap Failed (same_tool_fault f g e)
 same_ending _ _ e = absurd (false≢true e)
 

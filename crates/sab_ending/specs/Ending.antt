@@ -5,7 +5,7 @@ use Rattle.clap.specs.declared.error.kind.ErrorKind.TheVariants as kind
 use Rattle.sab_tool.specs.declared.tool_fault.ToolFault.{ToolFault}
 use Rattle.sab_tool.specs.declared.tool_fault.ToolFault.TheVariants.{OutOfMemory, WriteFailed}
 use Rattle.sab_ending.specs.declared.ending.Ending.{Ending}
-use Rattle.sab_ending.specs.declared.ending.Ending.TheVariants.{Done, Refused, ScriptRefused, Unfinished, Racy, Failed}
+use Rattle.sab_ending.specs.declared.ending.Ending.TheVariants.{Done, Refused, ScriptRefused, Unfinished, Racy, Flawed, Open, Failed}
 use Rattle.sab_ending.specs.declared.outcome.Outcome.{Outcome}
 use Rattle.sab_ending.specs.declared.outcome.Outcome.TheVariants as O
 use Rattle.sab_ending.specs.Status.{status_after}
@@ -17,6 +17,8 @@ status_at ScriptRefused = 1
 status_at Refused = 2
 status_at Unfinished = 5
 status_at Racy = 5
+status_at Flawed = 5
+status_at Open = 6
 status_at (Failed fault) = status_after fault
 
 -- after a job with this answer
@@ -25,6 +27,8 @@ after_job (Ok O.Done) = Done
 after_job (Ok O.Refused) = ScriptRefused
 after_job (Ok O.Unfinished) = Unfinished
 after_job (Ok O.Racy) = Racy
+after_job (Ok O.Flawed) = Flawed
+after_job (Ok O.Open) = Open
 after_job (Err fault) = Failed fault
 
 -- after help that was printed, or couldn't be

@@ -20,6 +20,10 @@ pub enum Ending {
     Unfinished,
     /// Two accesses of the run are unordered, as standard output says.
     Racy,
+    /// A search found a deadlock, a failure, states without a way out, or a conflict, as standard output says.
+    Flawed,
+    /// A search found none of these, but isn't closed, or a result has no edge, as standard output says.
+    Open,
     /// A fault, which the program reports with a [`FaultLine`](crate::FaultLine).
     Failed(ToolFault),
 }
@@ -34,12 +38,15 @@ impl Ending {
             Ok(Outcome::Refused) => Ending::ScriptRefused,
             Ok(Outcome::Unfinished) => Ending::Unfinished,
             Ok(Outcome::Racy) => Ending::Racy,
+            Ok(Outcome::Flawed) => Ending::Flawed,
+            Ok(Outcome::Open) => Ending::Open,
             Err(fault) => Ending::Failed(fault),
         }
     }
 
     /// The exit status: 0 if all is done, 1 if the script was refused, 2 if the command line was, 5 if some call hasn't
-    /// returned that was to or two accesses of the run are unordered, and else that of the fault.
+    /// returned that was to, two accesses of the run are unordered, or a search is flawed, 6 if a search is open, and
+    /// else that of the fault.
     pub fn status(self) -> u8
         ensures { result ≡ status_at self }
     {
@@ -47,7 +54,8 @@ impl Ending {
             Ending::Done => 0,
             Ending::ScriptRefused => 1,
             Ending::Refused => 2,
-            Ending::Unfinished | Ending::Racy => 5,
+            Ending::Unfinished | Ending::Racy | Ending::Flawed => 5,
+            Ending::Open => 6,
             Ending::Failed(fault) => status_of(fault),
         }
     }

@@ -16,6 +16,10 @@ pub enum Outcome {
     Unfinished,
     /// The run was to be judged, and two of its accesses are unordered, as what was written says.
     Racy,
+    /// All schedules were to be searched, and there is a deadlock, a failure, no way out or a conflict.
+    Flawed,
+    /// They were, and there is none of these, but the search isn't closed, or a result has no edge.
+    Open,
 }
 
 impl Outcome {

@@ -5,7 +5,7 @@ ghost use Rattle.sab_ending.specs.Status.{status_after};
 
 use sab_tool::ToolFault;
 
-/// The exit status after a fault: 1 where the script was refused, 3 where standard input or output failed, 4 where
+/// The exit status after a fault: 1 if the input was refused, 3 where standard input or output failed, 4 where
 /// there was no memory or no thread.
 pub(crate) fn status_of(fault: ToolFault) -> u8
     ensures { result ≡ status_after fault }
@@ -24,6 +24,9 @@ pub(crate) fn status_of(fault: ToolFault) -> u8
         | ToolFault::NotJson
         | ToolFault::TooLong
         | ToolFault::NoBlock
+        | ToolFault::BadEdge
+        | ToolFault::NoNode
+        | ToolFault::BadRange
         | ToolFault::OrdinaryData => 1,
     }
 }

@@ -1,3 +1,4 @@
 pub mod Flushed
 pub mod Given
+pub mod Searched
 pub mod Traced

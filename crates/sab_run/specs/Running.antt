@@ -20,7 +20,7 @@ use Rattle.sab_command.specs.declared.job.RunForm.TheVariants.{Report, Script}
 use Rattle.sab_command.specs.declared.job.Job.{Job}
 use Rattle.sab_command.specs.declared.job.Job.TheVariants.{Replay, Check, Judge}
 use Rattle.sab_ending.specs.declared.outcome.Outcome.{Outcome}
-use Rattle.sab_ending.specs.declared.outcome.Outcome.TheVariants.{Done, Refused, Unfinished, Racy}
+use Rattle.sab_ending.specs.declared.outcome.Outcome.TheVariants.{Done, Refused, Unfinished, Racy, Flawed, Open}
 use Rattle.sab_ending.specs.Outcome.{outcome_of, judged_outcome}
 
 -- just what a check says came after what the writer held: about a script that isn't refused, or about one that is
@@ -29,6 +29,8 @@ Checks Done old new script = (text : List ℕ) × IsAccepted script text × Appe
 Checks Refused old new script = (text : List ℕ) × IsRefused script text × Appends old new text
 Checks Unfinished old new script = ⊥
 Checks Racy old new script = ⊥
+Checks Flawed old new script = ⊥
+Checks Open old new script = ⊥
 
 -- such a run of the script was kept as a script, and ended so
 abbrev pub KeepsAs : (SetupParts → ReportParts → Type 0) → Option (List ℕ) → Option (List ℕ) → List ℕ → Ended → Type 0

@@ -18,7 +18,7 @@ pub enum Explanation {
     Absent,
     /// There is no memory for it.
     NoMemory,
-    /// What a check says about the script, which it refuses: a line.
+    /// What a check says about the script, which it refuses, or why the file of automata is refused: a line.
     CheckText(String),
     /// The line of the trace that is refused, from 1.
     AtLine(u32),

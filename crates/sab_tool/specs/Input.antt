@@ -4,9 +4,13 @@ use Rattle.sab_tool.specs.declared.input.TheConstants.{MAX_INPUT}
 use Rattle.sab_tool.specs.declared.tool_fault.ToolFault.{ToolFault}
 use Rattle.sab_tool.specs.declared.tool_fault.ToolFault.TheVariants.{OutOfMemory, TooLong, ReadFailed}
 
--- the fault is one that a reader calls for which had these bytes left, or want of memory
+-- the fault is one that a reader calls for which had these bytes left, if so many are taken at most, or want of memory
+abbrev pub IsFaultOfInput : ℕ → Option (List ℕ) → ToolFault → Type 0
+IsFaultOfInput limit known OutOfMemory = ⊤
+IsFaultOfInput limit known ReadFailed = ⊤
+IsFaultOfInput limit known TooLong = IfSome known (λ bytes. limit < length bytes)
+IsFaultOfInput limit known _ = ⊥
+
+-- of a script
 abbrev pub IsInputFault : Option (List ℕ) → ToolFault → Type 0
-IsInputFault known OutOfMemory = ⊤
-IsInputFault known ReadFailed = ⊤
-IsInputFault known TooLong = IfSome known (λ bytes. MAX_INPUT < length bytes)
-IsInputFault known _ = ⊥
+IsInputFault known fault = IsFaultOfInput MAX_INPUT known fault

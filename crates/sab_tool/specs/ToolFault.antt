@@ -1,7 +1,7 @@
 -- The numbers and names of faults.
-use Rattle.std.specs.Prelude.{ℕ, List, codes}
+use Rattle.std.specs.Prelude.{◌≡◌, ◌≢◌, ℕ, List, Option, Some, None, codes}
 use Rattle.sab_tool.specs.declared.tool_fault.ToolFault.{ToolFault}
-use Rattle.sab_tool.specs.declared.tool_fault.ToolFault.TheVariants.{TooMany, OutOfMemory, TooManyMoves, NoThread, BadShape, BadName, BadNumber, BadCall, BadView, BadAgent, NotJson, WriteFailed, TooLong, ReadFailed, NoBlock, OrdinaryData}
+use Rattle.sab_tool.specs.declared.tool_fault.ToolFault.TheVariants.{TooMany, OutOfMemory, TooManyMoves, NoThread, BadShape, BadName, BadNumber, BadCall, BadView, BadAgent, NotJson, WriteFailed, TooLong, ReadFailed, NoBlock, OrdinaryData, BadEdge, NoNode, BadRange}
 
 -- what a fault is called
 pub record Label : Type 0 where
@@ -29,9 +29,17 @@ label_of TooLong = label 18 (codes "TooLong")
 label_of ReadFailed = label 19 (codes "ReadFailed")
 label_of NoBlock = label 20 (codes "NoBlock")
 label_of OrdinaryData = label 21 (codes "OrdinaryData")
+label_of BadEdge = label 22 (codes "BadEdge")
+label_of NoNode = label 23 (codes "NoNode")
+label_of BadRange = label 24 (codes "BadRange")
 
 abbrev pub number_of : ToolFault → ℕ
 number_of fault = (label_of fault).number
 
 abbrev pub name_of : ToolFault → List ℕ
 name_of fault = (label_of fault).name
+
+-- the fault that has the number, or none if no fault has it
+abbrev pub IsOfNumber : ℕ → Option ToolFault → Type 0
+IsOfNumber number (Some fault) = number_of fault ≡ number
+IsOfNumber number None = (fault : ToolFault) → number_of fault ≢ number

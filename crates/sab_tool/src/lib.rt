@@ -11,7 +11,7 @@ mod script;
 mod tool_fault;
 
 pub use ended::Ended;
-pub use input::{MAX_INPUT, read_input};
+pub use input::{MAX_INPUT, read_at_most, read_input};
 pub use racing::{race_bytes, race_mixed, race_plan};
 pub use replaying::{replay_bytes, replay_moves};
 pub use report::write_report;

@@ -50,7 +50,7 @@ pub enum ToolFault {
     /// A write or a flush failed.
     #[error("WriteFailed")]
     WriteFailed,
-    /// The input has more than 1,048,576 bytes.
+    /// The input has more bytes than it can have.
     #[error("TooLong")]
     TooLong,
     /// A read failed.
@@ -62,10 +62,20 @@ pub enum ToolFault {
     /// A script that is to be judged stands for a run with ordinary accesses, which only the run's trace has.
     #[error("OrdinaryData")]
     OrdinaryData,
+    /// An edge of an automaton leads to no node, has an answer that its node can't have or that another edge has, or
+    /// goes back within a segment; or a write hasn't one edge.
+    #[error("BadEdge")]
+    BadEdge,
+    /// An automaton has no node, or an agent follows no automaton.
+    #[error("NoNode")]
+    NoNode,
+    /// What an ordinary access reads or writes isn't a range of a block.
+    #[error("BadRange")]
+    BadRange,
 }
 
 impl ToolFault {
-    ghost use Rattle.sab_tool.specs.ToolFault.{number_of, name_of};
+    ghost use Rattle.sab_tool.specs.ToolFault.{number_of, name_of, IsOfNumber};
     ghost use Rattle.sab_tool.specs.Replay.{as_tool_fault, script_as_tool_fault};
     ghost use Rattle.sab_tool.specs.Racing.{race_as_tool_fault};
 
@@ -90,7 +100,39 @@ impl ToolFault {
             ToolFault::ReadFailed => 19,
             ToolFault::NoBlock => 20,
             ToolFault::OrdinaryData => 21,
+            ToolFault::BadEdge => 22,
+            ToolFault::NoNode => 23,
+            ToolFault::BadRange => 24,
         }
+    }
+
+    /// The fault of this number, if there is one.
+    pub fn of_number(number: u32) -> Option<ToolFault>
+        ensures { IsOfNumber number result }
+    {
+        let fault = match number {
+            3 => ToolFault::TooMany,
+            5 => ToolFault::OutOfMemory,
+            8 => ToolFault::TooManyMoves,
+            9 => ToolFault::NoThread,
+            10 => ToolFault::BadShape,
+            11 => ToolFault::BadName,
+            12 => ToolFault::BadNumber,
+            13 => ToolFault::BadCall,
+            14 => ToolFault::BadView,
+            15 => ToolFault::BadAgent,
+            16 => ToolFault::NotJson,
+            17 => ToolFault::WriteFailed,
+            18 => ToolFault::TooLong,
+            19 => ToolFault::ReadFailed,
+            20 => ToolFault::NoBlock,
+            21 => ToolFault::OrdinaryData,
+            22 => ToolFault::BadEdge,
+            23 => ToolFault::NoNode,
+            24 => ToolFault::BadRange,
+            _ => return None,
+        };
+        Some(fault)
     }
 
     /// Its name, as it is spelled here.
@@ -114,6 +156,9 @@ impl ToolFault {
             ToolFault::ReadFailed => "ReadFailed",
             ToolFault::NoBlock => "NoBlock",
             ToolFault::OrdinaryData => "OrdinaryData",
+            ToolFault::BadEdge => "BadEdge",
+            ToolFault::NoNode => "NoNode",
+            ToolFault::BadRange => "BadRange",
         }
     }
 

@@ -1,12 +1,12 @@
-//! Runs scripts of agents that share blocks of bytes, by their schedule or in threads, and judges runs for
-//! unordered accesses.
+//! Runs scripts of agents that share blocks of bytes, by their schedule or in threads, judges runs for unordered
+//! accesses, and searches all schedules of automata.
 #![tactic(auto)]
 
 ghost use Rattle.sab_command.specs.Job.{IsTaskWithinLimits};
 
 use sab_command::{Request, Source, Task, request_of};
 use sab_ending::{Ending, FaultLine, Outcome, without_job, without_words};
-use sab_run::{Failure, judge_trace, run, run_race};
+use sab_run::{Failure, judge_trace, run, run_race, run_search};
 use std::io::{IsTerminal, Read};
 use std::process::ExitCode;
 use std::random::RandomSource;
@@ -35,12 +35,13 @@ fn perform_on<R: Print + AllocGlobal + Threads + Wait + Sync + RandomSource, I: 
         Task::OfScript(job) => run(rt.alloc(), job, explain, input, output),
         Task::OfRace(race) => run_race(rt, race, explain, input, output),
         Task::OfTrace(format) => judge_trace(rt.alloc(), format, input, output),
+        Task::OfSearch(job) => run_search(rt.alloc(), job, explain, input, output),
     }
 }
 
 /// Does what is asked for, from the input's source to standard output, and says on standard error where it fails.
 ///
-/// On a terminal it also reports why a script is refused.
+/// On a terminal it also reports why the input is refused.
 fn perform<R: Print + Eprint + Input + Files + AllocGlobal + Threads + Wait + Sync + RandomSource>(
     rt: &R,
     request: Request<'_>,

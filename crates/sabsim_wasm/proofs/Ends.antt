@@ -1,10 +1,11 @@
 -- How the program ends, of what was shown of its parts.
 use Rattle.std.proofs.Common.{◌≡◌, ◌≢◌, ℕ, Bool, List, [], ◌++◌, Option, Some, Result, Ok, Err, IfOk, OnOk}
-use Rattle.std.proofs.Common.{codes, inl, inr, sym, subst, ap}
+use Rattle.std.proofs.Common.{codes, inl, inr, refl, sym, subst, ap}
 use Rattle.sab_text.specs.declared.format.VerdictFormat.{VerdictFormat}
 use Rattle.sab_tool.specs.declared.tool_fault.ToolFault.{ToolFault}
 use Rattle.sab_tool.specs.declared.tool_fault.ToolFault.TheVariants.{WriteFailed}
 use Rattle.sab_command.specs.declared.job.Job.{Job}
+use Rattle.sab_command.specs.declared.job.SearchJob.{SearchJob}
 use Rattle.sab_command.specs.declared.request.Source.{Source}
 use Rattle.sab_ending.specs.declared.complaint.Complaint.{Complaint}
 use Rattle.sab_ending.specs.declared.outcome.Outcome.{Outcome}
@@ -16,8 +17,13 @@ use Rattle.sab_run.specs.Failure.{NamesFile, explanation_text, line_of}
 use Rattle.sab_run.specs.Explaining.{IsExplanation}
 use Rattle.sab_run.specs.Running.{RunsGiven, IsRunFault, IsUnwritten}
 use Rattle.sab_run.specs.Tracing.{JudgesTrace, IsTraceFailure}
+use Rattle.sab_search.specs.declared.asked.SearchFault.{SearchFault}
+use Rattle.sab_search.specs.declared.asked.SearchFault.TheVariants as F
+use Rattle.sab_search.specs.Search.{IsSearchFault}
+use Rattle.sab_run.specs.Searching.{RunsSearchGiven, IsSearchFailure, IsFailureAfter, IsFailureOf, asked_of}
 use Rattle.sabsim_wasm.specs.declared.written.Written.{Written}
 use Rattle.sabsim_wasm.specs.Program.{WrittenParts, written_of, written_by, done, Fails, EndsOfScript, EndsOfTrace}
+use Rattle.sabsim_wasm.specs.Program.{EndsOfSearch, IsOfBytes}
 
 -- what was done of a script, from an empty output
 pub script_done : (job : Job) (source : Source) (explain : Bool) (script : List ℕ) (outcome : Outcome)
@@ -64,11 +70,11 @@ pub script_refused : (job : Job) (source : Source) (explain : Bool) (script : Li
     → IsRunFault (Some script) job (Some old) (Some new) failure.fault
     → IsUnwritten (Some old) (Some new) failure.fault
     → IsExplanation explain failure.fault script failure.explanation → old ≡ []
-    → IfOk result (λ it. Fails failure source (written_by it)) → OnOk result (failure.fault ≢ WriteFailed)
+    → IfOk result (λ it. Fails failure source (written_by it)) → OnOk result (IsOfBytes failure.fault)
     → IfOk result (λ it. EndsOfScript job source explain script (written_by it))
 script_refused job source explain script failure old new (Err error) fault unwritten why empty fails other = tt
 script_refused job source explain script failure old new (Ok it) fault unwritten why empty fails other =
-    let kept : new ≡ old = kept_of old new failure.fault unwritten other in
+    let kept : new ≡ old = kept_of old new failure.fault unwritten other.1 in
     inr (
       failure,
       subst (λ (it : List ℕ). IsRunFault (Some script) job (Some it) (Some it) failure.fault) empty
@@ -82,11 +88,11 @@ script_refused job source explain script failure old new (Ok it) fault unwritten
 pub trace_refused : (format : VerdictFormat) (source : Source) (trace : List ℕ) (failure : Failure)
     (old new : List ℕ) {E : Type 0} (result : Result Written E)
     → IsTraceFailure (Some trace) (Some old) (Some new) failure → old ≡ []
-    → IfOk result (λ it. Fails failure source (written_by it)) → OnOk result (failure.fault ≢ WriteFailed)
+    → IfOk result (λ it. Fails failure source (written_by it)) → OnOk result (IsOfBytes failure.fault)
     → IfOk result (λ it. EndsOfTrace format source trace (written_by it))
 trace_refused format source trace failure old new (Err error) refused empty fails other = tt
 trace_refused format source trace failure old new (Ok it) refused empty fails other =
-    let kept : new ≡ old = kept_of_trace (Some trace) old new failure refused other in
+    let kept : new ≡ old = kept_of_trace (Some trace) old new failure refused other.1 in
     inr (
       failure,
       subst (λ (it : List ℕ). IsTraceFailure (Some trace) (Some it) (Some it) failure) empty
@@ -112,3 +118,39 @@ fails_by failure source c written fault named line why is =
           ++ (file_text c.file ++ (line_text (line_of failure.explanation) ++ (codes "\n"
           ++ (advice_text failure.fault ++ it)))))) why of_line,
     )
+
+-- what was found, from an empty output
+pub search_done : (job : SearchJob) (source : Source) (explain : Bool) (file : List ℕ) (outcome : Outcome)
+    (old new : List ℕ) → old ≡ [] → RunsSearchGiven job outcome (Some old) (Some new) file
+    → EndsOfSearch job source explain file (done outcome new)
+search_done job source explain file outcome old new empty runs =
+    inl (outcome, subst (λ (it : List ℕ). RunsSearchGiven job outcome (Some it) (Some new) file) empty runs, refl)
+
+-- nothing is written to an empty output before a search fails, unless a write failed
+unwritten_after : (job : SearchJob) (explain : Bool) (file old new : List ℕ) (failure : Failure)
+    → IsFailureAfter job explain (Some old) (Some new) file failure → failure.fault ≢ WriteFailed
+    → IsFailureAfter job explain (Some []) (Some []) file failure
+unwritten_after job explain file old new failure (inl after) other = go after.0 after.1 after.2
+  where
+    go : (fault : SearchFault) → IsSearchFault (asked_of job) (Some old) (Some new) file fault
+        → IsFailureOf explain fault failure → IsFailureAfter job explain (Some []) (Some []) file failure
+    go (F.Refused refusal) is of = inl (F.Refused refusal, (refl, is.1), of)
+    go F.OutOfMemory is of = inl (F.OutOfMemory, λ states. refl, of)
+    go F.WriteFailed is of = absurd (other (ap (λ (it : Failure). it.fault) of))
+unwritten_after job explain file old new failure (inr is) other =
+    absurd (other (ap (λ (it : Failure). it.fault) is))
+
+unwritten : (job : SearchJob) (explain : Bool) (file old new : List ℕ) (failure : Failure)
+    → IsSearchFailure (Some file) job explain (Some old) (Some new) failure → failure.fault ≢ WriteFailed
+    → IsSearchFailure (Some file) job explain (Some []) (Some []) failure
+unwritten job explain file old new failure (inl unread) other = inl (refl, unread.1, unread.2)
+unwritten job explain file old new failure (inr given) other =
+    inr (given.0, unwritten_after job explain file old new failure given.1 other)
+
+-- what a search fails for, with an empty output
+pub search_failed : (job : SearchJob) (source : Source) (explain : Bool) (file : List ℕ) (failure : Failure)
+    (old new : List ℕ) (written : WrittenParts)
+    → IsSearchFailure (Some file) job explain (Some old) (Some new) failure → Fails failure source written
+    → IsOfBytes failure.fault → EndsOfSearch job source explain file written
+search_failed job source explain file failure old new written fails is other =
+    inr (failure, unwritten job explain file old new failure fails other.1, other, is)

@@ -1,5 +1,7 @@
 -- What a host asks for by numbers.
 use Rattle.std.specs.Prelude.{◌==◌, ℕ, Bool, true, false, Option, Some, None, option_map, if◌then◌else◌}
+use Rattle.sab_automata.specs.declared.program.Timeouts.{Timeouts}
+use Rattle.sab_automata.specs.declared.program.Timeouts.TheVariants.{Early, Last, Never}
 use Rattle.sab_text.specs.declared.format.Format.{Format}
 use Rattle.sab_text.specs.declared.format.Format.TheVariants.{Plain, Explained, Json, Svg}
 use Rattle.sab_text.specs.declared.format.VerdictFormat.{VerdictFormat}
@@ -9,6 +11,7 @@ use Rattle.sab_text.specs.declared.lines.Lines.TheVariants.{All, Acts}
 use Rattle.sab_command.specs.declared.job.RunForm.{RunForm}
 use Rattle.sab_command.specs.declared.job.RunForm.TheVariants.{Report, Script}
 use Rattle.sab_command.specs.declared.job.Job.TheVariants.{Replay, Check, Judge}
+use Rattle.sab_command.specs.declared.job.SearchJob.{SearchJob}
 use Rattle.sab_command.specs.declared.request.Task.{Task}
 use Rattle.sab_command.specs.declared.request.Task.TheVariants.{OfScript, OfTrace}
 
@@ -38,3 +41,18 @@ task_at job format acts finish =
     else if job == 2 then option_map (λ format. OfScript (Judge format finish)) (verdict_format_at format)
     else if job == 3 then option_map (λ format. OfTrace format) (verdict_format_at format)
     else None
+
+abbrev pub timeouts_at : ℕ → Option Timeouts
+timeouts_at number =
+    if number == 0 then Some Early else if number == 1 then Some Last else if number == 2 then Some Never else None
+
+-- how the input is to be searched with these choices, if both numbers have a meaning
+abbrev pub searched_with : ℕ → Bool → Option Timeouts → Option VerdictFormat → Option SearchJob
+searched_with limit states (Some timeouts) (Some format) =
+    Some (record { timeouts = timeouts; limit = limit; format = format; states = states })
+searched_with limit states _ _ = None
+
+-- and if there is room for a state
+abbrev pub search_at : ℕ → ℕ → ℕ → Bool → Option SearchJob
+search_at timeouts limit format states =
+    if limit == 0 then None else searched_with limit states (timeouts_at timeouts) (verdict_format_at format)

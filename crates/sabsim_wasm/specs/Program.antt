@@ -3,11 +3,13 @@ use Rattle.std.specs.Prelude.{◌≡◌, ◌⊎◌, ◌≢◌, ℕ, Bool, true, 
 use Rattle.std.specs.Prelude.{string_bytes}
 use Rattle.std.specs.Borrow.{Bor}
 use Rattle.sab_text.specs.declared.format.VerdictFormat.{VerdictFormat}
-use Rattle.sab_tool.specs.declared.tool_fault.ToolFault.TheVariants.{NoThread, OutOfMemory, WriteFailed}
+use Rattle.sab_tool.specs.declared.tool_fault.ToolFault.{ToolFault}
+use Rattle.sab_tool.specs.declared.tool_fault.ToolFault.TheVariants.{NoThread, OutOfMemory, ReadFailed, WriteFailed}
 use Rattle.sab_command.specs.declared.job.Job.{Job}
+use Rattle.sab_command.specs.declared.job.SearchJob.{SearchJob}
 use Rattle.sab_command.specs.declared.request.Source.{Source}
 use Rattle.sab_command.specs.declared.request.Task.{Task}
-use Rattle.sab_command.specs.declared.request.Task.TheVariants.{OfScript, OfRace, OfTrace}
+use Rattle.sab_command.specs.declared.request.Task.TheVariants.{OfScript, OfRace, OfTrace, OfSearch}
 use Rattle.sab_ending.specs.declared.outcome.Outcome.{Outcome}
 use Rattle.sab_ending.specs.Status.{status_after}
 use Rattle.sab_ending.specs.Ending.{status_at, after_job}
@@ -18,6 +20,7 @@ use Rattle.sab_run.specs.Failure.{NamesFile, explanation_text, line_of}
 use Rattle.sab_run.specs.Explaining.{IsExplanation}
 use Rattle.sab_run.specs.Running.{RunsGiven, IsRunFault}
 use Rattle.sab_run.specs.Tracing.{JudgesTrace, IsTraceFailure}
+use Rattle.sab_run.specs.Searching.{RunsSearchGiven, IsSearchFailure}
 use Rattle.sabsim_wasm.specs.declared.written.Written.{Written}
 
 -- an exit status, and the bytes that go to standard output and to standard error
@@ -53,22 +56,34 @@ Fails failure source written =
     ++ (line_text (line_of failure.explanation) ++ (codes "\n" ++ (advice_text failure.fault
     ++ explanation_text failure.explanation))))))
 
--- what `run` writes to an empty writer and returns of a job, or what it is refused for; no write fails
+-- a fault of a job from bytes in memory to bytes in memory: no read and no write has failed
+abbrev pub IsOfBytes : ToolFault → Type 0
+IsOfBytes fault = (fault ≢ ReadFailed) × (fault ≢ WriteFailed)
+
+-- what `run` writes to an empty writer and returns of a job, or what it is refused for; no read and no write fails
 abbrev pub EndsOfScript : Job → Source → Bool → List ℕ → WrittenParts → Type 0
 EndsOfScript job source explain script written =
     ((outcome : Outcome) × RunsGiven job outcome (Some []) (Some written.output) script
     × (written ≡ done outcome written.output))
     ⊎ ((failure : Failure) × IsRunFault (Some script) job (Some []) (Some []) failure.fault
-    × (failure.fault ≢ WriteFailed) × IsExplanation explain failure.fault script failure.explanation
+    × IsOfBytes failure.fault × IsExplanation explain failure.fault script failure.explanation
     × Fails failure source written)
 
--- what `judge_trace` writes and returns of a trace, or what it is refused for; no write fails
+-- what `judge_trace` writes and returns of a trace, or what it is refused for; no read and no write fails
 abbrev pub EndsOfTrace : VerdictFormat → Source → List ℕ → WrittenParts → Type 0
 EndsOfTrace format source trace written =
     ((outcome : Outcome) × JudgesTrace format outcome (Some []) (Some written.output) trace
     × (written ≡ done outcome written.output))
     ⊎ ((failure : Failure) × IsTraceFailure (Some trace) (Some []) (Some []) failure
-    × (failure.fault ≢ WriteFailed) × Fails failure source written)
+    × IsOfBytes failure.fault × Fails failure source written)
+
+-- what `run_search` writes and returns of a file of automata, or what it fails for; no read and no write fails
+abbrev pub EndsOfSearch : SearchJob → Source → Bool → List ℕ → WrittenParts → Type 0
+EndsOfSearch job source explain file written =
+    ((outcome : Outcome) × RunsSearchGiven job outcome (Some []) (Some written.output) file
+    × (written ≡ done outcome written.output))
+    ⊎ ((failure : Failure) × IsSearchFailure (Some file) job explain (Some []) (Some []) failure
+    × IsOfBytes failure.fault × Fails failure source written)
 
 -- what a race can be made with, as a line
 abbrev pub race_advice : List ℕ
@@ -84,6 +99,7 @@ abbrev pub Ends : Task → Source → Bool → List ℕ → WrittenParts → Typ
 Ends (OfScript job) source explain input written = EndsOfScript job source explain input written
 Ends (OfTrace format) source explain input written = EndsOfTrace format source input written
 Ends (OfRace race) source explain input written = EndsOfRace written
+Ends (OfSearch job) source explain input written = EndsOfSearch job source explain input written
 
 -- the text of the command line's parser says why the words are refused, or it is help or the version
 abbrev pub parsed : Bool → List ℕ → WrittenParts

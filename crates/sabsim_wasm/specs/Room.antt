@@ -1,5 +1,5 @@
 -- What a call puts into the host's room.
-use Rattle.std.specs.Prelude.{◌≡◌, ◌+◌, ◌≤◌, ◌<◌, ℕ, List, [], ◌++◌, length, drop}
+use Rattle.std.specs.Prelude.{◌≡◌, ◌≢◌, ◌⊎◌, ◌+◌, ◌-◌, ◌≤◌, ◌<◌, ℕ, List, [], ◌++◌, length, take, drop, slice_index}
 use Rattle.sab_command.specs.declared.request.Source.{Source}
 use Rattle.sab_command.specs.declared.request.Source.TheVariants.{Standard, File}
 use Rattle.sabsim_wasm.specs.declared.reply.Reply.{Reply}
@@ -22,7 +22,33 @@ Puts wants written old new reply =
       output_len = length written.output;
       complaint_len = length written.complaint;
       wants = wants;
+      left_out = 0;
     })
+
+-- the text's first bytes up to here are whole lines, and no more bytes of it that fit are
+pub record IsCut (text : List ℕ) (size cut : ℕ) : Type 0 where
+  pub within : cut ≤ length text
+  pub fits : cut ≤ size
+  pub ends : 0 < cut → slice_index text (cut - 1) ≡ 10
+  pub most : (n : ℕ) → cut < n → n ≤ length text → n ≤ size → slice_index text (n - 1) ≢ 10
+
+-- the first lines lie in the room, as many as fit, and the reply says how many bytes are left out
+pub record PutsLines (status : ℕ) (text old new : List ℕ) (reply : Reply) : Type 0 where
+  pub is_cut : IsCut text (length old) reply.output_len
+  pub put : new ≡ take reply.output_len text ++ drop reply.output_len old
+  pub others : reply ≡ record {
+    status = status;
+    output_len = reply.output_len;
+    complaint_len = 0;
+    wants = 0;
+    left_out = length text - reply.output_len;
+  }
+
+-- of what a search writes to standard output the first lines that fit; and if it fails, what is for standard error
+abbrev pub PutsSearch : WrittenParts → List ℕ → List ℕ → Reply → Type 0
+PutsSearch written old new reply =
+    ((written.complaint ≡ []) × PutsLines written.status written.output old new reply)
+    ⊎ ((written.output ≡ []) × Puts 0 written old new reply)
 
 -- the host is asked for what the source has
 abbrev pub AsksFor : Source → List ℕ → List ℕ → Reply → Type 0

@@ -1,14 +1,17 @@
 //! What a host asks for by numbers.
 
-ghost use Rattle.std.specs.Prelude.{◌≡◌};
-ghost use Rattle.sabsim_wasm.specs.Asked.{form_at, format_at, task_at, verdict_format_at};
+ghost use Rattle.std.specs.Prelude.{◌≡◌, IfSome};
+ghost use Rattle.sab_command.specs.Job.{HasRoom, IsTaskWithinLimits};
+ghost use Rattle.sabsim_wasm.specs.Asked.{form_at, format_at, search_at, task_at, timeouts_at, verdict_format_at};
 
-use sab_command::{Job, RunForm, Task};
+use sab_automata::Timeouts;
+use sab_command::{Job, RunForm, SearchJob, Task};
 use sab_text::{Format, Lines, ReportForm, VerdictFormat};
 
 /// What is to be done with the input; none if a number has no meaning.
 pub(crate) fn task_of(job: u32, format: u32, acts: bool, finish: bool) -> Option<Task>
-    ensures { result ≡ task_at job format acts finish }
+    ensures task { result ≡ task_at job format acts finish }
+    ensures limits { IfSome result IsTaskWithinLimits }
 {
     match job {
         0 => {
@@ -57,6 +60,36 @@ fn verdict_format_of(format: u32) -> Option<VerdictFormat>
     match format {
         0 => Some(VerdictFormat::Plain),
         2 => Some(VerdictFormat::Json),
+        _ => None,
+    }
+}
+
+/// How the input is to be searched; none if a number has no meaning, or there is no room for a state.
+pub(crate) fn search_of(timeouts: u32, limit: u32, format: u32, states: bool) -> Option<SearchJob>
+    ensures job { result ≡ search_at timeouts limit format states }
+    ensures room { IfSome result HasRoom }
+{
+    if limit == 0 {
+        return None;
+    }
+    let timeouts = timeouts_of(timeouts)?;
+    let format = verdict_format_of(format)?;
+    Some(SearchJob {
+        timeouts,
+        limit,
+        format,
+        states,
+    })
+}
+
+/// When a wait may end by its timeout.
+fn timeouts_of(timeouts: u32) -> Option<Timeouts>
+    ensures { result ≡ timeouts_at timeouts }
+{
+    match timeouts {
+        0 => Some(Timeouts::Early),
+        1 => Some(Timeouts::Last),
+        2 => Some(Timeouts::Never),
         _ => None,
     }
 }

@@ -2,6 +2,7 @@
 
 ghost use Rattle.std.specs.Prelude.{◌≡◌, ◌||◌, IfOk, map};
 ghost use Rattle.clap.specs.Words.{kind_of};
+ghost use Rattle.sab_command.specs.Job.{IsTaskWithinLimits};
 ghost use Rattle.sabsim_wasm.specs.Exports.{RepliesToInput, RepliesToRefusal, RepliesToWords};
 ghost use Rattle.sabsim_wasm.specs.Words.{words_of};
 
@@ -56,6 +57,7 @@ fn reply_to(
     input: &[u8],
     room: &mut [u8],
 ) -> Reply
+    requires { IsTaskWithinLimits request.task }
     ensures { RepliesToInput given request.entry.task request.entry.source (request.entry.explain || is_terminal)
         input.now room.old room.new result }
 {

@@ -2,16 +2,17 @@
 //! program `sabsim` does, except races.
 #![tactic(auto)]
 
-ghost use Rattle.sabsim_wasm.specs.Exports.{RepliesToNumbers, RepliesToWords};
+ghost use Rattle.sabsim_wasm.specs.Exports.{RepliesToNumbers, RepliesToSearch, RepliesToWords};
+ghost use Rattle.sabsim_wasm.specs.Asked.{search_at};
 
 mod asked;
 mod command;
 mod reply;
 mod written;
 
-use crate::asked::task_of;
+use crate::asked::{search_of, task_of};
 use crate::command::obey;
-use crate::written::reply_to_task;
+use crate::written::{reply_to_search, reply_to_task};
 pub use reply::Reply;
 use std::alloc::Global;
 
@@ -43,6 +44,34 @@ pub extern "C" fn sabsim_run(
     *reply = reply_to_task(alloc, task, explain, input, room);
 }
 
+/// Searches all schedules of the input's bytes, a file of automata, and puts what the program writes then into the host's
+/// room.
+///
+/// `timeouts` says when a wait may time out: 0 for early, 1 for last, 2 for never. `limit` is the greatest number of
+/// states, `format` 0 for plain or 2 for json, and `states` says whether each state is written. If a number has no
+/// meaning, or the limit is 0, the status is 2, and nothing is written.
+///
+/// It searches once, whatever the room is: the room has the first lines of standard output, as many as fit, and the reply
+/// says how many bytes are left out. If the file is refused or there is no memory, the room is as after [`sabsim_run`].
+#[unsafe(no_mangle)]
+#[tactic(auto, using(crate::proofs::Replies::searched))]
+pub extern "C" fn sabsim_search(
+    alloc: Global,
+    timeouts: u32,
+    limit: u32,
+    format: u32,
+    states: bool,
+    explain: bool,
+    input: &[u8],
+    room: &mut [u8],
+    reply: &mut Reply,
+)
+    ensures { RepliesToSearch (search_at timeouts limit format states) explain input.now room.old room.new reply.new }
+{
+    let job = search_of(timeouts, limit, format, states);
+    *reply = reply_to_search(alloc, job, explain, input, room);
+}
+
 /// Does what the words of a command line ask for, and puts what the program writes then into the host's room, as
 /// [`sabsim_run`] does.
 ///
@@ -51,7 +80,8 @@ pub extern "C" fn sabsim_run(
 /// At 0 the reply says what the host has to read, if anything: `wants` is 1 for standard input, and 2 for the file
 /// whose name is in the room. `is_terminal`: whether standard error is a terminal, on which each refusal is explained.
 ///
-/// A race ends with 9 NoThread once its script is read: it needs threads, which only the native program has.
+/// A race ends with 9 NoThread once its script is read: it needs threads, which only the native program has. Of a search
+/// the room has the lines that fit, as after [`sabsim_search`].
 #[unsafe(no_mangle)]
 pub extern "C" fn sabsim_command(
     alloc: Global,

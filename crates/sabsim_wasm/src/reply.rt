@@ -1,7 +1,7 @@
 //! What the host gets.
 
 ghost use Rattle.sabsim_wasm.specs.Program.{no_memory, written_of};
-ghost use Rattle.sabsim_wasm.specs.Room.{AsksFor, Puts, PutsBoth};
+ghost use Rattle.sabsim_wasm.specs.Room.{AsksFor, IsCut, Puts, PutsBoth, PutsLines};
 
 use sab_command::Source;
 use sab_ending::Ending;
@@ -20,6 +20,9 @@ pub struct Reply {
     /// What the host has to read before it calls again: 0 for nothing, 1 for standard input, 2 for the file whose name
     /// is in the room.
     pub wants: u64,
+    /// How many bytes that are for standard output were left out, since the room is too small for them: 0 except of a
+    /// search.
+    pub left_out: u64,
 }
 
 /// What the program prints on standard error if there is no memory, also none for a text.
@@ -35,7 +38,34 @@ pub(crate) fn put(status: u8, output: &[u8], complaint: &str, room: &mut [u8]) -
         output_len: output.len() as u64,
         complaint_len: complaint.len() as u64,
         wants: 0,
+        left_out: 0,
     }
+}
+
+/// Puts the first lines of a text into the room, as many as fit.
+pub(crate) fn put_lines(status: u8, text: &[u8], room: &mut [u8]) -> Reply
+    ensures { PutsLines status text.now room.old room.new result }
+{
+    let cut = lines_within(text, room.len());
+    room[..cut].copy_from_slice(&text[..cut]);
+    Reply {
+        status: status as u64,
+        output_len: cut as u64,
+        complaint_len: 0,
+        wants: 0,
+        left_out: (text.len() - cut) as u64,
+    }
+}
+
+/// How many bytes the first lines of a text have that fit into so many bytes.
+fn lines_within(text: &[u8], size: usize) -> usize
+    ensures { IsCut text.now size result }
+{
+    let mut cut = text.len().min(size);
+    while cut > 0 && text[cut - 1] != b'\n' {
+        cut -= 1;
+    }
+    cut
 }
 
 /// Puts bytes into the room, and others right after them, if both fit.

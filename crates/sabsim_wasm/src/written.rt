@@ -1,16 +1,18 @@
 //! What the program writes.
 
-ghost use Rattle.std.specs.Prelude.{◌≡◌, ◌≢◌, IfOk, OnOk};
-ghost use Rattle.sab_tool.specs.declared.tool_fault.ToolFault.TheVariants.{ReadFailed, WriteFailed};
+ghost use Rattle.std.specs.Prelude.{[], ◌≡◌, ◌≢◌, IfOk, IfSome, MatchResult, OnOk};
+ghost use Rattle.sab_tool.specs.declared.tool_fault.ToolFault.TheVariants.{ReadFailed};
 ghost use Rattle.sab_run.specs.Failure.{unexplained};
-ghost use Rattle.sabsim_wasm.specs.Exports.{PutsSuch, RepliesToTask};
-ghost use Rattle.sabsim_wasm.specs.Program.{Ends, EndsOfRace, EndsOfScript, EndsOfTrace, Fails, done, written_by};
+ghost use Rattle.sab_command.specs.declared.request.Task.TheVariants.{OfSearch};
+ghost use Rattle.sab_command.specs.Job.{HasRoom, IsTaskWithinLimits};
+ghost use Rattle.sabsim_wasm.specs.Exports.{PutsSuch, PutsTask, RepliesToSearch, RepliesToTask};
+ghost use Rattle.sabsim_wasm.specs.Program.{EndsOfRace, EndsOfScript, EndsOfTrace, Fails, IsOfBytes, done, no_memory, written_by, written_of};
 ghost use Rattle.sabsim_wasm.specs.Room.{Puts};
 
-use crate::reply::{Reply, put, put_no_memory};
-use sab_command::{Job, Source, Task};
+use crate::reply::{Reply, put, put_lines, put_no_memory};
+use sab_command::{Job, SearchJob, Source, Task};
 use sab_ending::{Complaint, Ending, Outcome};
-use sab_run::{Explanation, Failure, judge_trace, run};
+use sab_run::{Explanation, Failure, judge_trace, run, run_search};
 use sab_text::VerdictFormat;
 use sab_tool::ToolFault;
 use std::alloc::{AllocError, Global};
@@ -38,16 +40,41 @@ pub(crate) fn reply_to_task(
     input: &[u8],
     room: &mut [u8],
 ) -> Reply
+    requires { IfSome task IsTaskWithinLimits }
     ensures { RepliesToTask task explain input.now room.old room.new result }
 {
     match task {
         Some(task) => put_task(alloc, task, Source::Standard, explain, input, room),
-        None => put(Ending::Refused.status(), &[], "", room),
+        None => put_nothing(room),
     }
 }
 
+/// Searches the input as is asked for, if something is, and puts the lines that the program writes and that fit into the
+/// room.
+pub(crate) fn reply_to_search(
+    alloc: Global,
+    job: Option<SearchJob>,
+    explain: bool,
+    input: &[u8],
+    room: &mut [u8],
+) -> Reply
+    requires { IfSome job HasRoom }
+    ensures { RepliesToSearch job explain input.now room.old room.new result }
+{
+    match job {
+        Some(job) => put_search(alloc, job, Source::Standard, explain, input, room),
+        None => put_nothing(room),
+    }
+}
+
+/// Puts nothing, with the status of a command line that is refused.
+fn put_nothing(room: &mut [u8]) -> Reply
+    ensures { Puts 0 (written_of 2 [] []) room.old room.new result }
+{
+    put(Ending::Refused.status(), &[], "", room)
+}
+
 /// Does what is asked for, and puts what the program writes into the room. The source is named if it failed.
-#[tactic(auto, using(crate::proofs::Replies::puts_such))]
 pub(crate) fn put_task(
     alloc: Global,
     task: Task,
@@ -56,9 +83,47 @@ pub(crate) fn put_task(
     input: &[u8],
     room: &mut [u8],
 ) -> Reply
-    ensures { PutsSuch (Ends task source.entry explain input.now) room.old room.new result }
+    requires { IsTaskWithinLimits task }
+    ensures { PutsTask task source.entry explain input.now room.old room.new result }
 {
-    match perform(alloc, task, source, explain, input) {
+    match task {
+        Task::OfScript(job) => put_made(perform_job(alloc, job, source, explain, input), room),
+        Task::OfTrace(format) => put_made(judge(alloc, format, source, input), room),
+        Task::OfRace(_) => put_made(refuse_race(alloc), room),
+        Task::OfSearch(job) => put_search(alloc, job, source, explain, input, room),
+    }
+}
+
+/// Searches the input, and puts the lines that the program writes and that fit into the room. So it is never searched
+/// again for a larger one.
+fn put_search(
+    alloc: Global,
+    job: SearchJob,
+    source: Source<'_>,
+    explain: bool,
+    file: &[u8],
+    room: &mut [u8],
+) -> Reply
+    requires { HasRoom job }
+    ensures { PutsTask (OfSearch job) source.entry explain file.now room.old room.new result }
+{
+    let mut output = Vec::new(alloc);
+    let mut reader = file;
+    match run_search(alloc, job, explain, &mut reader, &mut output) {
+        Ok(outcome) => {
+            let status = Ending::of_job(Ok(outcome)).status();
+            put_lines(status, output.as_slice(), room)
+        }
+        Err(failure) => put_made(failed(alloc, &failure, source), room),
+    }
+}
+
+/// Puts what the program writes into the room, if there was memory for it.
+fn put_made(made: Result<Written, AllocError>, room: &mut [u8]) -> Reply
+    ensures { MatchResult made (λ written. Puts 0 (written_by written) room.old room.new result)
+        (λ error. Puts 0 no_memory room.old room.new result) }
+{
+    match made {
         Ok(written) => put_written(&written, room),
         Err(_) => put_no_memory(room),
     }
@@ -72,7 +137,7 @@ pub(crate) fn put_unreadable(alloc: Global, source: Source<'_>, room: &mut [u8])
         fault: ToolFault::ReadFailed,
         explanation: Explanation::Absent,
     };
-    match failed(alloc, &failure, source) {
+    match complained(alloc, &failure, source) {
         Ok(written) => put_written(&written, room),
         Err(_) => put_no_memory(room),
     }
@@ -90,25 +155,8 @@ fn put_written(written: &Written, room: &mut [u8]) -> Reply
     )
 }
 
-/// Does what is asked for with the input's bytes.
-fn perform(
-    alloc: Global,
-    task: Task,
-    source: Source<'_>,
-    explain: bool,
-    input: &[u8],
-) -> Result<Written, AllocError>
-    ensures { IfOk result (λ written. Ends task source.entry explain input.now (written_by written)) }
-{
-    match task {
-        Task::OfScript(job) => perform_job(alloc, job, source, explain, input),
-        Task::OfTrace(format) => judge(alloc, format, source, input),
-        Task::OfRace(_) => refuse_race(alloc),
-    }
-}
-
 /// Does a job of a script.
-#[tactic(auto, using(crate::proofs::Ends::script_done, crate::proofs::Ends::script_refused))]
+#[tactic(auto, using(crate::proofs::Ends::script_done))]
 fn perform_job(
     alloc: Global,
     job: Job,
@@ -172,15 +220,23 @@ fn done(alloc: Global, outcome: Outcome, output: Vec<u8>) -> Written
     }
 }
 
-/// What is written of a failure. A write that failed is want of memory, since the output is a list of bytes.
-#[tactic(auto, using(crate::proofs::Ends::fails_by))]
+/// What is written of a failure of a job. A read or a write that failed is want of memory, since the input and the
+/// output are lists of bytes.
 fn failed(alloc: Global, failure: &Failure, source: Source<'_>) -> Result<Written, AllocError>
     ensures ok { IfOk result (λ written. Fails failure.now source.entry (written_by written)) }
-    ensures fault { OnOk result (failure.now.fault ≢ WriteFailed) }
+    ensures fault { OnOk result (IsOfBytes failure.now.fault) }
 {
-    if failure.fault == ToolFault::WriteFailed {
+    if failure.fault == ToolFault::ReadFailed || failure.fault == ToolFault::WriteFailed {
         return Err(AllocError);
     }
+    complained(alloc, failure, source)
+}
+
+/// What is written of a failure.
+#[tactic(auto, using(crate::proofs::Ends::fails_by))]
+fn complained(alloc: Global, failure: &Failure, source: Source<'_>) -> Result<Written, AllocError>
+    ensures { IfOk result (λ written. Fails failure.now source.entry (written_by written)) }
+{
     let complaint = failure.complaint(source);
     Ok(Written {
         status: Ending::Failed(failure.fault).status(),

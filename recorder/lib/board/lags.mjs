@@ -1,11 +1,11 @@
 // How far the clock of a program's run is ahead of each thread that could move. If a time ends early, the clock goes on
-// though threads can move, and these lag by so much more. A thread that is woken lags as much as the one that wakes it.
-// A time may end early only if nothing lags by more than a bound then. So what passes early doesn't add up from move to
-// move.
+// though threads can move, and these lag by so much more. A thread that is woken lags as much as the one that wakes it,
+// and one whose time is up as much as when its wait began. A time may end early only if nothing lags by more than a bound
+// then. So what passes early doesn't add up from move to move.
 
-import { AGENT_WORD, PHASE, WORD, wordOf } from "../memory/layout.mjs";
+import { AGENT_WORD, LOOP, PHASE, WORD, wordOf } from "../memory/layout.mjs";
 
-const { Float64Array, SharedArrayBuffer } = globalThis;
+const { Float64Array, Math: { max, min }, SharedArrayBuffer } = globalThis;
 
 export class Lags {
   /** @param {number} agents how many @returns {SharedArrayBuffer} */
@@ -37,7 +37,10 @@ export class Lags {
   /** @param {number} agent that can move from now on, by what the agent does that has the turn */
   wakes(agent) {
     const waker = this.words[WORD.LAST];
-    this.lags[agent] = waker < 0 ? 0 : this.lags[waker];
+    const lag = waker < 0 ? 0 : this.lags[waker];
+    // Timers of its event loop may have begun when it lagged more.
+    const isLoop = this.words[wordOf(agent, AGENT_WORD.WHERE_BLOCK)] === LOOP;
+    this.lags[agent] = isLoop && this.#isTimed(agent) ? max(lag, this.lags[agent]) : lag;
   }
 
   /**
@@ -64,14 +67,28 @@ export class Lags {
     if (this.clock.isAtOnce(agent)) return;
     const ahead = this.clock.deadline(agent) - this.clock.now();
     if (ahead > 0) this.passes(ahead);
-    this.lags[agent] = ahead > 0 ? 0 : -ahead;
   }
 
   /** @param {number} milliseconds by which the clock goes on @param {number} [busy] an agent that has other tasks */
   passes(milliseconds, busy) {
     for (let agent = 0; agent < this.agents; agent += 1) {
       if (agent === busy || this.#couldMove(agent)) this.lags[agent] += milliseconds;
+      else if (this.#isTimed(agent)) this.lags[agent] += this.#lateBy(agent, milliseconds);
     }
+  }
+
+  /** @param {number} agent @returns {boolean} whether it waits for a time, and does more than to read the same again */
+  #isTimed(agent) {
+    return this.words[wordOf(agent, AGENT_WORD.PHASE)] === PHASE.WAITS_TIMED && !this.spins.spins(agent);
+  }
+
+  /**
+   * @param {number} agent that waits for a time
+   * @param {number} milliseconds by which the clock is to go on
+   * @returns {number} how many of them pass after its time is up
+   */
+  #lateBy(agent, milliseconds) {
+    return max(0, min(milliseconds, this.clock.now() + milliseconds - this.clock.deadline(agent)));
   }
 
   /** @param {number} agent @returns {boolean} whether it could do something new now */
@@ -89,8 +106,8 @@ export class Lags {
    */
   #lagOf(agent, ahead) {
     if (this.#couldMove(agent)) return this.lags[agent] + ahead;
-    const isTimed = this.words[wordOf(agent, AGENT_WORD.PHASE)] === PHASE.WAITS_TIMED;
-    if (!isTimed || this.spins.spins(agent)) return 0;
-    return this.clock.now() + ahead - this.clock.deadline(agent);
+    if (!this.#isTimed(agent)) return 0;
+    const late = this.clock.now() + ahead - this.clock.deadline(agent);
+    return max(late, this.lags[agent] + this.#lateBy(agent, ahead));
   }
 }

@@ -11,11 +11,12 @@ const COUNT = 0;
 const CUT = 1;
 const PARENTS = 2;
 const HEAD = PARENTS + SCRIPT_LIMITS.agents;
-const EACH = 4;
+const EACH = 5;
 const OWNER = 0;
 const WAITING = 1;
 const STATE = 2;
 const NAME = 3;
+const URGENT = 4;
 
 // Set beside the number of the agent that has started a thread.
 const BEGUN = 64;
@@ -76,6 +77,7 @@ export class PortTable {
       words[HEAD + port * EACH + WAITING] = 0;
       words[HEAD + port * EACH + STATE] = 0;
       words[HEAD + port * EACH + NAME] = 0;
+      words[HEAD + port * EACH + URGENT] = 0;
     }
     return first;
   }
@@ -118,6 +120,11 @@ export class PortTable {
   /** @param {number} port @param {number} more messages, or fewer */
   addWaiting(port, more) {
     this.words[HEAD + port * EACH + WAITING] += more;
+  }
+
+  /** @param {number} port @param {number} more messages that make all be delivered, also if the port isn't started */
+  addUrgent(port, more) {
+    this.words[HEAD + port * EACH + URGENT] += more;
   }
 
   /** @param {number} port @param {number} name a number that channels of one name have, not 0 */
@@ -169,7 +176,7 @@ export class PortTable {
    */
   isReady(port) {
     const waiting = this.waiting(port);
-    if (waiting > 0 && this.isStarted(port)) return true;
+    if (waiting > 0 && (this.isStarted(port) || this.words[HEAD + port * EACH + URGENT] > 0)) return true;
     return waiting === 1 && (this.words[HEAD + port * EACH + STATE] & CLOSING) !== 0;
   }
 }

@@ -4,6 +4,7 @@
 
 import { AGENT_WORD, NOBODY, ORDER, STATUS, WORD, agentOf, inCall, inCode, wordOf } from "../memory/layout.mjs";
 import { uncurried } from "../primordials.mjs";
+import { Patience } from "../processes/patience.mjs";
 
 const { load, store, add, compareExchange, wait, notify } = Atomics;
 const writeText = uncurried(Buffer.prototype.write);
@@ -15,7 +16,7 @@ export const REASON_BYTES = 4_096;
 const NEVER = new Int32Array(new SharedArrayBuffer(4));
 
 // How long an agent that was silent may take to say where it is.
-const MILLISECONDS_TO_ANSWER = 1_000;
+const SECONDS_TO_ANSWER = 1;
 
 // The word GO of an agent: nothing is new to it; it may go on; or its run is over, which it doesn't know yet.
 const NOTHING = 0;
@@ -24,7 +25,7 @@ const IS_OVER = 2;
 
 // How long an agent may take to learn that its run is over. It has only to get a processor, so that takes long on a
 // slow machine alone. An agent that ran out of stack in a call never learns it.
-const MILLISECONDS_TO_LEARN = 10_000;
+const SECONDS_TO_LEARN = 10;
 
 export class Turn {
   /**
@@ -174,15 +175,19 @@ export class Turn {
    */
   isBack(agent, milliseconds) {
     const word = wordOf(agent, AGENT_WORD.STATUS);
-    const begun = performance.now();
-    let until = begun + milliseconds;
-    while (load(this.words, word) === STATUS.BUSY) {
-      const now = performance.now();
-      if (now - begun < MILLISECONDS_TO_LEARN && this.#isToLearn(agent)) until = now + milliseconds;
-      if (now >= until) break;
-      wait(this.words, word, STATUS.BUSY, until - now);
-    }
+    if (load(this.words, word) === STATUS.BUSY) this.#awaitBack(agent, milliseconds);
     return load(this.words, word) === STATUS.IDLE;
+  }
+
+  /** @param {number} agent whose own code may go on @param {number} milliseconds as above */
+  #awaitBack(agent, milliseconds) {
+    const word = wordOf(agent, AGENT_WORD.STATUS);
+    const [learning, ending] = [SECONDS_TO_LEARN, milliseconds / 1_000].map((seconds) => new Patience(seconds));
+    while (load(this.words, word) === STATUS.BUSY) {
+      if (!learning.isOver() && this.#isToLearn(agent)) ending.renew();
+      if (ending.isOver()) return;
+      wait(this.words, word, STATUS.BUSY, ending.step);
+    }
   }
 
   /** @param {number} agent @returns {boolean} */
@@ -200,14 +205,13 @@ export class Turn {
     let isSilent = false;
     this.silent = NOBODY;
     let ticks = load(words, WORD.TICKS);
-    let since = performance.now();
+    const patience = new Patience(seconds);
     while (!this.end.hasEnded()) {
-      this.end.await(seconds * 250);
-      const now = performance.now();
+      this.end.await(patience.step);
       if (ticks !== load(words, WORD.TICKS)) {
         ticks = load(words, WORD.TICKS);
-        since = now;
-      } else if (now - since >= seconds * 1_000) {
+        patience.renew();
+      } else if (patience.isOver()) {
         isSilent = true;
         this.#endSilent(seconds);
       }
@@ -268,7 +272,8 @@ export class Turn {
   #endSilent(seconds) {
     // An agent that makes ordinary accesses ends by itself.
     this.end.ask();
-    this.end.await(MILLISECONDS_TO_ANSWER);
+    const patience = new Patience(SECONDS_TO_ANSWER);
+    while (!this.end.hasEnded() && !patience.isOver()) this.end.await(patience.step);
     const turn = load(this.words, WORD.TURN);
     if (turn === NOBODY || compareExchange(this.words, WORD.TURN, turn, NOBODY) !== turn) return;
     const agent = agentOf(turn);

@@ -61,7 +61,7 @@ export function dataOf({ report, open, realRuns, isProved, notProved, shown, mil
   return {
     ...common, agents: plan.agents, states: result.states, acts: result.acts, depth, finals: finalsOf(report),
     finalCount: result.final.count, found, moments: counts.moments, edges: counts.edges,
-    edgesByOne: edges.filter(({ besides }) => besides === undefined).length, hidden,
+    edgesByOne: edges.filter(({ from, besides }) => from !== undefined && besides === undefined).length, hidden,
     widest: { ...widest, line: widest.line ?? null },
   };
 }

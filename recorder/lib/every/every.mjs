@@ -8,7 +8,7 @@ import { NotAsLearned } from "./not-as-learned.mjs";
 import { programOf } from "./search/file.mjs";
 import { beginSearch } from "./proved.mjs";
 import { comparedBySecond, needFound } from "./second.mjs";
-import { shown } from "./showing.mjs";
+import { firstNotShown, shown } from "./showing.mjs";
 
 /** @typedef {import("./learning/report.mjs").Report} Report */
 /** @typedef {import("./showing.mjs").Shown} Shown */
@@ -30,6 +30,8 @@ import { shown } from "./showing.mjs";
  * @property {number} milliseconds
  */
 
+const KEEPS = "Its modules keep something from run to run: with --fresh, which begins them anew, it does as learned";
+const NOT_KNOWN = "It may go by chance, by a clock, or by something that isn't shown";
 const CHANGES_BUILTINS = "an agent changes the language's own objects, so what was learned may be wrong";
 
 export class Every {
@@ -69,8 +71,11 @@ export class Every {
       if (typeof report === "string") return { report: undefined, open: report, ...nothing };
       if (!report.isClosed) return { report, open: openText(report), ...nothing };
       if (report.changesBuiltins) throw new NotAsLearned(CHANGES_BUILTINS);
+      const again = this.#learnAgain(report);
+      // The second learning knows more about why a run differs.
+      const agreeing = this.#agreeing(report, running).catch((problem) => again.then(() => Promise.reject(problem)));
       const [{ result = report.result, why }, realRuns] = await Promise.all([
-        this.#second(report, ending.signal), this.#agreeing(report, running), this.#learnAgain(report),
+        this.#second(report, ending.signal), agreeing, again,
       ]);
       const shown = await this.#shown(report);
       const proved = { isProved: why === undefined, notProved: why };
@@ -124,8 +129,9 @@ export class Every {
     const given = { module, args, plan, isShared, isFresh: fresh === true, nodes, edges };
     const differs = await learnAgain(given, this.threads?.again);
     if (differs === undefined) return;
-    throw new NotAsLearned(`the code as it is written, loaded anew, does something else than was learned. ${differs}. `
-      + "It may keep something from run to run, or go by chance or by a clock");
+    const keeps = fresh !== true && await learnAgain({ ...given, isFresh: true }) === undefined;
+    throw new NotAsLearned("the code as it is written, loaded anew, does something else than was learned. "
+      + `${differs}. ${keeps ? KEEPS : NOT_KNOWN}`);
   }
 
   /**
@@ -146,9 +152,7 @@ export class Every {
   /** @param {Report} report */
   async #shown({ findings }) {
     const found = await shown(findings, this.options);
-    const races = findings.some(({ kind }) => kind === "race");
-    // Behind a race, real runs may differ from a search that makes all accesses of a segment at once.
-    const other = races ? undefined : found.find(({ isSame }) => !isSame);
+    const other = firstNotShown(found);
     if (other === undefined) return found.filter(({ isSame }) => isSame);
     const { finding: { kind, text }, outcome: { ending, detail } } = other;
     const what = text === "" ? kind : `${kind} (${text})`;

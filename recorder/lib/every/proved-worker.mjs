@@ -15,8 +15,7 @@ export function main() {
   const { job, port, room, text } =
     /** @type {Given & { port: import("node:worker_threads").MessagePort }} */ (workerData);
   try {
-    const simulator = new ModuleSimulator();
-    port.postMessage({ ended: simulator.canSearch ? simulator.search(job, text, room) : undefined });
+    port.postMessage({ ended: new ModuleSimulator().search(job, text, room) });
   } catch (problem) {
     port.postMessage({ failed: /** @type {Error} */ (problem).message });
   }

@@ -50,7 +50,6 @@ export async function provedSearch(data, { timeouts, limit, size, program, signa
   const ended = program === undefined
     ? await byModule({ job, text, room: 2 * size + MORE_ROOM }, signal, thread)
     : await new NativeSimulator(program).search(job, text, signal);
-  if (ended === undefined) throw new NotSearched("the simulator has no search yet");
   return resultOf(ended);
 }
 
@@ -80,7 +79,7 @@ export function beginSearch() {
  * @param {import("./proved-worker.mjs").Given} given
  * @param {AbortSignal} [signal]
  * @param {Thread} [thread]
- * @returns {Promise<EndedSearch | undefined>} undefined: the module has no search
+ * @returns {Promise<EndedSearch>}
  */
 async function byModule(given, signal, thread = beginSearch()) {
   const stop = () => void thread.stop();

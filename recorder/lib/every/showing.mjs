@@ -42,6 +42,17 @@ export async function shown(findings, options) {
   return found;
 }
 
+/**
+ * Behind a race, real runs may differ from a search that makes all accesses of a segment at once. So if a race is shown,
+ * nothing else has to be. The first race has none before it, so it has to be shown.
+ * @param {Shown[]} found
+ * @returns {Shown | undefined} the first that has to be shown and isn't
+ */
+export function firstNotShown(found) {
+  const isRaceShown = found.some(({ finding: { kind }, isSame }) => kind === "race" && isSame);
+  return isRaceShown ? undefined : found.find(({ isSame }) => !isSame);
+}
+
 /** @param {string} text @returns {string} without its numbers */
 const plain = (text) => text.replace(/-?\d+/g, "#");
 

@@ -30,7 +30,7 @@ function closedLines(data) {
     indented(`${counted(states, "state")}, ${counted(acts, "act")}; ${finalText(data)}`),
     indented(learnedText(data)),
     indented(mergedText(data)),
-    indented("other numbers of agents, rounds or arguments weren't tried"),
+    "other numbers of agents, rounds or arguments weren't tried",
   ];
 }
 

@@ -1,7 +1,7 @@
 // What the process of a job begins with: workers, and meanwhile the module whose URL is its first word. The second word
 // is the URL of the referee's module; the third one that of the workers of agents or of a program. The fourth says how
-// many of these begin, and the others are words of node's command line for them. This is a CommonJS module, since such a
-// one is loaded sooner.
+// many of these begin. The others are words of node's command line for them, and only those of a program have some. This
+// is a CommonJS module, since such a one is loaded sooner.
 "use strict";
 
 const { pathToFileURL } = require("node:url");
@@ -15,7 +15,8 @@ evaluated(ownModules(new URL("./garbage.mjs", own)), modules).collectGarbage();
 const { beginThreads, giveAhead } = evaluated(ownModules(new URL("./thread.mjs", own)), modules);
 const [job, referee, worker, count, ...flags] = process.argv.slice(2);
 const root = new URL(worker);
-beginThreads(root, Number(count), flags.length === 0 ? undefined : [...process.execArgv, ...flags]);
+const isProgram = flags.length > 0;
+beginThreads(root, Number(count), isProgram ? [...process.execArgv, ...flags] : undefined, isProgram);
 beginThreads(new URL(referee), 1);
 // The referee has time: the code that is run is loaded first.
 giveAhead(root);

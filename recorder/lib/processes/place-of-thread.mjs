@@ -1,12 +1,24 @@
-// Where the code of a worker is that goes on without end: the inspector of this process pauses it for a moment.
+// Where the code of a worker is that goes on without end. By the inspector of this process an expression is evaluated
+// there, between two steps of that code, and its error has the frames. The worker isn't paused: one that is paused when
+// nobody listens to it any more can't be terminated.
 
 import { createRequire } from "node:module";
+import { within } from "./within.mjs";
 
 /** @typedef {{ file: string, line: number, column: number }} Frame of a worker's code, line and column from 1 */
 /** @typedef {import("node:inspector").Session} Session */
 
-// How long the worker may take to pause. Code of the engine's own can't be paused.
-const MILLISECONDS = 5_000;
+// How long the worker may take to say where it is. Code of the engine's own can't be interrupted.
+const SECONDS = 5;
+
+/** What the worker's own inspector is asked for. The number of a question is its place here. */
+const QUESTIONS = Object.freeze([
+  // From then on errors have their frames, whatever the code has made of `Error`.
+  { method: "Runtime.enable" },
+  { method: "Runtime.evaluate", params: { expression: "throw 0", silent: true } },
+  { method: "Runtime.disable" },
+]);
+const EVALUATED = 1;
 
 /** @returns {Session | undefined} undefined if this node has no inspector */
 function connected() {
@@ -21,53 +33,44 @@ function connected() {
 }
 
 /**
- * The frames of a worker's code, the innermost first. The worker goes on afterwards.
+ * The frames of a worker's code, the innermost first. The worker goes on.
  * @param {import("node:worker_threads").Worker} worker one of this process
+ * @param {number} [seconds] for which it is waited
  * @returns {Promise<Frame[]>} none if they can't be found out in time
  */
-export async function framesOf(worker) {
+export async function framesOf(worker, seconds = SECONDS) {
   const session = connected();
   if (session === undefined) return [];
-  let timer;
-  const late = new Promise((done) => {
-    timer = setTimeout(done, MILLISECONDS, []);
-  });
   try {
-    return await Promise.race([pausedFrames(session, worker.threadId), late]);
+    return await within(framesBy(session, worker.threadId), seconds) ?? [];
   } finally {
-    clearTimeout(timer);
     session.disconnect();
   }
+}
+
+/** @param {any} result of the evaluated expression @returns {Frame[]} without that of the expression */
+function framesIn({ exceptionDetails }) {
+  const frames = exceptionDetails?.stackTrace?.callFrames ?? [];
+  return frames.slice(1).map((/** @type {any} */ { url, lineNumber, columnNumber }) =>
+    ({ file: url, line: lineNumber + 1, column: columnNumber + 1 }));
 }
 
 /**
  * @param {Session} session
  * @param {number} threadId of the worker
- * @returns {Promise<Frame[]>} when the worker goes on
+ * @returns {Promise<Frame[]>}
  */
-function pausedFrames(session, threadId) {
-  /** @type {Map<string, string>} the URLs of scripts */
-  const files = new Map();
-  /** @type {Frame[]} */
-  let frames = [];
+function framesBy(session, threadId) {
   return new Promise((done) => {
-    /** @param {string} sessionId @param {string[]} methods for the worker's own inspector */
-    const ask = (sessionId, ...methods) => methods.forEach((method, id) => {
-      session.post("NodeWorker.sendMessageToWorker", { sessionId, message: JSON.stringify({ id, method }) });
-    });
     session.on("NodeWorker.attachedToWorker", ({ params: { sessionId, workerInfo } }) => {
-      if (workerInfo.title.startsWith(`[worker ${threadId}]`)) ask(sessionId, "Debugger.enable", "Debugger.pause");
+      if (!workerInfo.title.startsWith(`[worker ${threadId}]`)) return;
+      QUESTIONS.forEach((question, id) => {
+        session.post("NodeWorker.sendMessageToWorker", { sessionId, message: JSON.stringify({ id, ...question }) });
+      });
     });
-    session.on("NodeWorker.receivedMessageFromWorker", ({ params: { sessionId, message } }) => {
-      const { method, params } = JSON.parse(message);
-      if (method === "Debugger.scriptParsed") files.set(params.scriptId, params.url);
-      if (method === "Debugger.paused") {
-        frames = params.callFrames.map((/** @type {any} */ { location: { scriptId, lineNumber, columnNumber } }) =>
-          ({ file: files.get(scriptId) ?? "", line: lineNumber + 1, column: columnNumber + 1 }));
-        // A worker that is still paused when the session ends can't be terminated.
-        ask(sessionId, "Debugger.resume");
-      }
-      if (method === "Debugger.resumed") done(frames);
+    session.on("NodeWorker.receivedMessageFromWorker", ({ params: { message } }) => {
+      const { id, result } = JSON.parse(message);
+      if (id === EVALUATED) done(framesIn(result ?? {}));
     });
     session.post("NodeWorker.enable", { waitForDebuggerOnStart: false }, (error) => {
       if (error !== null) done([]);

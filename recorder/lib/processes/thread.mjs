@@ -1,6 +1,7 @@
 // A worker whose messages are awaited one after the other.
 
 import { MessageChannel, Worker, receiveMessageOnPort } from "node:worker_threads";
+import { firstStack } from "./first-stack.mjs";
 import { workerLimits } from "./garbage.mjs";
 import { compiledModules } from "./own-modules.cjs";
 
@@ -29,14 +30,16 @@ export class Thread {
   /**
    * @param {URL} file
    * @param {object} workerData
-   * @param {{ ownPort?: boolean, execArgv?: string[] }} options words of node's command line; with `ownPort` messages go by a port that is `workerData.port` there: code
-   * that shares the worker, and its `parentPort` with it, can't listen in or answer
+   * @param {{ ownPort?: boolean, execArgv?: string[], isFirst?: boolean }} options words of node's command line. With
+   * `ownPort` messages go by a port that is `workerData.port` there: code that shares the worker, and its `parentPort`
+   * with it, can't listen in or answer. With `isFirst` its stack is as large as that of a process's first thread
    */
-  constructor(file, workerData, { ownPort = false, execArgv } = {}) {
+  constructor(file, workerData, { ownPort = false, execArgv, isFirst = false } = {}) {
     const { port1, port2 } = ownPort ? new MessageChannel() : NO_PORTS;
     const own = { workerData: { ...workerData, port: port2 }, transferList: port2 === undefined ? [] : [port2] };
     const words = execArgv === undefined ? {} : { execArgv };
-    this.worker = new Worker(file, { ...(ownPort ? own : { workerData }), ...words, resourceLimits: workerLimits() });
+    const resourceLimits = { ...workerLimits(), ...(isFirst ? firstStack(process.execArgv) : {}) };
+    this.worker = new Worker(file, { ...(ownPort ? own : { workerData }), ...words, resourceLimits });
     /** Where messages come from and go to. */
     this.port = port1 ?? this.worker;
     /** @type {Set<string>} the URLs of the recorder's modules that it was given */
@@ -114,7 +117,7 @@ export class Thread {
 
   /**
    * Ends the worker. Nothing more is reported about it. A worker that native code holds is left alone after a while,
-   * and ends later.
+   * and ends later: neither it nor its port keeps the process from its end then.
    * @param {number} [milliseconds] how long to wait for its end at most
    * @returns {Promise<boolean>} whether it has ended
    */
@@ -126,7 +129,7 @@ export class Thread {
     });
     const ended = await Promise.race([this.worker.terminate().then(() => true), late]);
     clearTimeout(timer);
-    if (!ended) this.worker.unref();
+    if (!ended) this.letGo();
     return ended;
   }
 
@@ -162,30 +165,35 @@ const isOfProcess = ({ code, message }, word) => code === "ERR_WORKER_INVALID_EX
 
 /**
  * @param {string[]} [execArgv] words of node's command line; those of this process if it isn't given
+ * @param {boolean} [isFirst] whether it is to be a program's first thread
  * @returns {Thread} one that awaits its data, with the recorder's modules that it is to evaluate
  */
-function newThread(execArgv) {
+function newThread(execArgv, isFirst = false) {
   const words = execArgv?.filter((word) => !ofProcess.has(word));
   try {
-    return new Thread(OWN_WORKER, {}, { ownPort: true, execArgv: words });
+    return new Thread(OWN_WORKER, {}, { ownPort: true, execArgv: words, isFirst });
   } catch (error) {
     const found = words?.filter((word) => isOfProcess(error, word)) ?? [];
     if (found.length === 0) throw error;
     for (const word of found) ofProcess.add(word);
-    return newThread(words);
+    return newThread(words, isFirst);
   }
 }
 
-/** @type {{ root: URL, thread: Thread }[]} those that a process has begun while it loads its modules */
+/** @type {(Kept & { isFirst: boolean })[]} those that a process has begun while it loads its modules */
 const begun = [];
 
 /**
  * @param {URL} root the module that a worker will be given
  * @param {number} count how many begin now
  * @param {string[]} [execArgv] as above
+ * @param {boolean} [isProgram] whether one of them is to be a program's first thread
  */
-export function beginThreads(root, count, execArgv) {
-  for (let each = 0; each < count; each += 1) begun.push({ root, thread: newThread(execArgv) });
+export function beginThreads(root, count, execArgv, isProgram = false) {
+  for (let each = 0; each < count; each += 1) {
+    const isFirst = isProgram && each === 0;
+    begun.push({ root, isFirst, thread: newThread(execArgv, isFirst) });
+  }
 }
 
 /** @param {URL} root the module of those that get now what it imports */
@@ -240,9 +248,10 @@ export function keptThread(root) {
 /**
  * @param {URL} root the module that it will be given
  * @param {string[]} [execArgv] as above
+ * @param {boolean} [isFirst] as above
  * @returns {Thread} one that has begun, or begins
  */
-export function begunThread(root, execArgv) {
-  const at = begun.findIndex((each) => each.root.href === root.href);
-  return at < 0 ? newThread(execArgv) : begun.splice(at, 1)[0].thread;
+export function begunThread(root, execArgv, isFirst = false) {
+  const at = begun.findIndex((each) => each.root.href === root.href && each.isFirst === isFirst);
+  return at < 0 ? newThread(execArgv, isFirst) : begun.splice(at, 1)[0].thread;
 }

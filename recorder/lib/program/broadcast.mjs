@@ -1,12 +1,20 @@
 // The BroadcastChannel of a program. Node's own one starts itself, and its messages would come by the real loop. So a
 // message goes by the hidden ports of threads, to each channel of the name that exists when it is sent.
 
+import threads from "node:worker_threads";
 import { apply, uncurried } from "../primordials.mjs";
 import { TO_CHANNELS } from "./moves.mjs";
 import { nodeError } from "./node-error.mjs";
+import { KIND } from "./ports.mjs";
+import { UNREAD } from "./unread.mjs";
 import { sent } from "./values.mjs";
 
 const { TypeError, structuredClone } = globalThis;
+const post = uncurried(threads.MessagePort.prototype.postMessage);
+
+/** A port that is closed: what is sent by it is only looked at, as to whether it can be sent. */
+const { port1: closed } = new /** @type {any} */ (threads).MessageChannel();
+closed.close();
 const EngineTarget = EventTarget;
 const EngineException = DOMException;
 const EngineEvent = MessageEvent;
@@ -31,6 +39,20 @@ function numberOf(name) {
  * @property {import("./buffers.mjs").Buffers} buffers
  */
 
+/** @typedef {Pick<import("./ports.mjs").Envelope, "value" | "isUnread">} Got what a thread gets of a message */
+
+/** @param {unknown} bare value that can be sent @returns {Got} what this thread gets of it */
+function clonedHere(bare) {
+  try {
+    return { value: structuredClone(bare) };
+  } catch (thrown) {
+    return { value: thrown, isUnread: true };
+  }
+}
+
+/** @param {import("./unread.mjs").Found} found ahead of an envelope @returns {Got} */
+const gotOf = (found) => (UNREAD in found ? { value: found[UNREAD], isUnread: true } : { value: found.message.value });
+
 /**
  * Sends a message to all channels of a name, except for the one that sends.
  * @param {Casting} casting
@@ -40,7 +62,8 @@ function numberOf(name) {
  */
 function cast({ ports, moves, mesh, buffers }, from, value, called) {
   const { table, agent } = ports.world;
-  const bare = structuredClone(sent(value, buffers));
+  const bare = sent(value, buffers);
+  post(closed, bare);
   const first = moves.send(called, TO_CHANNELS);
   let count = 0;
   for (let id = 0; id < table.count; id += 1) {
@@ -50,10 +73,10 @@ function cast({ ports, moves, mesh, buffers }, from, value, called) {
     // second one's.
     const number = count === 0 ? first : moves.sendNow();
     count += 1;
-    const envelope = { value: bare, kind: 0, number, ports: [], ids: [] };
+    const envelope = { kind: KIND.MESSAGE, number, ports: [], ids: [] };
     ports.world.noted(number, envelope.kind, bare);
-    if (owner === agent) ports.queueOf(id).push({ ...envelope, value: structuredClone(bare) });
-    else mesh.hand(owner, { kind: "broadcast", id, envelope });
+    if (owner === agent) ports.queueOf(id).push({ ...envelope, ...clonedHere(bare) });
+    else mesh.handWith(owner, { kind: "broadcast", id, envelope }, bare);
     table.addWaiting(id, 1);
     ports.rouse(id);
   }
@@ -97,7 +120,7 @@ class BroadcastChannel extends EngineTarget {
     meta.queue = [];
     meta.refed = true;
     meta.where = this.#where;
-    meta.taker = ({ value }) => this[DELIVER](value);
+    meta.taker = (envelope) => this[DELIVER](envelope);
     table.setName(this.#id, numberOf(this.#name));
     table.start(this.#id);
   }
@@ -177,9 +200,9 @@ class BroadcastChannel extends EngineTarget {
     return this;
   }
 
-  /** @param {unknown} value that a message brings */
-  [DELIVER](value) {
-    this.dispatchEvent(new EngineEvent("message", { data: value }));
+  /** @param {import("./ports.mjs").Envelope} envelope */
+  [DELIVER]({ value, isUnread }) {
+    this.dispatchEvent(new EngineEvent(isUnread ? "messageerror" : "message", { data: value }));
   }
 }
 
@@ -187,6 +210,7 @@ class BroadcastChannel extends EngineTarget {
 export function broadcastClass(given) {
   casting = given;
   const { mesh, ports } = given;
-  mesh.onItem("broadcast", ({ id, envelope }) => void ports.queueOf(id).push(envelope));
+  mesh.onItem("broadcast", ({ id, envelope }, ahead = {}) =>
+    void ports.queueOf(id).push({ ...envelope, ...gotOf(ahead) }));
   return BroadcastChannel;
 }

@@ -59,8 +59,11 @@ export class Ends {
   /** Whether an error of this thread was sent there. */
   #hasReported = false;
 
-  /** @type {string[]} the tests of `node:test` that have failed, in words */
+  /** @type {string[]} the tests of `node:test` that have failed, in words: those that were cancelled come last */
   #failedTests = [];
+
+  /** How many of them were cancelled. */
+  #cancelled = 0;
 
   /** @param {Leaving} leaving */
   constructor(leaving) {
@@ -96,8 +99,10 @@ export class Ends {
   }
 
   /** @param {import("./test-runner.mjs").FailedTest} failed a test of `node:test`: the thread's exit code will say so */
-  testFailed({ name, place, thrown }) {
-    this.#failedTests.push(`failed the test "${name}", at ${place}: ${described(thrown)}`);
+  testFailed({ name, place, thrown, isCancelled }) {
+    const at = this.#failedTests.length - (isCancelled ? 0 : this.#cancelled);
+    this.#failedTests.splice(at, 0, `failed the test "${name}", at ${place}: ${described(thrown)}`);
+    if (isCancelled) this.#cancelled += 1;
   }
 
   /** The program's module of this thread is evaluated, or has thrown. */
@@ -148,6 +153,7 @@ export class Ends {
     this.isEvaluated = false;
     this.#hasReported = false;
     this.#failedTests = [];
+    this.#cancelled = 0;
     this.parentPort = undefined;
     own.exitCode = undefined;
     own._exiting = false;

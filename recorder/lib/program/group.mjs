@@ -51,8 +51,8 @@ function beginProblem(program, why) {
 const channel = () => new MessageChannel();
 
 export class ProgramGroup extends Group {
-  /** @type {Promise<Thread>[]} threads that have begun, and have no number yet */
-  #spare = [];
+  /** @type {Record<"first" | "others", Promise<Thread>[]>} threads that have begun, and have no number yet */
+  #spare = { first: [], others: [] };
 
   /** @type {any[]} ports by which each thread gets ports to others */
   #controls = [];
@@ -89,7 +89,7 @@ export class ProgramGroup extends Group {
     const options = this.refereeOptions({ hasInit: false, hasCheck: false });
     const asked = { ...options, stuck: this.options.stuck, isProgram: true, fresh: false };
     referee.give({ memory: this.memory, plan, rules: this.rules, options: asked });
-    this.#prepare(FIRST_THREADS);
+    this.#prepare(1, FIRST_THREADS - 1);
     meanwhile();
     await this.#grow(FIRST_THREADS);
   }
@@ -146,7 +146,7 @@ export class ProgramGroup extends Group {
   /** @param {number} agent whose thread is ended; another one takes its place */
   async replace(agent) {
     this.#replaced += 1;
-    const [next] = await Promise.all([this.#taken(), this.agents[agent].stop()]);
+    const [next] = await Promise.all([this.#taken(agent), this.agents[agent].stop()]);
     this.threads.delete(this.agents[agent]);
     this.#endChildren(agent);
     await this.#hand(agent, next);
@@ -172,28 +172,39 @@ export class ProgramGroup extends Group {
     }
   }
 
-  /** @param {number} count how many threads are to have begun, and have no number yet */
-  #prepare(count) {
-    const { web = false, wasmAccesses } = this.options;
-    const { memory, plan, rules } = this;
-    while (this.#spare.length < count) {
-      const thread = this.begin(begunThread(PROGRAM_MODULE, FLAGS));
-      const isRelaxed = wasmAccesses === "relaxed";
-      thread.give(PROGRAM_MODULE, { origin: this.#origin, web, isRelaxed, memory, plan, rules });
-      this.#spare.push(thread.next().then(() => thread));
-    }
+  /**
+   * @param {number} firsts how many threads are to have begun that can be the program's first one
+   * @param {number} others how many that can be another one
+   */
+  #prepare(firsts, others) {
+    const { first, others: further } = this.#spare;
+    while (first.length < firsts) first.push(this.#begun(true));
+    while (further.length < others) further.push(this.#begun(false));
   }
 
-  /** @returns {Promise<Thread>} */
-  #taken() {
-    this.#prepare(this.#replaced > FEW_TIMES * this.agents.length ? this.agents.length : 1);
-    return this.inTime(/** @type {Promise<Thread>} */ (this.#spare.shift()));
+  /** @param {boolean} isFirst whether it can be the program's first thread @returns {Promise<Thread>} */
+  #begun(isFirst) {
+    const { web = false, wasmAccesses } = this.options;
+    const { memory, plan, rules } = this;
+    const thread = this.begin(begunThread(PROGRAM_MODULE, FLAGS, isFirst));
+    const isRelaxed = wasmAccesses === "relaxed";
+    thread.give(PROGRAM_MODULE, { origin: this.#origin, web, isRelaxed, memory, plan, rules });
+    return thread.next().then(() => thread);
+  }
+
+  /** @param {number} agent @returns {Promise<Thread>} one that can be this agent */
+  #taken(agent) {
+    const { length } = this.agents;
+    if (this.#replaced > FEW_TIMES * length) this.#prepare(1, length - 1);
+    this.#prepare(agent === 0 ? 1 : 0, agent === 0 ? 0 : 1);
+    return this.inTime(/** @type {Promise<Thread>} */ (this.#spare[agent === 0 ? "first" : "others"].shift()));
   }
 
   /** @param {number} count how many threads are to have a number */
   async #grow(count) {
-    this.#prepare(count - this.agents.length);
-    for (let agent = this.agents.length; agent < count; agent += 1) await this.#hand(agent, await this.#taken());
+    const { length } = this.agents;
+    this.#prepare(length === 0 ? 1 : 0, count - Math.max(length, 1));
+    for (let agent = length; agent < count; agent += 1) await this.#hand(agent, await this.#taken(agent));
     const words = this.board?.words ?? new Int32Array(0);
     store(words, WORD.THREADS, this.agents.length);
     notify(words, WORD.THREADS);

@@ -3,7 +3,7 @@
 
 import publicHooks from "node:async_hooks";
 import fs from "node:fs";
-import { createRequire } from "node:module";
+import Module from "node:module";
 import process from "node:process";
 import { fileURLToPath } from "node:url";
 import { types } from "node:util";
@@ -11,7 +11,7 @@ import { apply } from "../primordials.mjs";
 import { REFUSED } from "../options/refused.mjs";
 import { TRIED } from "../processes/node-versions.mjs";
 
-const required = createRequire(import.meta.url);
+const required = Module.createRequire(import.meta.url);
 const { readFileSync, statSync } = /** @type {any} */ (fs);
 
 /** The URL of a file whose text is a script or a module. */
@@ -130,15 +130,30 @@ export const { makeRequireFunction, loadBuiltinModule } = inside("modules/helper
 /** By which a module of CommonJS has whether its code is running. */
 export const { kIsExecuting } = inside("modules/cjs/loader", { kIsExecuting: "symbol" });
 
-/** Runs what was passed to `process.nextTick`, and all microtasks. */
-export const runTicks = /** @type {() => void} */ (tickCallback());
-
-/** @returns {Function} */
-function tickCallback() {
-  const { _tickCallback } = /** @type {any} */ (process);
-  if (typeof _tickCallback !== "function") lacking.push("process._tickCallback");
-  return _tickCallback?.bind(process);
+/**
+ * What isn't documented of an object that all code has.
+ * @param {string} name
+ * @param {object} owner
+ * @param {readonly string[]} functions that it has to have
+ * @returns {any} the object
+ */
+function withHidden(name, owner, functions) {
+  const own = /** @type {any} */ (owner);
+  lacking.push(...functions.filter((each) => typeof own[each] !== "function").map((each) => `${name}.${each}`));
+  return own;
 }
+
+const { _tickCallback, _getActiveHandles } = withHidden("process", process, ["_tickCallback", "_getActiveHandles"]);
+
+/** Runs what was passed to `process.nextTick`, and all microtasks. */
+export const runTicks = /** @type {() => void} */ (_tickCallback?.bind(process));
+
+/** What keeps this thread's event loop alive. */
+export const activeHandles = /** @type {() => any[]} */ (_getActiveHandles?.bind(process));
+
+/** Finds, loads and compiles modules of CommonJS. */
+export const Modules = withHidden("Module", Module, ["_findPath", "_load", "_resolveFilename"]);
+withHidden("Module.prototype", Modules.prototype, ["_compile"]);
 
 /** @typedef {{ format: string, source: unknown }} Read what was read of a module */
 /** @typedef {{ format?: string, importAttributes?: object }} Asked what is known of a module before it is read */

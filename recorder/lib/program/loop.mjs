@@ -283,8 +283,8 @@ export class Loop {
     const { ports, timers: armed, children, ends } = this.served;
     const texts = armed.alive ? armed.keepers().map(keeperText) : [];
     if (this.#tasks.length > 0) texts.push("a task");
-    children.forEach(({ refed, where }) => {
-      if (refed) texts.push(`the worker started at ${where}`);
+    children.forEach(({ refed, listens, where }) => {
+      if (refed || listens) texts.push(`the worker started at ${where}`);
     });
     return texts.concat(ports.keepers(), ends.keepers());
   }

@@ -4,6 +4,7 @@
 import threads from "node:worker_threads";
 import { WORD } from "../memory/layout.mjs";
 import { uncurried } from "../primordials.mjs";
+import { UNREAD, nextOf } from "./unread.mjs";
 
 const { receiveMessageOnPort: receive } = threads;
 const post = uncurried(threads.MessagePort.prototype.postMessage);
@@ -11,6 +12,7 @@ const { load, wait } = Atomics;
 
 /** @typedef {import("node:worker_threads").MessagePort} Port */
 /** @typedef {Record<string, any>} Item what one thread hands to another */
+/** @typedef {import("./unread.mjs").Found} Found */
 /** @typedef {{ program: string, args: string[] }} Main the URL of a program's main module, and what it is given */
 /** @typedef {{ control: Port, main: Main }} Numbered `control` comes from the thread that has started this one */
 
@@ -18,7 +20,7 @@ export class Mesh {
   /** @type {(Port | undefined)[]} by the agents to which they lead */
   #peers = [];
 
-  /** @type {Record<string, (item: any) => void>} what is done with an item, by its kind */
+  /** @type {Record<string, (item: any, value?: Found) => void>} what is done with an item, by its kind */
   #takers = {};
 
   /** @type {Main} */
@@ -42,7 +44,7 @@ export class Mesh {
     return this.#main;
   }
 
-  /** @param {string} kind of items @param {(item: any) => void} take */
+  /** @param {string} kind of items @param {(item: any, value?: Found) => void} take gets the value ahead of one, too */
   onItem(kind, take) {
     this.#takers[kind] = take;
   }
@@ -71,6 +73,18 @@ export class Mesh {
     post(this.#peers[agent], { ...item, run: this.words[WORD.RUN] }, transferred);
   }
 
+  /**
+   * Hands an item to another thread, and a value ahead of it, which that thread may be unable to read.
+   * @param {number} agent
+   * @param {Item} item
+   * @param {unknown} value
+   */
+  handWith(agent, item, value) {
+    this.#meet();
+    post(this.#peers[agent], { value, isAhead: true });
+    this.hand(agent, item);
+  }
+
   /** @param {Item} item for all other threads */
   handAll(item) {
     this.#meet();
@@ -85,11 +99,22 @@ export class Mesh {
     this.#meet();
     for (let agent = 0; agent < this.#peers.length; agent += 1) {
       const peer = this.#peers[agent];
-      if (peer === undefined) continue;
-      for (let found = receive(peer); found !== undefined; found = receive(peer)) {
-        // What another run has left belongs to no thread.
-        if (found.message.run === this.words[WORD.RUN]) this.#takers[found.message.kind](found.message);
+      if (peer !== undefined) this.#takeFrom(peer);
+    }
+  }
+
+  /** @param {Port} peer */
+  #takeFrom(peer) {
+    /** @type {Found | undefined} */
+    let ahead;
+    for (let found = nextOf(peer); found !== undefined; found = nextOf(peer)) {
+      if (UNREAD in found || found.message.isAhead) {
+        ahead = found;
+        continue;
       }
+      // What another run has left belongs to no thread.
+      if (found.message.run === this.words[WORD.RUN]) this.#takers[found.message.kind](found.message, ahead);
+      ahead = undefined;
     }
   }
 

@@ -53,7 +53,7 @@ export class PortEvents {
     scope.runInAsyncScope(() => {
       if (taker !== undefined) taker(envelope);
       else if (envelope.kind === KIND.CLOSE) this.#closed(port);
-      else this.emit(port, "message", envelope.value);
+      else this.emit(port, envelope.isUnread ? "messageerror" : "message", envelope.value);
     });
   }
 
@@ -176,7 +176,7 @@ export class PortEvents {
     meta.listens = listens;
     meta.refed = listens && !meta.closed;
     if (!listens) {
-      if (!meta.closed) this.ports.world.table.stop(meta.id);
+      if (!meta.closed) this.ports.stop(port);
       return;
     }
     meta.where = this.ports.world.here();

@@ -4,14 +4,15 @@
 
 import { AsyncResource } from "node:async_hooks";
 import threads from "node:worker_threads";
+import { described } from "../agent/described.mjs";
 import { copied, isArray, mapForEach, put, uncurried, weakGet, weakHas, weakSet } from "../primordials.mjs";
 import { NOBODYS } from "../board/port-table.mjs";
 import { FileHandle } from "./file-handle.mjs";
 import { toPort, toThread } from "./moves.mjs";
 import { nodeError } from "./node-error.mjs";
+import { UNREAD, nextOf } from "./unread.mjs";
 import { received, sent } from "./values.mjs";
 
-const { receiveMessageOnPort: receive } = threads;
 /** @type {{ new (): { port1: any, port2: any } }} */
 const EngineChannel = /** @type {any} */ (threads.MessageChannel);
 const { WeakMap: EngineWeakMap } = globalThis;
@@ -23,6 +24,9 @@ const close = uncurried(threads.MessagePort.prototype.close);
 /** What a message is, besides one of the program's code. */
 export const KIND = Object.freeze({ MESSAGE: 0, CLOSE: 1, ONLINE: 2, ERROR: 3, EXIT: 4 });
 
+/** @param {number} kind @returns {boolean} whether it is about a thread: it comes, also if nobody listens to messages */
+const isUrgent = (kind) => kind > KIND.CLOSE;
+
 /** @typedef {import("node:worker_threads").MessagePort} Port */
 
 /**
@@ -32,6 +36,7 @@ export const KIND = Object.freeze({ MESSAGE: 0, CLOSE: 1, ONLINE: 2, ERROR: 3, E
  * @property {number} number of the message in the run
  * @property {Port[]} ports that are transferred in it
  * @property {number[]} ids of these
+ * @property {boolean} [isUnread] whether it couldn't be read: the value is what was thrown
  */
 
 /**
@@ -68,6 +73,7 @@ export const KIND = Object.freeze({ MESSAGE: 0, CLOSE: 1, ONLINE: 2, ERROR: 3, E
  * @property {(why: string) => never} refuse ends the run
  * @property {(name: string, act: () => void) => void} later does something as a task of its own
  * @property {(number: number, kind: number, value: unknown) => void} noted notes what is in a message that is sent
+ * @property {(text: string) => void} note notes what happens to the thread
  */
 
 /** @param {any} items @returns {any[]} a list of them: node, too, asks an array for no iterator */
@@ -108,6 +114,16 @@ const isIterable = (value) => typeof value === "object" && value !== null && Sym
 /** @param {string} name of an argument */
 const notIterable = (name) =>
   nodeError("ERR_INVALID_ARG_TYPE", `Optional ${name} argument must be an iterable`, {}, TypeError);
+
+/** @param {any} port @returns {Envelope | undefined} its next message; undefined: it was closed */
+function envelopeOf(port) {
+  const found = nextOf(port);
+  if (found === undefined) return undefined;
+  const about = nextOf(port);
+  if (about === undefined) return undefined;
+  if (UNREAD in found) return { ...about.message, value: found[UNREAD], ports: [], isUnread: true };
+  return { ...about.message, ...found.message };
+}
 
 export class Ports {
   /** @type {WeakMap<object, Meta>} */
@@ -198,12 +214,15 @@ export class Ports {
     const number = called === undefined ? moves.sendNow() : moves.send(called, this.#goesTo(id ^ 1));
     const ids = ports.map((each) => this.known(each).id);
     this.world.noted(number, kind, bare);
-    post(port, { value: bare, kind, number, ports, ids }, list);
+    // The other side may be unable to read the value. What is known about the message comes by one of its own.
+    post(port, { value: bare, ports }, list);
+    post(port, { kind, number, ids });
     for (let at = 0; at < ports.length; at += 1) this.leave(ports[at]);
     const peer = id ^ 1;
     if (table.isClosed(peer)) return;
     if (kind === KIND.CLOSE) table.closeFrom(peer);
     else table.addWaiting(peer, 1);
+    if (isUrgent(kind)) table.addUrgent(peer, 1);
     this.rouse(peer);
   }
 
@@ -212,19 +231,29 @@ export class Ports {
    * @returns {Envelope | undefined} its next message, if one waits
    */
   take(port) {
-    const { table, moves, buffers } = this.world;
+    const { table, moves, buffers, mesh, note } = this.world;
     const { id, queue } = this.known(port);
     if (table.waiting(id) === 0) return undefined;
-    if (queue !== undefined) this.world.mesh.take();
-    const found = queue === undefined ? receive(port) : { message: queue.shift() };
+    if (queue !== undefined) mesh.take();
+    const envelope = queue === undefined ? envelopeOf(port) : queue.shift();
     table.addWaiting(id, -1);
-    if (found === undefined) return { value: undefined, kind: KIND.CLOSE, number: -1, ports: [], ids: [] };
-    /** @type {Envelope} */
-    const envelope = found.message;
-    envelope.ports.forEach((each, at) => this.adopt(each, envelope.ids[at]));
+    if (envelope === undefined) return { value: undefined, kind: KIND.CLOSE, number: -1, ports: [], ids: [] };
+    if (isUrgent(envelope.kind)) table.addUrgent(id, -1);
+    if (envelope.isUnread) envelope.ids.forEach((each) => this.#lose(each));
+    else envelope.ports.forEach((each, at) => this.adopt(each, envelope.ids[at]));
     moves.receive(envelope.number);
-    envelope.value = received(envelope.value, buffers);
+    if (envelope.isUnread) note(`gets messageerror, ${described(envelope.value).split("\n")[0]}`);
+    else envelope.value = received(envelope.value, buffers);
     return envelope;
+  }
+
+  /** @param {number} id of a port that was transferred in a message that couldn't be read: node has closed it */
+  #lose(id) {
+    const { table } = this.world;
+    table.close(id);
+    if (table.isClosed(id ^ 1)) return;
+    table.closeFrom(id ^ 1);
+    this.rouse(id ^ 1);
   }
 
   /** @param {number} id of a port of this thread that has a queue @returns {Envelope[]} */
@@ -240,6 +269,11 @@ export class Ports {
   /** @param {any} port whose messages are delivered from now on */
   start(port) {
     this.world.table.start(this.known(port).id);
+  }
+
+  /** @param {any} port whose messages wait from now on */
+  stop(port) {
+    this.world.table.stop(this.known(port).id);
   }
 
   /** @param {any} port that is closed by this thread: the other side learns that after what was sent before */

@@ -3,23 +3,21 @@
 // read at once, and the engine compiles CommonJS once in a thread. Load this file before anything replaces what node's
 // modules export.
 
-import Module from "node:module";
 import path from "node:path";
 import process from "node:process";
 import { fileURLToPath, pathToFileURL } from "node:url";
 import { apply } from "../primordials.mjs";
 import { CompiledFunctions } from "./compiled-functions.mjs";
 import {
-  SideEffectFreeRegExpPrototypeSymbolReplace, freshLoader, kIsExecuting, loadBuiltinModule, makeRequireFunction,
-  translators,
+  Modules, SideEffectFreeRegExpPrototypeSymbolReplace, freshLoader, kIsExecuting, loadBuiltinModule,
+  makeRequireFunction, translators,
 } from "./internals.mjs";
 import { TestRunner } from "./test-runner.mjs";
 
 // Node makes a context of its own when it first needs one, for the text of an error. From now on it has one.
 SideEffectFreeRegExpPrototypeSymbolReplace(/a/, "", "");
 
-const Modules = /** @type {any} */ (Module);
-const required = Module.createRequire(import.meta.url);
+const required = Modules.createRequire(import.meta.url);
 
 /** @type {readonly string[]} */
 const NO_NAMES = Object.freeze([]);

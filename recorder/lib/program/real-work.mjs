@@ -1,11 +1,8 @@
 // What a thread of a program asks of the machine, and the machine answers: by sockets, pipes and child processes. It is
 // noted by name and line, since such a run repeats only as far as these answers do.
 
-import process from "node:process";
+import { activeHandles } from "./internals.mjs";
 import { READING } from "./reading.mjs";
-
-/** @type {() => any[]} */
-const activeHandles = /** @type {any} */ (process)._getActiveHandles.bind(process);
 
 /** What each thread has by itself, and isn't work that is under way. */
 const OURS = new Set(["Immediate", "MessagePort", "Timeout", ...READING]);

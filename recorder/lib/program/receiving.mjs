@@ -19,5 +19,6 @@ export const receiverOf = (ports, moves) => (/** @type {any} */ given) => {
     ports.close(given);
     return undefined;
   }
+  if (envelope.isUnread) throw envelope.value;
   return { message: envelope.value };
 };

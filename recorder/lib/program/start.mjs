@@ -1,12 +1,12 @@
 // What a program's thread begins with: the program's main module, or what a Worker was given.
 
-import Module from "node:module";
 import process from "node:process";
 import { fileURLToPath, pathToFileURL } from "node:url";
+import { Modules } from "./internals.mjs";
 import { nodeError } from "./node-error.mjs";
 
 /** @type {(path: string, folders: null, isMain: boolean) => string | false} */
-const findPath = /** @type {any} */ (Module)._findPath;
+const findPath = Modules._findPath;
 
 const EVALUATED = "[worker eval]";
 

@@ -41,8 +41,8 @@ export const isAnyPiped = ({ stdin, stdout, stderr }) => stdin || stdout || stde
  */
 function serve(ports, port, streamOf) {
   port[kWaitingStreams] = 0;
-  ports.known(port).taker = ({ kind, value }) => {
-    if (kind !== KIND.MESSAGE) return;
+  ports.known(port).taker = ({ kind, value, isUnread }) => {
+    if (kind !== KIND.MESSAGE || isUnread) return;
     const served = streamOf(value.stream);
     if (value.type === messageTypes.STDIO_WANTS_MORE_DATA) served[kStdioWantsMoreDataCallback]();
     else value.chunks.forEach((/** @type {any} */ { chunk, encoding }) => served.push(chunk, encoding));

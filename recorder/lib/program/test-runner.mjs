@@ -1,16 +1,27 @@
 // `node:test` in a program: node's own runner of tests, made anew for each run. It goes on by the thread's loop, as all
 // code of the program does.
 
-import Module from "node:module";
+import { isAbsolute } from "node:path";
+import { pathToFileURL } from "node:url";
 import { apply } from "../primordials.mjs";
-import { freshTests } from "./internals.mjs";
+import { Modules, freshTests } from "./internals.mjs";
 
-const Modules = /** @type {any} */ (Module);
-
-/** @typedef {{ name: string, place: string, thrown: unknown }} FailedTest */
+/**
+ * @typedef {object} FailedTest
+ * @property {string} name
+ * @property {string} place
+ * @property {unknown} thrown
+ * @property {boolean} isCancelled whether it fails only because the test or suite that it is in has failed
+ */
 
 /** What a suite fails by if only tests in it fail. */
 const BY_TESTS = "subtestsFailed";
+
+/** What a test fails by if that which it is in has failed before. */
+const BY_PARENT = "cancelledByParent";
+
+/** @param {string | undefined} file @returns {string} its URL: a path may have spaces, and places in texts have none */
+const urlOf = (file) => (file !== undefined && isAbsolute(file) ? pathToFileURL(file).href : `${file}`);
 
 export class TestRunner {
   /** @type {(failed: FailedTest) => void} gets each test that fails */
@@ -43,7 +54,8 @@ export class TestRunner {
     this.#stop ??= freshTests((name, where, { error }, directive) => {
       const isExpected = directive?.todo !== undefined && directive.todo !== false;
       if (isExpected || error?.failureType === BY_TESTS) return;
-      this.onFailed({ name, place: `${where?.file}:${where?.line}:${where?.column}`, thrown: error?.cause ?? error });
+      const place = `${urlOf(where?.file)}:${where?.line}:${where?.column}`;
+      this.onFailed({ name, place, thrown: error?.cause ?? error, isCancelled: error?.failureType === BY_PARENT });
     }, () => /** @type {never} */ (this.refuse("test.run")));
   }
 }

@@ -211,14 +211,14 @@ function partsOf(player, blocks, mesh) {
   const late = {};
   const later = (/** @type {string} */ name, /** @type {() => void} */ act) => late.loop?.later(name, act);
   const notes = new TaskNotes(shared.tasks);
-  const ports = new Ports({ agent, table, moves, buffers, mesh, here, refuse, later, noted: notingOf(board, notes) });
+  /** @type {import("./ends.mjs").Leaving["note"]} */
+  const note = (text, place) => late.loop?.note(text, place);
+  const ports = new Ports({ agent, table, moves, buffers, mesh, here, refuse, later, note, noted: notingOf(board, notes) });
   const isShown = () => board.words[WORD.IS_SILENT] === 0 && isPlaying();
   const spawned = new Children(new Pids(shared.pids[agent]), isShown);
   const real = new RealWork(new Notes(shared.notes[agent]), spawned, here);
   const leave = leaveOf(player, late);
   const keepers = new Keepers(shared.keepers[agent]);
-  /** @type {import("./ends.mjs").Leaving["note"]} */
-  const note = (text, place) => late.loop?.note(text, place);
   const about = { keepers, note, printed: lastError, closeSockets: () => real.close() };
   const ends = new surroundings.Ends({ agent, player, ports, threads: all, here, leave, ...about });
   const drain = () => late.loop?.drain();

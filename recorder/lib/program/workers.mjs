@@ -25,7 +25,7 @@ const { prototype: engine } = /** @type {any} */ (threads.Worker);
  * @typedef {object} OfNode what else workers of node need of their thread
  * @property {(name: string, act: () => void) => void} later
  * @property {Map<unknown, unknown>} environment what `setEnvironmentData` has set
- * @property {Set<{ refed: boolean, where: string }>} children workers that haven't ended
+ * @property {Set<import("./served.mjs").Child>} children workers that haven't ended
  */
 
 /** @typedef {import("./thread-start.mjs").Starting & OfNode} Starting */
@@ -176,7 +176,7 @@ class Worker extends EventEmitter {
     const { agent, port, where, stdio } = started(world(), file, options ?? {}, new.target);
     this.#agent = agent;
     this.#port = port;
-    this.#own = { refed: true, where };
+    this.#own = { refed: true, listens: false, where };
     this.#name = nameOf(options ?? {});
     this.threadId = agent;
     this.#limits = limitsOf(options ?? {});
@@ -188,6 +188,18 @@ class Worker extends EventEmitter {
     ports.known(port).taker = (envelope) => this.#take(envelope);
     ports.known(port).keeps = false;
     ports.start(port);
+    const isFirst = (/** @type {unknown} */ name) => name === "message" && this.listenerCount("message") === 0;
+    this.on("newListener", (/** @type {unknown} */ name) => isFirst(name) && this.#listens(true));
+    this.on("removeListener", (/** @type {unknown} */ name) => isFirst(name) && this.#listens(false));
+  }
+
+  /** @param {boolean} isListening whether the program listens to its messages from now on; if not, they wait, as in node */
+  #listens(isListening) {
+    if (!this.#isAlive) return;
+    const { ports } = world();
+    if (isListening) ports.start(this.#port);
+    else ports.stop(this.#port);
+    this.#own.listens = isListening;
   }
 
   /** @param {unknown} value @param {unknown} [transfer] */
@@ -216,7 +228,7 @@ class Worker extends EventEmitter {
   }
 
   unref() {
-    this.#own.refed = false;
+    Object.assign(this.#own, { refed: false, listens: false });
   }
 
   /** @returns {Promise<number | undefined>} its exit code */
@@ -248,8 +260,9 @@ class Worker extends EventEmitter {
   }
 
   /** @param {import("./ports.mjs").Envelope} envelope */
-  #take({ kind, value }) {
-    if (kind === KIND.MESSAGE) this.emit("message", value);
+  #take({ kind, value, isUnread }) {
+    if (isUnread) this.emit("messageerror", value);
+    else if (kind === KIND.MESSAGE) this.emit("message", value);
     else if (kind === KIND.ONLINE) this.emit("online");
     else if (kind === KIND.ERROR) this.emit("error", deserializeError(value));
     else if (kind === KIND.EXIT) this.#gone(value);

@@ -11,11 +11,11 @@ import { defaultsOf } from "../options/table.mjs";
 import { firstWorkers, learns } from "../processes/first-workers.cjs";
 import { framesOf } from "../processes/place-of-thread.mjs";
 import { begunThread } from "../processes/thread.mjs";
+import { within } from "../processes/within.mjs";
 import { problemIn } from "./given-calls.mjs";
 import { loadProblem } from "./load-problem.mjs";
 import { RefereeThread } from "./referee-thread.mjs";
 import { TextMaker } from "./taken.mjs";
-import { within } from "./within.mjs";
 
 /** @typedef {import("../processes/thread.mjs").Thread} Thread */
 /** @typedef {import("./outcome.mjs").Aside} Aside */

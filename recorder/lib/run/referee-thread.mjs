@@ -2,7 +2,7 @@
 // thread, when a group ends whose referee has done its work.
 
 import { begunThread, keepThread, keptThread } from "../processes/thread.mjs";
-import { within } from "./within.mjs";
+import { within } from "../processes/within.mjs";
 
 /** @typedef {import("../processes/thread.mjs").Thread} Thread */
 /** @typedef {{ seeds: import("./outcome.mjs").Wanted[] } | { learns: true }} Work */

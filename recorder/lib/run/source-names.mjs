@@ -80,7 +80,7 @@ export class SourceNames {
   /** @param {string} url of a file @returns {string} its path from the module's folder; on another drive the whole path */
   #nearName(url) {
     const { path, isWindows } = this.platform;
-    const [from, to] = [this.module, url].map((each) => fileURLToPath(each, { windows: isWindows }));
+    const [from, to] = [this.module, realUrl(url)].map((each) => fileURLToPath(each, { windows: isWindows }));
     const name = path.relative(path.dirname(from), to);
     return path.isAbsolute(name) ? to : name.replaceAll(path.sep, "/");
   }

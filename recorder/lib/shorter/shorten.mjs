@@ -48,6 +48,9 @@ const MOST_RUNS = 400;
 
 const MOST_MILLISECONDS = 10_000;
 
+/** What a run says whose message has a line only if lines are noted: then runs that are compared all note them. */
+const UNSETTLED = /has a top-level await that never settles/;
+
 const OTHERWISE = "it couldn't be made again in the same way";
 const NOT_AGAIN = `${OTHERWISE}: its agents do something else when they run once more`;
 
@@ -198,8 +201,9 @@ class Search {
    * @returns {Promise<Measured | undefined>} undefined: it doesn't fail in the same way
    */
   async #made(row) {
-    const { seed, ending } = this.first.outcome;
-    const wanted = { seed, whole: false, row, wantsRow: true, isTrial: true, wantsLines: ending === "race" };
+    const { seed, ending, detail } = this.first.outcome;
+    const wantsLines = ending === "race" || UNSETTLED.test(detail);
+    const wanted = { seed, whole: false, row, wantsRow: true, isTrial: true, wantsLines };
     const run = await this.group.one(wanted);
     this.runs += 1;
     this.limits.onTry({ runs: this.runs, changes: Math.min(this.best.changes, this.current.changes) });
@@ -230,13 +234,14 @@ export async function shorten(group, summary, limits = {}) {
   const begun = performance.now();
   const why = whyNot(summary);
   if (why !== undefined) return asFound(summary, { row: [] }, 0, why);
-  const { seed } = summary;
+  const { seed, detail } = summary;
   const all = { most: MOST_RUNS, milliseconds: MOST_MILLISECONDS, onTry: () => {}, isFresh: false, ...limits };
   const how = summary.row === undefined ? {} : { row: summary.row, isExact: true };
   const times = timesOf(summary);
   let [first, made, isAgain] = [/** @type {One} */ ({}), 0, false];
   for (; made < times && !isAgain; made += 1) {
-    first = await group.one({ seed, whole: true, wantsRow: true, isFresh: all.isFresh, ...how });
+    const wanted = { seed, whole: true, wantsRow: true, isFresh: all.isFresh, needsTrace: UNSETTLED.test(detail) };
+    first = await group.one({ ...wanted, ...how });
     isAgain = areSame(summary, first.outcome) && failsAlike(first, first);
   }
   if (!isAgain) return asFound(summary, first.outcome, made, notAgain(summary));

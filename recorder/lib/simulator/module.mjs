@@ -92,11 +92,6 @@ export class ModuleSimulator {
     return { status, output: decoder.decode(output), complaint };
   }
 
-  /** Whether this module can search. */
-  get canSearch() {
-    return this.#asked().canSearch;
-  }
-
   /**
    * Searches the schedules of a file of automata.
    * @param {SearchJob} job

@@ -54,7 +54,7 @@ export class NativeSimulator {
   run(job, input) {
     const ended = this.#ended(wordsOf(job), input);
     if (ended.status !== REFUSED_WORDS) return ended;
-    throw new NoSabsim(`${this.path} can't do ${job.job}, so it is older than the recorder: ${ended.complaint.trim()}`);
+    throw this.#olderThan(job.job, ended.complaint);
   }
 
   /**
@@ -62,7 +62,7 @@ export class NativeSimulator {
    * @param {SearchJob} job
    * @param {string} input
    * @param {AbortSignal} [signal] ends the program
-   * @returns {Promise<EndedSearch | undefined>} undefined: the program has no search
+   * @returns {Promise<EndedSearch>}
    * @throws {NoSabsim}
    */
   async search({ timeouts, limit, format = "plain" }, input, signal) {
@@ -77,8 +77,13 @@ export class NativeSimulator {
       child.on("error", (error) => fail(signal?.reason ?? new NoSabsim(`${this.path} can't be run: ${error.message}`)));
       child.on("close", done);
     });
-    if (status === REFUSED_WORDS) return undefined;
+    if (status === REFUSED_WORDS) throw this.#olderThan("search", complaint());
     return { status, output: output(), complaint: complaint(), leftOut: 0 };
+  }
+
+  /** @param {string} job that the program refuses @param {string} complaint @returns {NoSabsim} */
+  #olderThan(job, complaint) {
+    return new NoSabsim(`${this.path} can't do ${job}, so it is older than the recorder: ${complaint.trim()}`);
   }
 
   /** @param {string[]} words @param {string} input @returns {Ended} */

@@ -25,7 +25,7 @@ const SLOWEST = [
  */
 export const UNIT = new Set([
   "changed-traces", "copied-runs", "deadlines", "final-state", "known-calls", "layers", "nearest", "options",
-  "outbox", "page-changed", "page-model", "questions", "races", "remote-job", "schedule",
+  "outbox", "page-changed", "page-model", "patience", "questions", "races", "remote-job", "schedule",
   "simulator", "sizes", "strategy", "summary", "values",
 ].map((name) => `${name}${ENDING}`));
 

@@ -1,13 +1,14 @@
-//! What jobs, races and verdicts write is flushed, and a flush that fails is reported.
+//! What jobs, races, verdicts and searches write is flushed, and a flush that fails is reported.
 //!
 //! The program's standard output has no flush that can fail, so the built program can't show this.
 
 use crate::expecting::expect;
 use crate::scripts::{STORE_AND_LOAD, STORED_AND_LOADED};
-use sab_command::{Job, RaceJob, RunForm};
+use sab_automata::Timeouts;
+use sab_command::{Job, RaceJob, RunForm, SearchJob};
 use sab_ending::Outcome;
 use sab_report::{Format, Lines, ReportForm, VerdictFormat};
-use sab_run::{Failure, judge_trace, run, run_race};
+use sab_run::{Failure, judge_trace, run, run_race, run_search};
 use sab_tool::{Share, ToolFault};
 use std::alloc::Global;
 use std::io;
@@ -208,6 +209,36 @@ fn is_judged(alloc: Global, is_stuck: bool) -> bool {
 fn a_verdict_on_a_trace_is_flushed(rt: HostRuntime) -> Result<(), Fail> {
     for is_stuck in [false, true] {
         expect(is_judged(rt.alloc(), is_stuck), ITS_RACE)?;
+    }
+    Ok(())
+}
+
+/// An agent that waits without a timeout.
+const SLEEPER: &str = r#"{"blocks":[4],
+"views":[{"name":"m","kind":"Int32","block":0,"offset":0,"length":null}],
+"automata":[{"name":"sleeper","nodes":[{"call":["wait","m",0,0],"edges":[["ok",1]]},{"finished":true}]}],
+"agents":[{"automaton":"sleeper","block":true}]}"#;
+
+/// What a search finds.
+const ITS_DEADLOCK: &str = "closed: 2 states, 1 act, timeouts early\ndeadlock: 1 state; 0 wait\n";
+
+/// Whether what is found is written and flushed; or it is reported that its flush fails.
+fn is_searched(alloc: Global, is_stuck: bool) -> bool {
+    let search = SearchJob {
+        timeouts: Timeouts::Early,
+        limit: 2,
+        format: VerdictFormat::Plain,
+        states: false,
+    };
+    let mut output = Basin::new(alloc, is_stuck);
+    let returned = run_search(alloc, search, false, &mut SLEEPER.as_bytes(), &mut output);
+    output.has(ITS_DEADLOCK, returned, Outcome::Flawed)
+}
+
+#[test]
+fn a_search_flushes_what_it_writes(rt: HostRuntime) -> Result<(), Fail> {
+    for is_stuck in [false, true] {
+        expect(is_searched(rt.alloc(), is_stuck), ITS_DEADLOCK)?;
     }
     Ok(())
 }

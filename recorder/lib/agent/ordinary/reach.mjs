@@ -67,7 +67,8 @@ function eachWithin(object, visit) {
 }
 
 /**
- * Whether memory can be reached from a value.
+ * Whether memory can be reached from a value. Objects may be in each other so deep that no function could call itself for
+ * each.
  * @param {unknown} value
  * @param {number} depth how many objects deep is looked
  * @param {boolean} [suspicious] whether a getter counts too
@@ -76,20 +77,28 @@ function eachWithin(object, visit) {
  */
 export function reaches(value, depth, suspicious = false, isIt = isWatched) {
   if (isIt(value)) return true;
-  if (depth === 0 || isLeaf(value)) return false;
+  if (depth === 0 || isLeaf(value) || typeof value === "function") return false;
   const met = new EngineSet();
-  /** @type {(inner: any, left: number) => boolean} */
-  const look = (inner, left) => {
-    if (isIt(inner)) return true;
-    if (left === 0 || isLeaf(inner) || typeof inner === "function" || setHas(met, inner)) return false;
+  setAdd(met, value);
+  let isFound = false;
+  /** @type {any[]} */
+  let next = [];
+  const visit = (/** @type {unknown} */ inner) => {
+    if (isFound) return;
+    isFound = isIt(inner);
+    if (isFound || isLeaf(inner) || typeof inner === "function" || setHas(met, inner)) return;
     setAdd(met, inner);
-    let found = false;
-    const isKnown = eachWithin(inner, (next) => {
-      found = found || look(next, left - 1);
-    });
-    return found || (suspicious && !isKnown);
+    next[next.length] = inner;
   };
-  return look(value, depth);
+  for (let all = [value], left = depth; all.length > 0 && left > 0; left -= 1) {
+    next = [];
+    for (let at = 0; at < all.length; at += 1) {
+      const isKnown = eachWithin(/** @type {object} */ (all[at]), visit);
+      if (isFound || (suspicious && !isKnown)) return true;
+    }
+    all = next;
+  }
+  return false;
 }
 
 /**

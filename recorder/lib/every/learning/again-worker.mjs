@@ -1,5 +1,5 @@
-// The thread that learns each edge once more, in the code as it is written: its module was loaded anew, and the edges
-// come in reverse order.
+// The thread that learns each beginning and each edge once more, in the code as it is written: its module was loaded
+// anew, and the edges come in reverse order.
 
 import { workerData } from "node:worker_threads";
 import { basesOf } from "../search/file.mjs";
@@ -50,6 +50,7 @@ class Again {
 
   /** @param {EdgeData} edge @returns {From[]} the nodes on the way to it and over it, with their answers */
   #historyOf({ from, besides }) {
+    if (from === undefined) return [];
     const history = [from];
     /** @type {From | undefined} */
     let before;

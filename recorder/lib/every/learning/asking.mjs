@@ -4,6 +4,7 @@
 import { answerOfRead, bytesOfRead } from "../search/elements.mjs";
 import { DOES, DONE } from "../search/nodes.mjs";
 import { CantLearn, askedAccess, askedCall, returned } from "./asked.mjs";
+import { hadOtherNext } from "./iterators.mjs";
 
 /** @typedef {import("../search/nodes.mjs").Node} Node */
 /** @typedef {import("../search/nodes.mjs").Answer} Answer */
@@ -25,7 +26,22 @@ const BROKEN = Object.freeze({ isBrokenOff: true });
 const MOST_CAUGHT = 10_000;
 
 const PUTS = "--all can't learn what the agents do: one gives the object of a buffer a property or another prototype";
+const REPLACES_NEXT = "it has replaced the `next` of all iterators of arrays";
 const { prototype: ofBuffers } = SharedArrayBuffer;
+
+/** @param {string} why @param {string} line */
+const cantText = (why, line) => `--all can't learn what the agents do: ${why}, at ${line}`;
+
+/**
+ * `some` of arrays is the agents' own here.
+ * @template Item
+ * @param {Item[]} list
+ * @param {(item: Item) => boolean} has
+ */
+function isAny(list, has) {
+  for (const item of list) if (has(item)) return true;
+  return false;
+}
 
 /** @param {object} buffer @returns {boolean} whether an agent keeps something in its object, from run to run */
 const hasMore = (buffer) =>
@@ -45,8 +61,12 @@ export class Asker {
     this.run = undefined;
     this.isBroken = false;
     this.caught = 0;
-    /** @type {{ block: number, from: number, to: number } | undefined} a write that is being made */
+    /** @type {{ block: number, from: number, to: number, line?: string } | undefined} a write that is being made */
     this.writing = undefined;
+    /** Whether the lines of writes are noted: they take time, and writes are asked for after they were made. */
+    this.notesLines = false;
+    /** @type {string | undefined} where the write is that is asked for */
+    this.askedAt = undefined;
     /** Whether no wait ends by itself. */
     this.isEndless = false;
     /** @type {() => string} where the agent that runs now is */
@@ -84,7 +104,8 @@ export class Asker {
       return { isBroken: this.isBroken, thrown, hasThrown: true };
     } finally {
       this.run = undefined;
-      if (this.buffers.some(hasMore)) this.refused ??= new CantLearn(PUTS, true);
+      if (hadOtherNext()) this.refused ??= new CantLearn(cantText(REPLACES_NEXT, "its end"), true);
+      if (isAny(this.buffers, hasMore)) this.refused ??= new CantLearn(PUTS, true);
       if (this.refused !== undefined) throw this.refused;
     }
   }
@@ -100,7 +121,7 @@ export class Asker {
 
   /** @param {string} why @returns {never} */
   refuse(why) {
-    this.refused ??= new CantLearn(`--all can't learn what the agents do: ${why}, at ${this.lineHere()}`, true);
+    this.refused ??= new CantLearn(cantText(why, this.lineHere()), true);
     return this.#breakOff();
   }
 
@@ -112,14 +133,16 @@ export class Asker {
 
   /** Goes on only if the agent wasn't broken off before. */
   #enter() {
+    if (hadOtherNext()) this.refuse(REPLACES_NEXT);
     if (!this.isBroken) return;
     this.caught += 1;
     if (this.caught > MOST_CAUGHT) throw this.refused ??= new CantLearn("it catches everything, and goes on for ever");
     throw BROKEN;
   }
 
-  /** @param {Asked} asked @returns {Answer} */
-  #ask(asked) {
+  /** @param {Asked} asked @param {string} [line] where it is, if the agent isn't there any more @returns {Answer} */
+  #ask(asked, line) {
+    this.askedAt = line;
     const answer = /** @type {Run} */ (this.run).answer(asked);
     return answer ?? this.#breakOff();
   }
@@ -127,9 +150,9 @@ export class Asker {
   /** A write is noted before it is made. What it has written is known when the agent asks for something else. */
   #endWrite() {
     if (this.writing === undefined) return;
-    const { block, from, to } = this.writing;
+    const { block, from, to, line } = this.writing;
     this.writing = undefined;
-    this.#ask(askedAccess(block, from, to - from, this.bases[block], this.bytes[block].slice(from, to)));
+    this.#ask(askedAccess(block, from, to - from, this.bases[block], this.bytes[block].slice(from, to)), line);
   }
 
   /**
@@ -162,7 +185,7 @@ export class Asker {
     this.#endWrite();
     if (from >= to) return;
     if (writes) {
-      this.writing = { block, from, to };
+      this.writing = { block, from, to, line: this.notesLines ? this.lineHere() : undefined };
       return;
     }
     const answer = this.#ask(askedAccess(block, from, to - from, this.bases[block]));

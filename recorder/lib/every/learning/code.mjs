@@ -4,11 +4,15 @@
 import { Refused } from "../../options/refused.mjs";
 import { Builtins } from "../state/builtins.mjs";
 import { Capture } from "../state/capture.mjs";
+import { beginInstalled } from "../state/installed.mjs";
 import { Runtime } from "../state/runtime.mjs";
 import { CantShow } from "../state/walk.mjs";
 import { keyOf } from "./asked.mjs";
 import { Graph } from "./graph.mjs";
+import { hadOtherNext } from "./iterators.mjs";
 
+const REPLACES_NEXT =
+  "--all can't learn what the agents do: a module replaces the `next` of all iterators of arrays";
 const PRELUDE = new URL("../state/prelude.mjs", import.meta.url).href;
 
 /** @typedef {import("./asked.mjs").Asked} Asked */
@@ -68,6 +72,7 @@ export class Code {
     this.renewals += 1;
     this.runtime.beginModules();
     this.#exports = this.graph.made(this.runtime.calls);
+    if (hadOtherNext()) throw new Refused(REPLACES_NEXT);
     this.runtime.endModules();
   }
 
@@ -98,6 +103,7 @@ export function loadCode(url, flaw) {
   const builtins = new Builtins();
   builtins.take(graph.nodes);
   builtins.close();
+  runtime.installed = beginInstalled();
   const texts = new Map([...own.texts, ...graph.texts]);
   return new Code(url, graph, runtime, builtins, new Capture(runtime, builtins, texts, flaw));
 }

@@ -6,6 +6,7 @@ import { basename } from "node:path";
 import { fileURLToPath } from "node:url";
 import { Script } from "node:vm";
 import { Refused } from "../../options/refused.mjs";
+import { defineProperty } from "../../primordials.mjs";
 import { parseScript, resolveModule } from "../../program/internals.mjs";
 import { rewritten } from "../rewriting/rewrite.mjs";
 
@@ -118,7 +119,7 @@ function fill(own, getters, stars) {
   const passed = stars.flatMap((other) => Object.keys(other).filter((name) => name !== "default")
     .map((name) => /** @type {[string, () => unknown]} */ ([name, () => other[name]])));
   for (const [name, get] of [...passed, ...Object.entries(getters)]) {
-    Object.defineProperty(own, name, { get, enumerable: true, configurable: true });
+    defineProperty(own, name, { get, enumerable: true, configurable: true });
   }
-  Object.defineProperty(own, Symbol.toStringTag, { value: "Module" });
+  defineProperty(own, Symbol.toStringTag, { value: "Module" });
 }

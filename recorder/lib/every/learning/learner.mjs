@@ -3,6 +3,7 @@
 
 import { leftOpen } from "../../agent/answer.mjs";
 import { described } from "../../agent/described.mjs";
+import { defineProperty } from "../../primordials.mjs";
 import { CantShow } from "../state/walk.mjs";
 import { DONE, DOES, isCall, nodeOf } from "../search/nodes.mjs";
 import { nodeText } from "../search/text.mjs";
@@ -111,15 +112,18 @@ export class Learner {
 
   /** @param {Node} node that is no end @returns {string} the line at which agents ask for it */
   lineOf(node) {
+    const { asker } = this;
     const history = this.historyOf(node);
     let at = 0;
     let line = "a place that isn't known";
     const answer = () => {
-      if (at === history.length) line = this.line();
+      if (at === history.length) line = asker.askedAt ?? this.line();
       at += 1;
       return history[at - 1]?.[1];
     };
+    asker.notesLines = true;
     this.call(node.automaton, { answer });
+    asker.notesLines = false;
     return line;
   }
 
@@ -151,7 +155,7 @@ export class Learner {
     this.runs += 1;
     this.agent = agent;
     const given = { buffers: [...asker.buffers], agents: agents.count, args: [...agents.args] };
-    Object.defineProperty(given, "agent", { get: this.number, enumerable: true, configurable: true });
+    defineProperty(given, "agent", { get: this.number, enumerable: true, configurable: true });
     this.onCall(true);
     const { isBroken, result, hasThrown, thrown } = asker.call(run, () => fn(given));
     this.onCall(false);

@@ -7,6 +7,7 @@ import { recordedAtomics } from "../../agent/atomics.mjs";
 import { blockNumber } from "../../agent/ordinary/context.mjs";
 import { watchOrdinary } from "../../agent/ordinary/watch.mjs";
 import { simulateChance, simulateTime } from "../../agent/time.mjs";
+import { watchInstalled } from "../state/installed.mjs";
 
 const SAYS = /** @type {const} */ (["log", "error", "warn", "info", "debug"]);
 
@@ -43,6 +44,9 @@ export function installRealm(asker) {
     endUnseen: () => refuse("it uses shared memory that isn't recorded"),
   }));
   for (const name of SAYS) /** @type {any} */ (console)[name] = () => {};
+  watchInstalled();
+  // An async function of an agent that is broken off leaves a promise, and nobody waits for it.
+  process.on("unhandledRejection", () => {});
   syncBuiltinESMExports();
 }
 

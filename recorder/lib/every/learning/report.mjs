@@ -15,7 +15,7 @@ import { Findings } from "./findings.mjs";
 /**
  * @typedef {object} EdgeData an edge, to be learned again
  * @property {number} automaton
- * @property {From} from
+ * @property {From | undefined} from undefined: the beginning of an agent
  * @property {number} to the node to which it leads
  * @property {{ at: number, by: From }} [besides] another history than the one by which it was learned: the node at
  * which it comes by another edge than the first
@@ -75,16 +75,19 @@ const dataOf = ({ edges: _edges, automaton: _automaton, ...asked }, origin) =>
   ({ ...asked, origin: origin && { node: origin.node.id, answer: origin.answer } });
 
 /**
- * Each edge with another history that leads to it than the one by which it was learned, if there is one.
+ * The beginnings of the agents, and each edge with another history that leads to it than the one by which it was
+ * learned, if there is one.
  * @param {import("./learner.mjs").Learner} learner
  * @param {Positions} positions
  * @returns {EdgeData[]}
  */
 function edgesOf(learner, positions) {
   const besides = edgesBesides(learner, positions);
-  return positions.nodes.flatMap((nodes) => nodes.flatMap((node) => [...node.edges].map(([answer, to]) => ({
+  const begins = positions.roots.map(({ automaton, id }) => ({ automaton, from: undefined, to: id }));
+  const edges = positions.nodes.flatMap((nodes) => nodes.flatMap((node) => [...node.edges].map(([answer, to]) => ({
     automaton: node.automaton, from: { node: node.id, answer }, to: to.id, besides: besides(node),
   }))));
+  return [...begins, ...edges];
 }
 
 /**

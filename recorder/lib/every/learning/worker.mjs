@@ -17,6 +17,11 @@ import { reportOf } from "./report.mjs";
  * progress: SharedArrayBuffer }} Given `within` is for how many seconds it searches
  */
 
+const CHANGED = "--all can't learn what the agents do: one changes the language's own objects";
+
+/** @type {import("./code.mjs").Code | undefined} the agents' code, once it is loaded */
+let code;
+
 // The agents get other clocks.
 const now = performance.now.bind(performance);
 
@@ -27,17 +32,27 @@ export function main() {
   try {
     port.postMessage({ report: reported(given) });
   } catch (problem) {
-    port.postMessage(answerOf(problem));
+    const answer = answerOf(problem);
+    port.postMessage("failed" in answer && isChanged() ? { refused: CHANGED } : answer);
   }
   port.close();
+}
+
+/** @returns {boolean} whether the agents have changed the language's own objects: nothing works then as it should */
+function isChanged() {
+  try {
+    return code?.builtins.haveChanged() === true;
+  } catch {
+    return true;
+  }
 }
 
 /** @param {Given} given */
 function reported(given) {
   const asker = new Asker();
   installRealm(asker);
-  const code = loadCode(given.module, given.flaw);
-  asker.lineHere = () => code.line();
+  code = loadCode(given.module, given.flaw);
+  asker.lineHere = code.line.bind(code);
   const learned = new Learned(code, asker, given);
   const words = new Int32Array(given.progress);
   const until = now() + 1_000 * given.within;

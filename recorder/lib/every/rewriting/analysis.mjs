@@ -168,6 +168,7 @@ export class Analysis {
     if (member.type === "MethodDefinition") {
       if (member.key.type === "PrivateIdentifier") this.#namesOf(member).add(member.key.name);
       this.visitFunction(member.value, here);
+      this.noteAccessor(member);
       if (member.kind === "constructor") this.#visitConstructor(member.value, tree.superClass !== null);
     } else if (member.key.type === "PrivateIdentifier") this.#namesOf(member).add(member.key.name);
     if (member.type !== "MethodDefinition" && member.value) {
@@ -175,6 +176,11 @@ export class Analysis {
       if (inner !== undefined) this.refuse(inner, "a function in what a field begins with");
       this.visit(member.value, inside);
     }
+  }
+
+  /** @param {Tree} member of a class or of an object's literal */
+  noteAccessor({ kind, value }) {
+    if (kind === "get" || kind === "set") /** @type {Info} */ (this.infos.get(value)).isAccessor = true;
   }
 
   /** @param {Tree} member that is private @returns {Set<string>} the names among which its own is */

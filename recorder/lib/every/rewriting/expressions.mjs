@@ -1,5 +1,7 @@
 // How expressions are rewritten: what is evaluated first is kept in the frame while the rest is evaluated.
 
+import { placeOf } from "./comments.mjs";
+import { engineName } from "./naming.mjs";
 import { isConstant, isMethod, isPattern, runsCode } from "./tree.mjs";
 
 /** @typedef {import("./tree.mjs").Tree} Tree */
@@ -46,7 +48,9 @@ export const EXPRESSIONS = {
   NewExpression: (writer, tree, info) => {
     if (!["Identifier", "MemberExpression"].includes(tree.callee.type)) hide(writer, tree.start, tree.end);
     spreadFirst(writer, tree);
-    operands(({ callee, arguments: given }) => [callee, ...given])(writer, tree, info);
+    if (tree.arguments.some(runsCode)) keepCallee(writer, tree, info, "constructible");
+    operands(({ arguments: given }) => given)(writer, tree, info);
+    writer.write(tree.callee, info);
   },
   MemberExpression: operands(({ object, property, computed }) => (computed ? [object, property] : [object])),
   ChainExpression: (writer, tree) => writer.hide(tree),
@@ -121,9 +125,25 @@ function writeCall(writer, tree, info) {
   } else if (object !== undefined) {
     writeCallOfMember(writer, tree, info);
     return;
-  } else if (callee.type === "Identifier" && writer.isFixed(callee)) writer.keepOperands(info, given, tree.end);
-  else writer.keepOperands(info, [callee, ...given], tree.end);
+  } else {
+    keepCallee(writer, tree, info, "callable");
+    writer.keepOperands(info, given, tree.end);
+  }
   writer.writeAll([callee, ...given], info);
+}
+
+/**
+ * Keeps what is called while its arguments are evaluated.
+ * @param {Writer} writer
+ * @param {Tree} tree
+ * @param {Info} info
+ * @param {"callable" | "constructible"} needed what it must be
+ */
+function keepCallee(writer, { callee, end }, info, needed) {
+  if (!writer.isKept(callee)) return;
+  const room = writer.room(info, callee.end, end);
+  writer.edits.before(callee.start, `($R.${needed}(${room} = (`);
+  writer.edits.after(callee.end, `), ${JSON.stringify(engineName(callee))}))`);
 }
 
 /** @param {Writer} writer @param {Tree} callee */
@@ -136,13 +156,15 @@ const isPrivateMethod = ({ analysis: { privateMethods, privateOthers } }, { prop
  */
 function writeCallOfMember(writer, tree, info) {
   const { callee, arguments: given } = tree;
-  const { edits } = writer;
-  const object = writer.room(info, callee.object.end, tree.end);
-  const method = writer.room(info, callee.end, tree.end);
-  edits.before(callee.start, `(${method} = (${object} = (`);
+  const { edits, source } = writer;
+  // The engine says that the call itself is at its parenthesis: nothing of these is needed any more there.
+  const at = placeOf(source, "(", callee.end);
+  const object = writer.room(info, at + 1, tree.end, [callee.object.end, at]);
+  const method = writer.room(info, at + 1, tree.end);
+  edits.before(callee.start, `$R.method(${method} = (${object} = (`);
   edits.after(callee.object.end, "))");
-  edits.after(callee.end, ")");
-  edits.replace(writer.source.indexOf("(", callee.end), 1, `.call(${object}, `);
+  edits.after(callee.end, `, ${JSON.stringify(engineName(callee))})`);
+  edits.replace(at, 1, `.call(${object}, `);
   writer.keepOperands(info, given, tree.end);
   writer.write(callee.object, info);
   if (callee.computed) writer.write(callee.property, info);
@@ -178,7 +200,7 @@ function writeAssignment(writer, tree, info) {
  * @param {string} text up to the value; a parenthesis closes it
  */
 function replaceOperator({ edits, source }, { left, operator, end }, text) {
-  edits.replace(source.indexOf(operator, left.end), operator.length, text);
+  edits.replace(placeOf(source, operator, left.end), operator.length, text);
   edits.after(end, ")");
 }
 

@@ -60,6 +60,8 @@ export class Info {
     this.temporaries = [];
     /** @type {Set<Binding>} of outer functions, to which it or what is in it refers */
     this.captured = new Set();
+    /** Whether it is written as a getter or a setter. */
+    this.isAccessor = false;
     /** Whether what it has can't be shown while it runs. */
     this.isHidden = false;
     /** Whether it uses `super`, and there may be many of it, each of an object of its own. */

@@ -1,5 +1,6 @@
 // How statements are rewritten.
 
+import { placeOf } from "./comments.mjs";
 import { childrenOf, functionIn, isConstant, isFunction, runsCode } from "./tree.mjs";
 
 /** @typedef {import("./tree.mjs").Tree} Tree */
@@ -58,7 +59,7 @@ function writeFor(writer, tree, info) {
     if (tree.test) {
       edits.before(tree.test.start, `(${shows}, (`);
       edits.after(tree.test.end, "))");
-    } else edits.before(source.indexOf(";", tree.init.end) + 1, ` (${shows}, true)`);
+    } else edits.before(placeOf(source, ";", tree.init.end) + 1, ` (${shows}, true)`);
     if (tree.update) edits.before(tree.update.start, `${shows}, `);
   }
   writer.writeAll([tree.init, tree.test, tree.update, tree.body], info);

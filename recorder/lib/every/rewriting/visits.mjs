@@ -9,6 +9,7 @@
  * @property {{ (tree: Tree, what: string): never }} refuse
  * @property {{ (name: string, tree: Tree, here: Here, reads: boolean): void }} refer
  * @property {{ (within: Info | null): void }} hide
+ * @property {{ (member: Tree): void }} noteAccessor
  * @property {{ (tree: Tree | null | undefined, here: Here): void }} visit
  * @property {{ (trees: (Tree | null)[], here: Here): void }} visitAll
  * @property {{ (tree: Tree, here: Here): void }} visitSuper as those below
@@ -55,6 +56,7 @@ export const VISITS = {
   Property: (one, tree, here) => {
     if (tree.shorthand) one.shorthand.add(tree.value.start);
     one.visitAll([tree.computed ? tree.key : null, tree.value], here);
+    one.noteAccessor(tree);
   },
   LabeledStatement: (one, tree, here) => one.visit(tree.body, here),
   BreakStatement: () => {},

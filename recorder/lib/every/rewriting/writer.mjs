@@ -2,6 +2,7 @@
 // frame with the cells of its names, and what the engine would keep on its stack is kept in the frame. The order in
 // which things are evaluated stays.
 
+import { placeOf } from "./comments.mjs";
 import { Edits } from "./edits.mjs";
 import { EXPRESSIONS } from "./expressions.mjs";
 import { newId } from "./scopes.mjs";
@@ -65,12 +66,14 @@ export class Writer {
    * @param {Info} info
    * @param {number} from where the value is there
    * @param {number} to where it isn't needed any more
+   * @param {[number, number]} [also] from where to where it is there besides
    * @returns {string} what it is kept in
    */
-  room(info, from, to) {
+  room(info, from, to, also) {
     const id = this.temporaries;
     this.temporaries += 1;
     info.temporaries.push({ id, from, to });
+    if (also !== undefined) info.temporaries.push({ id, from: also[0], to: also[1] });
     return `$f.t[${id}]`;
   }
 
@@ -196,7 +199,7 @@ export class Writer {
       this.atEnd(tree.body, LEAVES);
       this.writeAll(tree.body.body, info);
     } else {
-      const arrow = this.source.indexOf("=>", tree.params.at(-1)?.end ?? tree.start) + 2;
+      const arrow = placeOf(this.source, "=>", tree.params.at(-1)?.end ?? tree.start) + 2;
       edits.before(arrow, `{ ${enters} return (`);
       edits.after(tree.end, `); ${LEAVES} }`);
       this.write(tree.body, info);

@@ -9,8 +9,7 @@ import { CantShow, Walk } from "./walk.mjs";
 /** Functions that the engine calls while it has more to do, which isn't shown. */
 const CALLED_BY_ENGINE = new Set(["next", "return", "throw", "valueOf", "toString", "toJSON", "then"]);
 
-/** How functions are named that are written as getters or setters. */
-const ACCESSOR = /^[gs]et /;
+/** @typedef {{ name: string, id: number, isAccessor: boolean }} Called a function of the agents that runs */
 
 const LIBRARY = new URL("../../", import.meta.url).href;
 const ELEMENTS = new URL("../../agent/ordinary/elements.mjs", import.meta.url).href;
@@ -60,8 +59,10 @@ export class Capture {
     needsDirect(frames.slice(0, first));
     const { stack } = this.runtime;
     const count = stack.length;
+    /** @type {Called | undefined} */
+    let called;
     for (let at = 0; at < count; at += 1) {
-      this.#putFrame(walk, frames[first + at], stack[count - 1 - at], at === 0 ? undefined : frames[first + at - 1]);
+      called = this.#putFrame(walk, frames[first + at], stack[count - 1 - at], called);
     }
     const below = frames[first + count]?.getFileName() ?? "";
     if (!below.startsWith(LEARNING)) throw new CantShow("more functions than were seen");
@@ -90,7 +91,8 @@ export class Capture {
    * @param {Walk} walk
    * @param {NodeJS.CallSite | undefined} site
    * @param {import("./runtime.mjs").Frame} frame
-   * @param {NodeJS.CallSite | undefined} called the agents' own function that it has called
+   * @param {Called | undefined} called the agents' own function that it has called
+   * @returns {Called} its own function
    */
   #putFrame(walk, site, frame, called) {
     const name = site?.getFunctionName() ?? "";
@@ -101,8 +103,7 @@ export class Capture {
     const position = site.getPosition();
     const place = text.at(position);
     if (place.unknown !== undefined) throw new CantShow(place.unknown);
-    const isOther = place.isAccess && called !== undefined && !ACCESSOR.test(called.getFunctionName() ?? "");
-    if (isOther) throw new CantShow(`${called.getFunctionName()}, which the engine calls`);
+    if (called !== undefined) this.#needsOneWay(place, called);
     const isSame = frame.id === place.fn && site.isConstructor() === place.makes;
     if (!isSame) throw new CantShow("another function than was seen");
     walk.put(`|${place.fn}:${position}`);
@@ -114,6 +115,18 @@ export class Capture {
       }
     }
     if (frame.cells !== null) for (const cell of frame.cells) walk.cell(cell);
+    return { name, id: frame.id, isAccessor: place.isAccessor };
+  }
+
+  /**
+   * There must be one way only in which a function can have been called at a place: what the engine still does
+   * afterwards isn't shown.
+   * @param {import("../rewriting/places.mjs").Place} place
+   * @param {Called} called
+   */
+  #needsOneWay({ isAccess, isKeyed }, { name, id, isAccessor }) {
+    const isOther = isAccess !== isAccessor || isKeyed || this.runtime.installed.has(id);
+    if (isOther) throw new CantShow(`${name || "a function"}, which the engine may call`);
   }
 }
 

@@ -1,9 +1,10 @@
 // What rewritten modules tell about themselves while they run: their frames, the names that these have, and what their
 // functions capture.
 
-import { isArray } from "../../primordials.mjs";
+import { apply, construct, getPrototypeOf, hasOwn, isArray, proxyOf } from "../../primordials.mjs";
 import { types } from "node:util";
 import { watchedOf } from "../../agent/ordinary/watched.mjs";
+import { Installed, numberOf } from "./installed.mjs";
 
 /** @typedef {[Environment, number]} Cell a name: what it is among, and its position there */
 
@@ -24,12 +25,6 @@ import { watchedOf } from "../../agent/ordinary/watched.mjs";
  * @property {boolean} usesSuper
  * @property {number} [enters] the number of its function, if another member may have put another one there
  */
-
-const { toString: textOf } = Function.prototype;
-const ENTERS = /\$R\.enter\((\d+),/;
-
-/** @param {unknown} fn @param {number} id @returns {boolean} whether it is the function that has this number */
-const isOf = (fn, id) => typeof fn === "function" && Number(ENTERS.exec(textOf.call(fn))?.[1]) === id;
 
 /** Names that can be read. */
 export class Environment {
@@ -90,6 +85,8 @@ export class Runtime {
      * @type {{ cls: Function, read: (object: object) => unknown[] | null }[]} what shows the private fields of classes
      */
     this.readers = [];
+    /** Functions that the engine may call anywhere. */
+    this.installed = new Installed();
     /** How many of these are of the modules themselves. */
     this.lasting = 0;
     /** What the rewritten code calls. */
@@ -134,7 +131,7 @@ export class Runtime {
   #registerMethods(holder, id, methods) {
     for (const { cells, enters, isStatic = false, key, kind, usesSuper } of methods) {
       const fn = Reflect.getOwnPropertyDescriptor(holder, key)?.[kind];
-      if (enters !== undefined && !isOf(fn, enters)) continue;
+      if (enters !== undefined && numberOf(fn) !== enters) continue;
       const name = `${id} ${isStatic ? "s" : "p"} ${kind} ${String(key)}`;
       this.#register(fn, { id: name, cells, home: usesSuper ? holder : undefined });
     }
@@ -155,8 +152,11 @@ export class Runtime {
       environment: (read) => new Environment(read),
       /** @param {(index: number) => unknown} read @param {number[]} indexes */
       module: (read, indexes) => void this.modules.push({ environment: new Environment(read), indexes }),
+      callable,
+      constructible,
       iterable,
       key,
+      method,
       ...this.#makers(),
     };
   }
@@ -189,6 +189,48 @@ export class Runtime {
       },
     };
   }
+}
+
+/**
+ * What a call goes to: if it isn't a function, that is found after the arguments were evaluated.
+ * @param {unknown} value
+ * @param {string} name as the engine says it
+ * @returns {Function}
+ */
+function callable(value, name) {
+  if (typeof value === "function") return value;
+  return () => {
+    throw new TypeError(`${name} is not a function`);
+  };
+}
+
+/**
+ * The same for what is made by `new`.
+ * @param {any} value
+ * @param {string} name
+ * @returns {Function}
+ */
+function constructible(value, name) {
+  try {
+    // Its own code doesn't run here.
+    construct(proxyOf(value, { construct: () => ({}) }), []);
+    return value;
+  } catch {
+    return function refused() {
+      throw new TypeError(`${name} is not a constructor`);
+    };
+  }
+}
+
+/**
+ * The same for a method, of which `call` is used.
+ * @param {unknown} value
+ * @param {string} name
+ */
+function method(value, name) {
+  const fn = callable(value, name);
+  if (!types.isProxy(fn) && !hasOwn(fn, "call") && getPrototypeOf(fn) === Function.prototype) return fn;
+  return { call: (/** @type {unknown} */ self, /** @type {unknown[]} */ ...given) => apply(fn, self, given) };
 }
 
 /** @param {any} value @returns {string | symbol} the key that it is among an object's members */

@@ -13,9 +13,9 @@ import { putHandler, putMethods } from "./targets.mjs";
 export function webBroadcastClass(casting, targets) {
   const Channel = /** @type {any} */ (broadcastClass(casting));
   class BroadcastChannel extends Channel {
-    /** @param {unknown} value that a message brings */
-    [DELIVER](value) {
-      targets.dispatch(this, messageOf(/** @type {any} */ ({ value, ports: [] })));
+    /** @param {import("../ports.mjs").Envelope} envelope */
+    [DELIVER](envelope) {
+      targets.dispatch(this, messageOf(envelope));
     }
   }
   putMethods(BroadcastChannel.prototype, targets);

@@ -12,6 +12,10 @@ import { nodeError } from "../node-error.mjs";
 
 const { readFileSync, statSync } = /** @type {any} */ (fs);
 const bytesFrom = Buffer.from;
+const EngineURL = URL;
+
+/** A specifier that is a URL, or a part of one from its module's on. */
+const IS_URL = /^(?:\.{0,2}\/|file:)/;
 
 export const NAMES = Object.freeze(["exports", "require", "module", "__filename", "__dirname"]);
 const JAVASCRIPT = /^data:\s*(?:text|application)\/javascript\s*(?:;\s*charset=utf-?8\s*)?(?:;base64)?,/i;
@@ -36,13 +40,15 @@ const NO_FILE = Object.freeze(["ERR_UNSUPPORTED_DIR_IMPORT", "ERR_MODULE_NOT_FOU
 const shown = (url) => (url.startsWith("file:") ? fileURLToPath(url) : url);
 
 /**
+ * A browser doesn't know which file a link leads to: the URL of a module behind a link has the link.
  * @param {string} specifier
  * @param {string} parent URL of the module that imports it
  * @returns {string} the URL as import.meta.resolve returns it, also if there is no such file
  */
 export function urlOf(specifier, parent) {
   try {
-    return resolveModule(`${specifier}`, parent);
+    const found = resolveModule(`${specifier}`, parent);
+    return IS_URL.test(specifier) ? new EngineURL(specifier, parent).href : found;
   } catch (error) {
     const { code, url } = /** @type {any} */ (error);
     if (NO_FILE.includes(code) && url !== undefined) return url;

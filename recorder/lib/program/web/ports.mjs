@@ -18,12 +18,12 @@ const OF_NODE = Object.freeze([
 const FOR_NODE = Object.freeze(["on", "ref", "unref"]);
 
 /**
- * A message as an event.
+ * A message as an event. Of one that can't be read, the event has no data.
  * @param {import("../ports.mjs").Envelope} envelope
  * @returns {Event}
  */
-export const messageOf = ({ value, ports }) =>
-  new EngineMessageEvent("message", /** @type {any} */ ({ data: value, ports }));
+export const messageOf = ({ value, ports, isUnread }) => (isUnread ? new EngineMessageEvent("messageerror", { data: null })
+  : new EngineMessageEvent("message", /** @type {any} */ ({ data: value, ports })));
 
 export class WebPortEvents extends PortEvents {
   /** @param {import("../port-events.mjs").Serving} serving */

@@ -1,10 +1,10 @@
 use Rattle.std.proofs.Common.{rules, codes, refl, sym, subst}
 use Rattle.clap.specs.Words.{first_value, found_of, rows_of}
-use Rattle.sab_command.specs.Asked.{IsExplained, IsGiven, IsJudge, IsRace, IsReplay}
+use Rattle.sab_command.specs.Asked.{IsExplained, IsGiven, IsJudge, IsRace, IsReplay, IsSearch}
 use Rattle.sab_command.specs.Source.{Names}
 use Rattle.sab_command.proofs.Rows.{first_by_rows, not_both}
 use Rattle.sab_command.proofs.reading.request_by.Goals as goal
-use Rattle.sab_command.proofs.reading.request_by.Goals.{in-replay, in-race, in-judge}
+use Rattle.sab_command.proofs.reading.request_by.Goals.{in-replay, in-race, in-judge, in-search}
 
 pub returns-in_default-clause-asked : goal.returns-in_default-clause-asked
 returns-in_default-clause-asked c =
@@ -14,6 +14,7 @@ returns-in_default-clause-asked c =
       λ e. absurd (c.in_default.not-replay e),
       λ e. absurd (c.in_default.not-race e),
       λ e. absurd (c.in_default.not-judge e),
+      λ e. absurd (c.in_default.not-search e),
       λ e. (refl, refl),
     )
 
@@ -29,6 +30,7 @@ returns-clause-asked c =
         λ e. (subst (IsReplay (rows_of f)) (sym w.task-is) w.replay_task-task.ensures.task, explained),
         λ e. absurd (not_both _ (codes "replay") (codes "race") refl w.in-replay.is e),
         λ e. absurd (not_both _ (codes "replay") (codes "judge") refl w.in-replay.is e),
+        λ e. absurd (not_both _ (codes "replay") (codes "search") refl w.in-replay.is e),
         λ e. absurd (not_both _ (codes "replay") (codes "check") refl w.in-replay.is e),
       )
       | in-race w ↦ (
@@ -36,6 +38,7 @@ returns-clause-asked c =
         λ e. absurd (not_both _ (codes "race") (codes "replay") refl w.in-race.is e),
         λ e. (subst (IsRace (rows_of f)) (sym w.task-is) w.race_job.ensures.job, explained),
         λ e. absurd (not_both _ (codes "race") (codes "judge") refl w.in-race.is e),
+        λ e. absurd (not_both _ (codes "race") (codes "search") refl w.in-race.is e),
         λ e. absurd (not_both _ (codes "race") (codes "check") refl w.in-race.is e),
       )
       | in-judge w ↦ (
@@ -43,6 +46,15 @@ returns-clause-asked c =
         λ e. absurd (not_both _ (codes "judge") (codes "replay") refl w.in-judge.is e),
         λ e. absurd (not_both _ (codes "judge") (codes "race") refl w.in-judge.is e),
         λ e. (subst (IsJudge (rows_of f)) (sym w.task-is) w.judge_task-task.ensures.task, explained),
+        λ e. absurd (not_both _ (codes "judge") (codes "search") refl w.in-judge.is e),
         λ e. absurd (not_both _ (codes "judge") (codes "check") refl w.in-judge.is e),
+      )
+      | in-search w ↦ (
+        source,
+        λ e. absurd (not_both _ (codes "search") (codes "replay") refl w.in-search.is e),
+        λ e. absurd (not_both _ (codes "search") (codes "race") refl w.in-search.is e),
+        λ e. absurd (not_both _ (codes "search") (codes "judge") refl w.in-search.is e),
+        λ e. (subst (IsSearch (rows_of f)) (sym w.task-is) w.search_job.ensures.job, explained),
+        λ e. absurd (not_both _ (codes "search") (codes "check") refl w.in-search.is e),
       )
     ]

@@ -1,6 +1,8 @@
 // The order in which listeners of a message are called, with microtasks between them.
 const { port1, port2 } = new MessageChannel();
 const lines = globalThis.lines = [];
+let ended;
+const end = new Promise((done) => { ended = done; });
 const note = (name) => (event) => {
   lines.push(`${name} ${event.data}`);
   queueMicrotask(() => lines.push(`microtask of ${name}`));
@@ -16,7 +18,9 @@ port1.onmessage = note("handler");
 port1.addEventListener("message", note("once"), { once: true });
 port1.addEventListener("message", { handleEvent: (event) => {
   lines.push(`object ${event.data} ${event.target === port1} ${event.ports.length} ${event instanceof MessageEvent}`);
-  if (event.data === 2) event.stopImmediatePropagation();
+  if (event.data === 1) return;
+  event.stopImmediatePropagation();
+  setTimeout(ended);
 } });
 port1.addEventListener("message", (event) => {
   lines.push(`last ${event.data} ${event.currentTarget === port1}`);
@@ -24,6 +28,6 @@ port1.addEventListener("message", (event) => {
 });
 port1.addEventListener("message", null);
 port2.postMessage(1);
-await new Promise((done) => { setTimeout(done, 200); });
+await end;
 lines.push("end");
 console.log(lines.join("\n"));

@@ -1,3 +1,3 @@
-await new Promise((done) => { setTimeout(done, 50); });
+await new Promise((done) => { setTimeout(done, 1_000); });
 onmessage = ({ data }) => postMessage(data);
 postMessage("ready");

@@ -1,0 +1,66 @@
+//! A search of a million states.
+
+ghost use Rattle.std.specs.Prelude.{◌<◌};
+
+use crate::expecting::expect;
+use sab_automata::Timeouts;
+use sab_command::SearchJob;
+use sab_ending::Outcome;
+use sab_report::VerdictFormat;
+use sab_run::run_search;
+use std::alloc::{AllocError, Global};
+use std::test::Fail;
+
+/// How many loads each agent makes.
+const LOADS: usize = 31;
+
+/// How many agents there are, whose loads come in any order.
+const AGENTS: usize = 4;
+
+/// As many states as there are: each agent has made 0 to 31 loads.
+const STATES: u32 = 1_048_576;
+
+/// The file of these agents.
+fn file(alloc: Global) -> Result<String, AllocError> {
+    let mut file = String::new(alloc);
+    file.push_str(r#"{"blocks":[4],"views":[{"name":"m","kind":"Int32","block":0,"offset":0,"#)?;
+    file.push_str(r#""length":null}],"automata":[{"name":"a","nodes":["#)?;
+    for k in 1..=LOADS {
+        let node = format!(in alloc; r#"{{"call":["load","m",0],"edges":[["0",{k}]]}},"#)?;
+        file.push_str(node.as_str())?;
+    }
+    file.push_str(r#"{"finished":true}]}],"agents":["#)?;
+    for k in 0..AGENTS {
+        file.push_str(if k == 0 { "" } else { "," })?;
+        file.push_str(r#"{"automaton":"a","block":true}"#)?;
+    }
+    file.push_str("]}")?;
+    Ok(file)
+}
+
+/// What a search of at most so many states writes, as a text that begins so, with this outcome.
+fn begins(alloc: Global, limit: u32, begin: &str, outcome: Outcome) -> Result<bool, Fail>
+    requires { 0 < limit }
+{
+    let search = SearchJob {
+        timeouts: Timeouts::Early,
+        limit,
+        format: VerdictFormat::Plain,
+        states: false,
+    };
+    let file = file(alloc)?;
+    let mut output = Vec::new(alloc);
+    let Ok(found) = run_search(alloc, search, false, &mut file.as_bytes(), &mut output) else {
+        return Ok(false);
+    };
+    Ok(found == outcome && output.as_slice().starts_with(begin.as_bytes()))
+}
+
+#[test]
+fn a_million_states_are_searched(rt: HostRuntime) -> Result<(), Fail> {
+    let all =
+        "closed: 1048576 states, 4063232 acts, timeouts early\nfinal 00000000: 1 state; 0 act 0";
+    expect(begins(rt.alloc(), STATES, all, Outcome::Done)?, all)?;
+    let most = "not closed: 1048575 states, ";
+    expect(begins(rt.alloc(), STATES - 1, most, Outcome::Open)?, most)
+}

@@ -1,0 +1,129 @@
+//! From a file of automata to what a search through all schedules finds.
+
+ghost use Rattle.std.specs.Prelude.{◌≡◌, IfOk, IfErr, IfSome, OnOk};
+ghost use Rattle.std.specs.Io.KnownBytes.{IsAtEnd};
+ghost use Rattle.sab_automata_text.specs.Faults.{refusal_number};
+ghost use Rattle.sab_command.specs.Job.{HasRoom};
+ghost use Rattle.sab_tool.specs.ToolFault.{number_of};
+ghost use Rattle.sab_run.specs.Searching.{IsFailureAfter, IsFailureOf, IsFileExplanation, IsSearchFailure};
+ghost use Rattle.sab_run.specs.Searching.{RunsSearch, RunsSearchGiven, asked_of, outcome_of};
+
+use crate::failure::{Explanation, Failure};
+use crate::running::flush;
+use sab_automata_text::{MAX_FILE, Refusal};
+use sab_command::SearchJob;
+use sab_ending::Outcome;
+use sab_search::{SearchAsked, SearchEnd, SearchFault, search_as};
+use sab_tool::{ToolFault, read_at_most};
+use std::alloc::Global;
+use std::io::{Read, Write};
+
+/// Searches all schedules of the file of automata that a reader gives, writes what it finds, and flushes.
+///
+/// TooLong if the reader gave more than [`MAX_FILE`] bytes, ReadFailed if a read failed, OutOfMemory if there is no
+/// memory, and WriteFailed if a write or the flush failed; nothing is said then about how much was written. Every other
+/// fault is that of a file that is refused: then the failure has the place and the reason, if they are asked for. Except
+/// after WriteFailed nothing was written, unless memory ran out while each state was written.
+#[tactic(auto, using(crate::proofs::Searched::searched_given, crate::proofs::Searched::unread))]
+pub fn run_search<R: Read, W: Write>(
+    alloc: Global,
+    job: SearchJob,
+    explain: bool,
+    input: &mut R,
+    output: &mut W,
+) -> Result<Outcome, Failure>
+    requires { HasRoom job }
+    ensures ok { IfOk result (λ outcome. IfSome (R.remaining input.old)
+        (RunsSearchGiven job outcome (W.contents output.old) (W.contents output.new))) }
+    ensures end { OnOk result (IsAtEnd (R.remaining input.new)) }
+    ensures err { IfErr result
+        (IsSearchFailure (R.remaining input.old) job explain (W.contents output.old) (W.contents output.new)) }
+{
+    let file = read_at_most(alloc, MAX_FILE, input)?;
+    search_file(alloc, job, explain, file.as_slice(), output)
+}
+
+/// Does it with a file, which isn't too long.
+#[tactic(auto, using(crate::proofs::Searched::flushed))]
+fn search_file<W: Write>(
+    alloc: Global,
+    job: SearchJob,
+    explain: bool,
+    file: &[u8],
+    output: &mut W,
+) -> Result<Outcome, Failure>
+    requires { HasRoom job }
+    ensures ok { IfOk result (λ outcome.
+        RunsSearch job outcome (W.contents output.old) (W.contents output.new) file.now) }
+    ensures err { IfErr result
+        (IsFailureAfter job explain (W.contents output.old) (W.contents output.new) file.now) }
+{
+    match search_as(alloc, file, asked_of(job), output) {
+        Ok(end) => {
+            flush(output)?;
+            Ok(outcome_of(end))
+        }
+        Err(fault) => Err(failure_of(alloc, explain, fault)),
+    }
+}
+
+/// What is asked of the search.
+fn asked_of(job: SearchJob) -> SearchAsked
+    ensures { result ≡ asked_of job }
+{
+    SearchAsked {
+        timeouts: job.timeouts,
+        limit: job.limit,
+        format: job.format,
+        states: job.states,
+    }
+}
+
+/// What a search came to that ended so.
+fn outcome_of(end: SearchEnd) -> Outcome
+    ensures { result ≡ outcome_of end }
+{
+    match end {
+        SearchEnd::Clean => Outcome::Done,
+        SearchEnd::Found => Outcome::Flawed,
+        SearchEnd::Open => Outcome::Open,
+    }
+}
+
+/// What is reported about a search that failed so; the refusal of a file is explained if that is asked for.
+fn failure_of(alloc: Global, explain: bool, fault: SearchFault) -> Failure
+    ensures { IsFailureOf explain fault result }
+{
+    match fault {
+        SearchFault::Refused(refusal) => Failure {
+            fault: fault_of(refusal),
+            explanation: file_explanation(alloc, explain, refusal),
+        },
+        SearchFault::OutOfMemory => Failure::from(ToolFault::OutOfMemory),
+        SearchFault::WriteFailed => Failure::from(ToolFault::WriteFailed),
+    }
+}
+
+/// The fault of a file that is refused so.
+#[tactic(auto, using(crate::proofs::Searched::has_a_fault))]
+fn fault_of(refusal: Refusal) -> ToolFault
+    ensures { number_of result ≡ refusal_number refusal }
+{
+    match ToolFault::of_number(refusal.number()) {
+        Some(fault) => fault,
+        None => unreachable!(),
+    }
+}
+
+/// The place and the reason of a refusal, if they are asked for.
+fn file_explanation(alloc: Global, is_asked: bool, refusal: Refusal) -> Explanation
+    ensures { IsFileExplanation is_asked refusal result }
+{
+    if !is_asked {
+        return Explanation::Absent;
+    }
+    match format!(in alloc; "{refusal}\n") {
+        Ok(text) => Explanation::CheckText(text),
+        Err(_) => Explanation::NoMemory,
+    }
+}

@@ -1,0 +1,98 @@
+// Functions that agents make getters, setters or traps of proxies by a call. The engine may call one of them anywhere,
+// and what it does afterwards isn't shown.
+
+import { types } from "node:util";
+import { methodOf, replace } from "../../agent/ordinary/patch.mjs";
+import { apply, construct, getOwnPropertyDescriptor, isObject, ownKeys, proxyOf, put } from "../../primordials.mjs";
+
+const { toString: textOf } = Function.prototype;
+const ENTERS = /\$R\.enter\((\d+),/;
+
+/** @param {unknown} fn @returns {number | undefined} the number of this function of the modules */
+export function numberOf(fn) {
+  const found = typeof fn === "function" ? ENTERS.exec(apply(textOf, fn, [])) : null;
+  return found === null ? undefined : Number(found[1]);
+}
+
+export class Installed {
+  /** @type {Set<number>} the numbers of these functions */
+  #numbers = new Set();
+
+  /** Whether any function may be one of them. */
+  #isAny = false;
+
+  /** @param {number} number of a function @returns {boolean} whether it may be one of them */
+  has(number) {
+    return this.#isAny || this.#numbers.has(number);
+  }
+
+  /** Something was made of which it isn't known what the engine calls for it. */
+  takeAny() {
+    this.#isAny = true;
+  }
+
+  /** @param {unknown} object @param {(string | symbol)[]} keys of properties that it has got */
+  take(object, keys) {
+    if (!isObject(object)) return;
+    if (types.isProxy(object)) this.#isAny = true;
+    if (this.#isAny) return;
+    for (const key of keys) {
+      const { get, set } = getOwnPropertyDescriptor(object, key) ?? {};
+      for (const fn of [get, set]) if (fn !== undefined) this.#add(fn);
+    }
+  }
+
+  /** @param {Function} fn */
+  #add(fn) {
+    const number = numberOf(fn);
+    if (number === undefined) this.#isAny = true;
+    else this.#numbers.add(number);
+  }
+}
+
+let current = new Installed();
+
+/** @returns {Installed} what gets the functions that are made so from now on */
+export function beginInstalled() {
+  current = new Installed();
+  return current;
+}
+
+/** @param {Function} engine what defines one property */
+const takesOne = (engine) => methodOf((self, given) => {
+  const made = apply(engine, self, given);
+  const [object, key] = given;
+  // An object can become another key each time.
+  if (isObject(key)) current.takeAny();
+  else current.take(object, [key]);
+  return made;
+});
+
+/** @param {Function} engine what defines many properties */
+const takesMany = (engine) => methodOf((self, given) => {
+  const made = apply(engine, self, given);
+  const [, properties] = given;
+  if (types.isProxy(properties)) current.takeAny();
+  else if (isObject(properties)) current.take(made, ownKeys(properties));
+  return made;
+});
+
+/** @param {Function} engine what makes a proxy, whose traps can change at any time */
+const takesProxy = (engine) => methodOf((self, given) => {
+  current.takeAny();
+  return apply(engine, self, given);
+});
+
+/** Sees what agents make so. It is called once, before any of their code is loaded. */
+export function watchInstalled() {
+  for (const owner of [Object, Reflect]) replace(owner, "defineProperty", takesOne);
+  for (const name of ["create", "defineProperties"]) replace(Object, name, takesMany);
+  const { Proxy: EngineProxy } = globalThis;
+  replace(EngineProxy, "revocable", takesProxy);
+  put(globalThis, "Proxy", proxyOf(EngineProxy, {
+    construct: (target, given) => {
+      current.takeAny();
+      return construct(target, given);
+    },
+  }));
+}

@@ -1,0 +1,2 @@
+// Adds two numbers.
+exports.add = (one, other) => one + other;

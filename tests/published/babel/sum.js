@@ -1,0 +1,3 @@
+// Adds numbers up.
+const { add } = require("./add.js");
+exports.sum = (...numbers) => numbers.reduce(add);
