@@ -13,8 +13,9 @@ use std::thread::Threads;
 /// How many moves four agents of a hundred calls each make.
 const MOVES: u64 = 1_200;
 
-/// How many rounds in a row the owner of the rings goes without a move.
-const PATIENCE: u32 = 1_000_000;
+/// How many rounds in a row the owner of the rings goes without a move: so many that each agent gets a processor
+/// meanwhile, also on a busy machine. The gate doesn't see moves that are made after the owner's last round.
+const PATIENCE: u32 = 4_000_000_000;
 
 /// Four agents run in threads, none of which goes on afterwards. (One owner more of the gate takes no memory.)
 pub fn run<R: Threads + Wait + Sync>(rt: &R, alloc: Global, share: Share) -> Result<Found, Unmade> {
