@@ -4,7 +4,7 @@ import assert from "node:assert/strict";
 import { spawnSync } from "node:child_process";
 import { appendFileSync, mkdirSync, mkdtempSync, readFileSync, readdirSync, rmSync, writeFileSync } from "node:fs";
 import { tmpdir } from "node:os";
-import { join } from "node:path";
+import { delimiter, join } from "node:path";
 import { test } from "node:test";
 import { fileURLToPath } from "node:url";
 import { needing } from "../../recorder/tests/helpers/needs.mjs";
@@ -28,6 +28,8 @@ function cloneOf(context) {
   const out = join(clone, "crates/sabsim/out");
   mkdirSync(out, { recursive: true });
   writeFileSync(join(out, "sabsim"), `#!/bin/sh\necho 'sabsim ${VERSION}, a stand-in'\n`, { mode: 0o755 });
+  // A script can't be stripped.
+  writeFileSync(join(room, "strip"), "#!/bin/sh\n", { mode: 0o755 });
   const commit = (message) => {
     const who = ["-c", "user.name=a", "-c", "user.email=a@b"];
     git("-C", clone, ...who, "commit", "--quiet", "--all", "--message", message);
@@ -40,7 +42,7 @@ function cloneOf(context) {
     writeFileSync(file, text.replace(from, to));
   };
   const release = () => {
-    const env = { ...process.env, XDG_CACHE_HOME: cache };
+    const env = { ...process.env, XDG_CACHE_HOME: cache, PATH: `${room}${delimiter}${process.env.PATH}` };
     const { status, stdout, stderr } = spawnSync(join(clone, "tools/release"), [folder], { encoding: "utf8", env });
     return { status, stdout, wrong: stderr.trimEnd().split("\n"), made: readdirSync(folder) };
   };
