@@ -10,7 +10,8 @@
  *                           joined, how many bytes were asked for in all, and how often something was refused
  *
  * Allocations and threads are counted from the start of the program's own code on, those of the C library among them,
- * and in all threads. A program that hasn't ended after a minute is ended by a signal.
+ * and in all threads. A program that hasn't ended after ten minutes is ended by a signal: on a busy machine threads that take
+ * turns under one lock need more than one.
  */
 #define _GNU_SOURCE
 #include <dlfcn.h>
@@ -47,7 +48,7 @@ __attribute__((constructor)) static void begin(void)
     one_allocation = number_of("REFUSE_ALLOCATION");
     first_allocation = number_of("REFUSE_ALLOCATIONS_FROM");
     one_thread = number_of("REFUSE_THREAD");
-    alarm(60);
+    alarm(600);
     counts = 1;
 }
 
