@@ -53,7 +53,7 @@ test("a right lock: every schedule was tried, and nothing was found", async (con
   assert.equal(done.problems, "");
   assert.equal(done.status, 0);
   const [first, states, learned, ...rest] = done.out.split("\n");
-  assert.equal(first, "every schedule of 3 agents was tried: none deadlocks, throws, races or fails check; "
+  assert.equal(first, "every schedule of 3 agents was tried: none deadlocks, throws, has a data race or fails check; "
     + "from every state all agents can still end");
   assert.match(states, /^ {2}20,590 states, 52,893 acts; 1 final state: /);
   assert.match(learned, /^ {2}the search is proved; what .*: 39 moments of an agent, each of 78 edges twice; 20 real runs agree$/);

@@ -1,8 +1,10 @@
 -- Why a job isn't done.
-use Rattle.std.specs.Prelude.{◌≡◌, ◌⊎◌, ◌≢◌, ℕ, List, [], Option, Some, None, true, false, string_bytes, ⊤}
+use Rattle.std.specs.Prelude.{◌≡◌, ◌⊎◌, ◌≢◌, ◌==◌, ◌||◌, ℕ, Bool, List, [], Option, Some, None, true, false, string_bytes, ⊤}
 use Rattle.std.specs.List.{list_any}
 use Rattle.std.specs.Borrow.{Bor}
-use Rattle.std.specs.Char.{is_ascii_control}
+use Rattle.std.specs.Char.{is_control}
+use Rattle.std.specs.Int.{is_in_range}
+use Rattle.std.specs.Str.{chars}
 use Rattle.sab_tool.specs.declared.tool_fault.ToolFault.{ToolFault}
 use Rattle.sab_tool.specs.declared.tool_fault.ToolFault.TheVariants.{ReadFailed}
 use Rattle.sab_command.specs.declared.request.Source.{Source}
@@ -27,10 +29,19 @@ abbrev pub line_of : Explanation → Option ℕ
 line_of (AtLine line) = Some line
 line_of _ = None
 
--- a file is named exactly if a read of it failed, and its name has no control characters
+-- a character that separates lines, or that changes the direction in which text is shown (Unicode's Bidi_Control)
+abbrev pub is_layout : ℕ → Bool
+is_layout c =
+    c == 0x61C || (is_in_range 0x200E 0x200F c || (is_in_range 0x2028 0x202E c || is_in_range 0x2066 0x2069 c))
+
+-- a character that can change how its line is shown
+abbrev pub changes_line : ℕ → Bool
+changes_line c = is_control c || is_layout c
+
+-- a file is named exactly if a read of it failed, and its name has no character that can change how its line is shown
 abbrev pub NamesFile : Source → ToolFault → Option (Bor (List ℕ)) → Type 0
 NamesFile Standard fault None = ⊤
 NamesFile Standard fault (Some reported) = ⊥
-NamesFile (File name) fault None = (fault ≢ ReadFailed) ⊎ (list_any is_ascii_control name.now ≡ true)
+NamesFile (File name) fault None = (fault ≢ ReadFailed) ⊎ (list_any changes_line (chars name.now) ≡ true)
 NamesFile (File name) fault (Some reported) =
-    (fault ≡ ReadFailed) × (reported.now ≡ name.now) × (list_any is_ascii_control name.now ≡ false)
+    (fault ≡ ReadFailed) × (reported.now ≡ name.now) × (list_any changes_line (chars name.now) ≡ false)

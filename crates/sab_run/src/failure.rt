@@ -2,9 +2,9 @@
 
 ghost use Rattle.std.specs.Prelude.{◌≡◌, ◌≢◌};
 ghost use Rattle.std.specs.List.{list_any};
-ghost use Rattle.std.specs.Char.{is_ascii_control};
+ghost use Rattle.std.specs.Str.{chars};
 ghost use Rattle.std.specs.IoError.{error_kind};
-ghost use Rattle.sab_run.specs.Failure.{NamesFile, explanation_text, line_of, unexplained};
+ghost use Rattle.sab_run.specs.Failure.{NamesFile, changes_line, explanation_text, is_layout, line_of, unexplained};
 
 use sab_command::Source;
 use sab_ending::Complaint;
@@ -47,7 +47,8 @@ impl Failure {
 
     /// What the program reports about it, if the script is read from this source.
     ///
-    /// A file is named if it can't be opened or read, unless its name has control characters.
+    /// A file is named if it can't be opened or read, unless its name has a character that can change how the line is
+    /// shown.
     pub fn complaint<'a>(&'a self, source: Source<'a>) -> Complaint<'a>
         ensures fault { result.fault ≡ self.now.fault }
         ensures file { NamesFile source.entry self.now.fault result.file }
@@ -70,17 +71,31 @@ fn file_of<'a>(source: Source<'a>, fault: ToolFault) -> Option<&'a str>
     let Source::File(name) = source else {
         return None;
     };
-    if fault != ToolFault::ReadFailed || has_control(name) {
+    if fault != ToolFault::ReadFailed || has_layout(name) {
         return None;
     }
     Some(name)
 }
 
-/// Whether a name has control characters, so that it isn't a part of one line.
-fn has_control(name: &str) -> bool
-    ensures { result ≡ list_any is_ascii_control name.now }
+/// Whether a name has a character that can change how its line is shown.
+fn has_layout(name: &str) -> bool
+    ensures { result ≡ list_any changes_line (chars name.now) }
 {
-    name.as_bytes().iter().any(|byte| byte.is_ascii_control())
+    name.chars().any(changes_line)
+}
+
+/// Whether a character can change how its line is shown: a control character, or one of layout.
+fn changes_line(character: char) -> bool
+    ensures { result ≡ changes_line character }
+{
+    character.is_control() || is_layout(character)
+}
+
+/// Whether a character separates lines, or changes the direction in which text is shown.
+fn is_layout(character: char) -> bool
+    ensures { result ≡ is_layout character }
+{
+    matches!(character, '\u{61C}' | '\u{200E}'..='\u{200F}' | '\u{2028}'..='\u{202E}' | '\u{2066}'..='\u{2069}')
 }
 
 /// The line of a trace that is refused, if that is reported.

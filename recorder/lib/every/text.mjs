@@ -22,7 +22,7 @@ export function everyText(data) {
 function closedLines(data) {
   const { acts, agents, found, states } = data;
   const title = `every schedule of ${counted(agents, "agent")} was tried`;
-  const none = "none deadlocks, throws, races or fails check; from every state all agents can still end";
+  const none = "none deadlocks, throws, has a data race or fails check; from every state all agents can still end";
   return [
     `${title}: ${found.length === 0 ? none : foundText(found)}`,
     ...found.slice(0, MOST_LISTED).flatMap(findingLines).map(indented),

@@ -51,7 +51,7 @@ class Machine:
             self.run_on(agent)
 
     def copy(self):
-        it = Machine()
+        it = type(self)()
         it.tickets, it.lost, it.views = self.tickets, self.lost, self.views
         it.memory = [bytearray(block) for block in self.memory]
         it.agents = [agent.copy() for agent in self.agents]
