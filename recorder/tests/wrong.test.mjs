@@ -127,7 +127,8 @@ test("README's tables have each wrong program and each piece, most wrong ones fo
   const section = README.split("\n## ").find((text) => text.startsWith("Wrong by one edit\n"));
   const rows = section.split("\n").filter((line) => line.startsWith("| ")).map((line) => line.slice(2).split(" | "));
   /** @param {string} name @param {number} column @returns {number} the number in the row of a program */
-  const failing = (name, column) => Number(rows.find(([first]) => first === name)?.[column].replace(" |", ""));
+  const failing = (name, column) =>
+    Number(rows.find(([first]) => first.split(", ").includes(name))?.[column].replace(" |", ""));
   const wrong = EDITS.filter(({ kind }) => kind !== RIGHT && kind !== STARVES);
   assert.ok(wrong.filter(({ name }) => failing(name, 2) > 0).length >= 74);
   for (const { name, kind } of EDITS) assert.ok(kind === RIGHT ? failing(name, 2) === 0 : failing(name, 2) >= 0, name);

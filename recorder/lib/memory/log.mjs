@@ -137,9 +137,9 @@ export class Log {
   }
 
   /**
-   * Adds more bytes to an ordinary access, in place of another event: to one of the same agent by the same view on the
-   * bytes just before. That is the last one, or the one before if the agent has read and written in turn. Nobody else
-   * has moved since, so nothing is ordered otherwise.
+   * Extends the agent's last access by the same view, if the new bytes follow it, so that no new event is needed. If the
+   * agent has read and written in turn, that is the last but one. Nobody else has moved since, so nothing is ordered
+   * otherwise.
    * @param {number} what
    * @param {number} agent
    * @param {number} block

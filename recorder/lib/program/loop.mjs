@@ -17,7 +17,7 @@ const own = process;
 /** @type {() => string[]} */
 const resources = own.getActiveResourcesInfo.bind(own);
 
-/** From here on are the numbers of the rows by which threads draw tasks. */
+/** Each thread draws its tasks from a random stream of its own, numbered from here. */
 const TASKS = 64;
 
 /** How likely it is that the time of the first timer comes, in runs in which short times are up early. */

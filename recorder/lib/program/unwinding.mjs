@@ -43,7 +43,8 @@ class Unwinding {
   /** Leaves all code of the program that runs now. */
   leave = /** @returns {never} */ () => {
     this.unwound.stop();
-    // A job that the engine unwinds takes all others of its queue with it. This hook comes before the other one's.
+    // If the engine terminates a microtask, it drops the whole queue. So this hook runs first, and terminates each in
+    // turn.
     this.#release ??= promiseHooks.onBefore(this.leave);
     this.hook.enable();
     this.#next ??= turnLater(this.#sweep);
