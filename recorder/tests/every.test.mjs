@@ -134,6 +134,12 @@ test("what can't be learned is refused, with its line", async (context) => {
     [LOADS(`${OTHER_NEXT}\n  Atomics.load(words, 0);`), /the `next` of all iterators of arrays, at agents\.mjs:6:11$/],
     [LOADS(OTHER_NEXT), /the `next` of all iterators of arrays, at its end$/],
     [`${OTHER_NEXT}\n${LOADS("")}`, /a module replaces the `next` of all iterators of arrays$/],
+    [LOADS("new WeakRef({});"), /agents\.mjs:5:7: `WeakRef`, which isn't among the names/],
+    [LOADS("new FinalizationRegistry(() => {});"), /agents\.mjs:5:7: `FinalizationRegistry`, which isn't among the/],
+    [LOADS("[].leave(Atomics.load(words, 1));"), /names code that was rewritten, at agents\.mjs:5:11$/],
+    [LOADS("const f = () => 1;\n  f(self, Atomics.load(words, 1)).leave();"), /was rewritten, at agents\.mjs:6:35$/],
+    [LOADS("let all;\n  for (const one of all) Atomics.load(words, one);"), /was rewritten, at agents\.mjs:6:21$/],
+    [LOADS("Math.max(...Atomics.load(words, 1));"), /names code that was rewritten, at agents\.mjs:5:15$/],
     [LOADS("Array.prototype.push = 1;\n  Atomics.load(words, 0);"), /: one changes the language's own objects$/],
     [`import "node:fs";\n${LOADS("")}`, /node:fs, which agents\.mjs imports$/],
   ])) {
@@ -147,6 +153,8 @@ test("what a module throws is learned as it is written", async (context) => {
   for (const [more, wanted] of [
     ["const lock = {};\n  lock.leave(Atomics.load(words, 1));", "TypeError: lock.leave is not a function"],
     ["let leave;\n  leave(Atomics.load(words, 1));", "TypeError: leave is not a function"],
+    ["'lock'.leave(Atomics.load(words, 1));", 'TypeError: "lock".leave is not a function'],
+    ["(new class { #at = 1; go() { this.#at(Atomics.load(words, 1)); } }).go();", "TypeError: this[#at] is not a function"],
     ["const lock = {};\n  new lock.Kind(Atomics.load(words, 1));", "TypeError: lock.Kind is not a constructor"],
   ]) {
     const { closed, found } = await everySchedule({ module: moduleOf(context, LOADS(more)), seeds: 2 });
@@ -173,6 +181,16 @@ test("agents that keep something from run to run aren't as they were learned", a
   const done = await recorded(agentsPath("remembers"), "--all", "--seeds", "1..20");
   assert.equal(done.status, 3);
   assert.match(done.problems, /^record: .*does something else than was learned/);
+});
+
+test("an agent that goes by the depth of its stack isn't as it was learned", async (context) => {
+  const deep = "let n = 0;\n  const deep = () => { n += 1; deep(); };\n  try { deep(); } catch {}";
+  const module = moduleOf(context, LOADS(`${deep}\n  Atomics.store(words, 1, n);`));
+  const problem = await everySchedule({ module, seeds: 1 }).catch((error) => error);
+  assert.ok(problem instanceof NotAsLearned, problem);
+  assert.match(problem.message, /does something else than was learned.*\["store","Int32_0",1,\d+\]; and now it does: \[/);
+  const other = moduleOf(context, LOADS(deep));
+  assert.deepEqual((await everySchedule({ module: other, seeds: 1 })).found, []);
 });
 
 test("with new workers for each run they are as they were learned", async () => {
