@@ -249,6 +249,20 @@ test("if not every schedule can be tried, it goes on with the seeds", async () =
   assert.equal(runs, 5);
 });
 
+test("what was found is shown if not every schedule can be tried, too", async (context) => {
+  const out = temporaryFolder(context);
+  const module = join(EXAMPLES, "mutex-naive.agents.mjs");
+  const done = await recorded(module, "--all", "--states", "6000", "--seeds", "1..1", "--out", out);
+  assert.equal(done.status, 1, done.problems);
+  assert.match(done.out, /^not every schedule was tried: all of up to \d+ acts were, 6,000 states; there are more\n/);
+  assert.match(done.out, /\n1 run: 1 finished\n/);
+  assert.match(done.out, /\n {2}among those that were tried, agents can deadlock\n {2}deadlock, in \d+ states?; shown by /);
+  assert.match(done.out, /\n {4}agent \d waits at BELL: its call \d/);
+  assert.match(done.out, /\nkept in .*: all-1\.json, all-1\.report, /);
+  const replayed = await recorded(module, "--replay", join(out, "all-1.json"));
+  assert.match(replayed.out, /1 of 1 run failed: 1 deadlock/);
+});
+
 test("an agent that never comes back ends its thread", async (context) => {
   const module = moduleOf(context, LOADS("if (self === 1) for (;;);"));
   const done = await recorded(module, "--all", "--seeds", "1..2", "--seconds", "1");
