@@ -154,7 +154,7 @@ test("what a module throws is learned as it is written", async (context) => {
     ["const lock = {};\n  lock.leave(Atomics.load(words, 1));", "TypeError: lock.leave is not a function"],
     ["let leave;\n  leave(Atomics.load(words, 1));", "TypeError: leave is not a function"],
     ["'lock'.leave(Atomics.load(words, 1));", 'TypeError: "lock".leave is not a function'],
-    ["(new class { #at = 1; go() { this.#at(Atomics.load(words, 1)); } }).go();", "TypeError: this[#at] is not a function"],
+    ["(new class { #f = 1; go() { this.#f(Atomics.load(words, 1)); } }).go();", "TypeError: this[#f] is not a function"],
     ["const lock = {};\n  new lock.Kind(Atomics.load(words, 1));", "TypeError: lock.Kind is not a constructor"],
   ]) {
     const { closed, found } = await everySchedule({ module: moduleOf(context, LOADS(more)), seeds: 2 });
@@ -188,7 +188,7 @@ test("an agent that goes by the depth of its stack isn't as it was learned", asy
   const module = moduleOf(context, LOADS(`${deep}\n  Atomics.store(words, 1, n);`));
   const problem = await everySchedule({ module, seeds: 1 }).catch((error) => error);
   assert.ok(problem instanceof NotAsLearned, problem);
-  assert.match(problem.message, /does something else than was learned.*\["store","Int32_0",1,\d+\]; and now it does: \[/);
+  assert.match(problem.message, /something else than was learned.*\["store","Int32_0",1,\d+\]; and now it does: \[/);
   const other = moduleOf(context, LOADS(deep));
   assert.deepEqual((await everySchedule({ module: other, seeds: 1 })).found, []);
 });
@@ -256,7 +256,7 @@ test("what was found is shown if not every schedule can be tried, too", async (c
   assert.equal(done.status, 1, done.problems);
   assert.match(done.out, /^not every schedule was tried: all of up to \d+ acts were, 6,000 states; there are more\n/);
   assert.match(done.out, /\n1 run: 1 finished\n/);
-  assert.match(done.out, /\n {2}among those that were tried, agents can deadlock\n {2}deadlock, in \d+ states?; shown by /);
+  assert.match(done.out, /\n {2}among those that were tried, agents can deadlock\n {2}deadlock, in \d+ states?; shown /);
   assert.match(done.out, /\n {4}agent \d waits at BELL: its call \d/);
   assert.match(done.out, /\nkept in .*: all-1\.json, all-1\.report, /);
   const replayed = await recorded(module, "--replay", join(out, "all-1.json"));

@@ -70,7 +70,9 @@ export class Every {
       const nothing = { realRuns: 0, isProved: false, notProved: undefined };
       if (typeof report === "string") return { report: undefined, open: report, ...nothing, shown: [] };
       if (report.changesBuiltins) throw new NotAsLearned(CHANGES_BUILTINS);
-      if (!report.isClosed) return { report, open: openText(report), ...nothing, shown: await this.#shownSoFar(report) };
+      if (!report.isClosed) {
+        return { report, open: openText(report), ...nothing, shown: await this.#shownSoFar(report) };
+      }
       const again = this.#learnAgain(report);
       // The second learning knows more about why a run differs.
       const agreeing = this.#agreeing(report, running).catch((problem) => again.then(() => Promise.reject(problem)));

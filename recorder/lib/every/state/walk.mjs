@@ -348,7 +348,7 @@ export class Walk {
   }
 }
 
-/** @param {number} value @returns {number | string} not the same for two NaNs of which an array would show other bits */
+/** @param {number} value @returns {number | string} for two NaNs not the same if arrays would show other bits */
 function numberText(value) {
   if (Object.is(value, -0)) return "-0";
   if (value === value) return value;
