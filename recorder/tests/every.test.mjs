@@ -134,6 +134,12 @@ test("what can't be learned is refused, with its line", async (context) => {
     [LOADS(`${OTHER_NEXT}\n  Atomics.load(words, 0);`), /the `next` of all iterators of arrays, at agents\.mjs:6:11$/],
     [LOADS(OTHER_NEXT), /the `next` of all iterators of arrays, at its end$/],
     [`${OTHER_NEXT}\n${LOADS("")}`, /a module replaces the `next` of all iterators of arrays$/],
+    [LOADS("new WeakRef({});"), /agents\.mjs:5:7: `WeakRef`, which isn't among the names/],
+    [LOADS("new FinalizationRegistry(() => {});"), /agents\.mjs:5:7: `FinalizationRegistry`, which isn't among the/],
+    [LOADS("[].leave(Atomics.load(words, 1));"), /names code that was rewritten, at agents\.mjs:5:11$/],
+    [LOADS("const f = () => 1;\n  f(self, Atomics.load(words, 1)).leave();"), /was rewritten, at agents\.mjs:6:35$/],
+    [LOADS("let all;\n  for (const one of all) Atomics.load(words, one);"), /was rewritten, at agents\.mjs:6:21$/],
+    [LOADS("Math.max(...Atomics.load(words, 1));"), /names code that was rewritten, at agents\.mjs:5:15$/],
     [LOADS("Array.prototype.push = 1;\n  Atomics.load(words, 0);"), /: one changes the language's own objects$/],
     [`import "node:fs";\n${LOADS("")}`, /node:fs, which agents\.mjs imports$/],
   ])) {
@@ -147,6 +153,8 @@ test("what a module throws is learned as it is written", async (context) => {
   for (const [more, wanted] of [
     ["const lock = {};\n  lock.leave(Atomics.load(words, 1));", "TypeError: lock.leave is not a function"],
     ["let leave;\n  leave(Atomics.load(words, 1));", "TypeError: leave is not a function"],
+    ["'lock'.leave(Atomics.load(words, 1));", 'TypeError: "lock".leave is not a function'],
+    ["(new class { #f = 1; go() { this.#f(Atomics.load(words, 1)); } }).go();", "TypeError: this[#f] is not a function"],
     ["const lock = {};\n  new lock.Kind(Atomics.load(words, 1));", "TypeError: lock.Kind is not a constructor"],
   ]) {
     const { closed, found } = await everySchedule({ module: moduleOf(context, LOADS(more)), seeds: 2 });
@@ -173,6 +181,16 @@ test("agents that keep something from run to run aren't as they were learned", a
   const done = await recorded(agentsPath("remembers"), "--all", "--seeds", "1..20");
   assert.equal(done.status, 3);
   assert.match(done.problems, /^record: .*does something else than was learned/);
+});
+
+test("an agent that goes by the depth of its stack isn't as it was learned", async (context) => {
+  const deep = "let n = 0;\n  const deep = () => { n += 1; deep(); };\n  try { deep(); } catch {}";
+  const module = moduleOf(context, LOADS(`${deep}\n  Atomics.store(words, 1, n);`));
+  const problem = await everySchedule({ module, seeds: 1 }).catch((error) => error);
+  assert.ok(problem instanceof NotAsLearned, problem);
+  assert.match(problem.message, /something else than was learned.*\["store","Int32_0",1,\d+\]; and now it does: \[/);
+  const other = moduleOf(context, LOADS(deep));
+  assert.deepEqual((await everySchedule({ module: other, seeds: 1 })).found, []);
 });
 
 test("with new workers for each run they are as they were learned", async () => {
@@ -229,6 +247,20 @@ test("if not every schedule can be tried, it goes on with the seeds", async () =
   const { every, runs } = JSON.parse(json.out);
   assert.equal(every.closed, false);
   assert.equal(runs, 5);
+});
+
+test("what was found is shown if not every schedule can be tried, too", async (context) => {
+  const out = temporaryFolder(context);
+  const module = join(EXAMPLES, "mutex-naive.agents.mjs");
+  const done = await recorded(module, "--all", "--states", "6000", "--seeds", "1..1", "--out", out);
+  assert.equal(done.status, 1, done.problems);
+  assert.match(done.out, /^not every schedule was tried: all of up to \d+ acts were, 6,000 states; there are more\n/);
+  assert.match(done.out, /\n1 run: 1 finished\n/);
+  assert.match(done.out, /\n {2}among those that were tried, agents can deadlock\n {2}deadlock, in \d+ states?; shown /);
+  assert.match(done.out, /\n {4}agent \d waits at BELL: its call \d/);
+  assert.match(done.out, /\nkept in .*: all-1\.json, all-1\.report, /);
+  const replayed = await recorded(module, "--replay", join(out, "all-1.json"));
+  assert.match(replayed.out, /1 of 1 run failed: 1 deadlock/);
 });
 
 test("an agent that never comes back ends its thread", async (context) => {

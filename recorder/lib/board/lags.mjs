@@ -20,12 +20,11 @@ export class Lags {
    * @param {import("./spins.mjs").Spins} spins
    * @param {import("./strategy.mjs").Rules} rules
    */
-  constructor(memory, words, clock, spins, { agents, early = 0 }) {
+  constructor(memory, words, clock, spins, { early = 0 }) {
     this.lags = new Float64Array(memory);
     this.words = words;
     this.clock = clock;
     this.spins = spins;
-    this.agents = agents;
     this.most = early;
   }
 
@@ -51,7 +50,7 @@ export class Lags {
    */
   allow(deadline, agent) {
     const ahead = deadline - this.clock.now();
-    for (let other = 0; other < this.agents; other += 1) {
+    for (let other = 0; other < this.words[WORD.JOINED]; other += 1) {
       if (other !== agent && this.#lagOf(other, ahead) > this.most) return false;
     }
     return true;
@@ -71,7 +70,7 @@ export class Lags {
 
   /** @param {number} milliseconds by which the clock goes on @param {number} [busy] an agent that has other tasks */
   passes(milliseconds, busy) {
-    for (let agent = 0; agent < this.agents; agent += 1) {
+    for (let agent = 0; agent < this.words[WORD.JOINED]; agent += 1) {
       if (agent === busy || this.#couldMove(agent)) this.lags[agent] += milliseconds;
       else if (this.#isTimed(agent)) this.lags[agent] += this.#lateBy(agent, milliseconds);
     }

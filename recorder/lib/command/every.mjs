@@ -56,17 +56,22 @@ export class EverySession {
       await this.interruption.end();
     }
     const data = dataOf(tried);
-    if (!data.closed) return this.#goOn(data);
     const files = this.#keep(tried, simulatorAt(chosen));
+    if (format === "plain") await print(`${everyText(data)}${keptText(files)}`);
+    if (!data.closed) return this.#goOn(data, tried.shown.length > 0);
     const json = { every: FORM, module: this.options.module, ...data, kept: files ?? null };
-    await print(format === "json" ? `${JSON.stringify(json)}\n` : `${everyText(data)}${keptText(files)}`);
+    if (format === "json") await print(`${JSON.stringify(json)}\n`);
     return { failed: data.found.length > 0, problems: [] };
   }
 
-  /** @param {import("../every/data.mjs").EveryData} data of a search that isn't closed */
-  async #goOn(data) {
-    if (this.options.format === "plain") await print(everyText(data));
-    return new Session({ ...this.options, every: data }, this.module).run();
+  /**
+   * Goes on with the seeds.
+   * @param {import("../every/data.mjs").EveryData} every what came of a search that isn't closed
+   * @param {boolean} isShown whether a real run has shown something of it
+   */
+  async #goOn(every, isShown) {
+    const { failed, problems } = await new Session({ ...this.options, every }, this.module).run();
+    return { failed: failed || isShown, problems };
   }
 
   /** @param {number} states */
@@ -76,16 +81,17 @@ export class EverySession {
   }
 
   /**
-   * Keeps the automata, and each run that is shown.
+   * Keeps the automata, if they are whole, and each run that is shown.
    * @param {Tried} tried
    * @param {import("../simulator/chosen.mjs").Simulator} simulator
    * @returns {Files | undefined}
    */
-  #keep({ report, shown }, simulator) {
+  #keep({ open, report, shown }, simulator) {
     const { out } = this.options;
-    if (out === undefined) return undefined;
+    const isWhole = open === undefined;
+    if (out === undefined || !(isWhole || shown.length > 0)) return undefined;
     const keepers = [new Keeper(out, "--out", "all")];
-    keepers[0].keepAll(0, { "automata.json": `${JSON.stringify(report?.file)}\n` });
+    if (isWhole) keepers[0].keepAll(0, { "automata.json": `${JSON.stringify(report?.file)}\n` });
     shown.forEach(({ outcome }, at) => {
       const keeper = new Keeper(out, "--out", `all-${at + 1}`);
       keeper.keepFirst(outcome);

@@ -67,10 +67,12 @@ export class Every {
     this.threads = { again: beginAgain(), search: this.options.sabsim ? undefined : beginSearch() };
     try {
       const report = await this.#report();
-      const nothing = { realRuns: 0, isProved: false, notProved: undefined, shown: [] };
-      if (typeof report === "string") return { report: undefined, open: report, ...nothing };
-      if (!report.isClosed) return { report, open: openText(report), ...nothing };
+      const nothing = { realRuns: 0, isProved: false, notProved: undefined };
+      if (typeof report === "string") return { report: undefined, open: report, ...nothing, shown: [] };
       if (report.changesBuiltins) throw new NotAsLearned(CHANGES_BUILTINS);
+      if (!report.isClosed) {
+        return { report, open: openText(report), ...nothing, shown: await this.#shownSoFar(report) };
+      }
       const again = this.#learnAgain(report);
       // The second learning knows more about why a run differs.
       const agreeing = this.#agreeing(report, running).catch((problem) => again.then(() => Promise.reject(problem)));
@@ -147,6 +149,11 @@ export class Every {
     await running;
     for (const outcome of this.outcomes.slice(early)) agreement.needs(outcome);
     return agreement.compared;
+  }
+
+  /** @param {Report} report that isn't closed @returns {Promise<Shown[]>} what real runs show of it */
+  async #shownSoFar({ findings }) {
+    return (await shown(findings, this.options)).filter(({ isSame }) => isSame);
   }
 
   /** @param {Report} report */

@@ -25,8 +25,7 @@ function closedLines(data) {
   const none = "none deadlocks, throws, has a data race or fails check; from every state all agents can still end";
   return [
     `${title}: ${found.length === 0 ? none : foundText(found)}`,
-    ...found.slice(0, MOST_LISTED).flatMap(findingLines).map(indented),
-    ...(found.length > MOST_LISTED ? [indented(`and ${digits(found.length - MOST_LISTED)} more`)] : []),
+    ...foundLines(found),
     indented(`${counted(states, "state")}, ${counted(acts, "act")}; ${finalText(data)}`),
     indented(learnedText(data)),
     indented(mergedText(data)),
@@ -39,6 +38,12 @@ function foundText(found) {
   const kinds = [...new Set(found.map(({ kind }) => WORDS[kind]))];
   return `agents can ${kinds.length > 1 ? `${kinds.slice(0, -1).join(", ")} or ${kinds[kinds.length - 1]}` : kinds[0]}`;
 }
+
+/** @param {FoundData[]} found @returns {string[]} the first ones, each with how it is shown */
+const foundLines = (found) => [
+  ...found.slice(0, MOST_LISTED).flatMap(findingLines).map(indented),
+  ...(found.length > MOST_LISTED ? [indented(`and ${digits(found.length - MOST_LISTED)} more`)] : []),
+];
 
 /** @param {FoundData} found */
 function findingLines({ acts, changes, detail, kind, onlyIf, states, text }) {
@@ -71,8 +76,9 @@ function mergedText({ hidden }) {
 }
 
 /** @param {EveryData} data */
-function openLines({ open, widest }) {
-  const lines = [`not every schedule was tried: ${open}`];
+function openLines({ found, open, widest }) {
+  const some = found.length === 0 ? [] : [indented(`among those that were tried, ${foundText(found)}`)];
+  const lines = [`not every schedule was tried: ${open}`, ...some, ...foundLines(found)];
   if (widest === null) return lines;
   const { answers, automaton, line, nodes } = widest;
   const branches = line === null ? "" : `; ${counted(answers, "answer")} at ${line} lead on`;

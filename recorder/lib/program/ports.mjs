@@ -5,7 +5,7 @@
 import { AsyncResource } from "node:async_hooks";
 import threads from "node:worker_threads";
 import { described } from "../agent/described.mjs";
-import { copied, isArray, mapForEach, put, uncurried, weakGet, weakHas, weakSet } from "../primordials.mjs";
+import { copied, hasOwn, isArray, mapForEach, put, uncurried, weakGet, weakHas, weakSet } from "../primordials.mjs";
 import { NOBODYS } from "../board/port-table.mjs";
 import { FileHandle } from "./file-handle.mjs";
 import { toPort, toThread } from "./moves.mjs";
@@ -115,10 +115,14 @@ const isIterable = (value) => typeof value === "object" && value !== null && Sym
 const notIterable = (name) =>
   nodeError("ERR_INVALID_ARG_TYPE", `Optional ${name} argument must be an iterable`, {}, TypeError);
 
+/** So many objects can't be in each other so deep that the other side couldn't read them. */
+const FEW_OBJECTS = 100;
+
 /** @param {any} port @returns {Envelope | undefined} its next message; undefined: it was closed */
 function envelopeOf(port) {
   const found = nextOf(port);
   if (found === undefined) return undefined;
+  if (!(UNREAD in found) && hasOwn(found.message, "kind")) return found.message;
   const about = nextOf(port);
   if (about === undefined) return undefined;
   if (UNREAD in found) return { ...about.message, value: found[UNREAD], ports: [], isUnread: true };
@@ -204,7 +208,8 @@ export class Ports {
     const list = listOf(transfer);
     demandTransferable(list, this.world.refuse);
     const ports = list.filter((each) => weakHas(this.#metas, each));
-    const bare = sent(value, buffers);
+    const walked = { objects: Infinity };
+    const bare = sent(value, buffers, walked);
     if (closed && kind === KIND.MESSAGE) {
       // What is wrong with it is thrown, and what it has is given away, also if nobody can get it.
       post(new EngineChannel().port1, bare, list);
@@ -214,9 +219,12 @@ export class Ports {
     const number = called === undefined ? moves.sendNow() : moves.send(called, this.#goesTo(id ^ 1));
     const ids = ports.map((each) => this.known(each).id);
     this.world.noted(number, kind, bare);
-    // The other side may be unable to read the value. What is known about the message comes by one of its own.
-    post(port, { value: bare, ports }, list);
-    post(port, { kind, number, ids });
+    if (walked.objects <= FEW_OBJECTS) post(port, { value: bare, kind, number, ports, ids }, list);
+    else {
+      // The other side may be unable to read the value. What is known about the message comes by one of its own.
+      post(port, { value: bare, ports }, list);
+      post(port, { kind, number, ids });
+    }
     for (let at = 0; at < ports.length; at += 1) this.leave(ports[at]);
     const peer = id ^ 1;
     if (table.isClosed(peer)) return;

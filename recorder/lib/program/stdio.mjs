@@ -161,11 +161,21 @@ function put(name, value) {
   /** @type {any} */ (console)[`_${name}`] = value;
 }
 
-/** @type {any} what `process.stdin` is; undefined: it isn't simulated */
+/** @type {any} what `process.stdin` is, once the program has asked for it */
 let input;
 
+/** @type {(() => any) | undefined} makes it; undefined: it isn't simulated */
+let makeInput;
+
 /** @returns {any} the thread's standard input; undefined: it isn't simulated */
-export const standardInput = () => input;
+export const standardInput = () => (input ??= makeInput?.());
+
+/** @returns {any} an input that has ended */
+function noInput() {
+  const readable = new Readable({ read() {} });
+  readable.push(null);
+  return readable;
+}
 
 /**
  * Gives the thread the streams that its Worker has asked for.
@@ -179,13 +189,14 @@ export function beginStdio(ports, { port, stdin, ...printed }) {
     plain[name] = process[name];
     put(name, new WritableWorkerStdio(port, name));
   }
-  input = stdin ? new ReadableWorkerStdio(port, "stdin") : new Readable({ read() {} });
-  if (!stdin) input.push(null);
+  input = stdin ? new ReadableWorkerStdio(port, "stdin") : undefined;
+  makeInput = noInput;
 }
 
 /** Nothing of an earlier run is left. */
 export function clearStdio() {
   input = undefined;
+  makeInput = undefined;
   PRINTED.forEach((name) => {
     if (own[name]) put(name, plain[name]);
   });

@@ -100,12 +100,13 @@ const settled = (value, made) => mirrored(value, made, {
  * A value with the engine's own arrays.
  * @param {unknown} given
  * @param {(memory: any) => void} met gets each shared buffer in it, and each shared WebAssembly.Memory
+ * @param {import("../agent/ordinary/reach.mjs").Walked} [walked]
  * @returns {unknown}
  */
-function bare(given, met) {
+function bare(given, met, walked) {
   // The engine throws for such an object, and wouldn't for a copy.
   if (isAnyMarked && reaches(given, WHOLLY, false, isMarked)) return given;
-  if (!reaches(given, WHOLLY, false, (inner) => isMemory(inner) || hasGetter(inner))) return given;
+  if (!reaches(given, WHOLLY, false, (inner) => isMemory(inner) || hasGetter(inner), walked)) return given;
   const value = settled(given, new EngineMap());
   return mirrored(value, new EngineMap(), {
     isIt: isMemory,
@@ -121,12 +122,13 @@ function bare(given, met) {
  * A value as it is sent.
  * @param {unknown} value
  * @param {Buffers} buffers
+ * @param {import("../agent/ordinary/reach.mjs").Walked} [walked]
  * @returns {unknown}
  */
-export const sent = (value, buffers) => bare(value, (memory) => {
+export const sent = (value, buffers, walked) => bare(value, (memory) => {
   if (Buffers.isShared(memory)) buffers.share(memory);
   else buffers.shareMemory(memory);
-});
+}, walked);
 
 /**
  * A value as it is received.

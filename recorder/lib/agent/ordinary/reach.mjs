@@ -24,6 +24,7 @@ export const SHALLOW = 2;
 export const WHOLLY = Infinity;
 
 /** @typedef {(value: unknown) => boolean} Test what is looked for */
+/** @typedef {{ objects: number }} Walked how many objects are in a value: it is noted if nothing is found there */
 
 /**
  * @type {Test} whether a value is itself memory whose accesses are noted: recorded memory, or an array on other shared
@@ -73,14 +74,19 @@ function eachWithin(object, visit) {
  * @param {number} depth how many objects deep is looked
  * @param {boolean} [suspicious] whether a getter counts too
  * @param {Test} [isIt] which memory is looked for
+ * @param {Walked} [walked]
  * @returns {boolean}
  */
-export function reaches(value, depth, suspicious = false, isIt = isWatched) {
+export function reaches(value, depth, suspicious = false, isIt = isWatched, walked = undefined) {
   if (isIt(value)) return true;
-  if (depth === 0 || isLeaf(value) || typeof value === "function") return false;
+  if (depth === 0 || isLeaf(value) || typeof value === "function") {
+    if (walked !== undefined) walked.objects = 1;
+    return false;
+  }
   const met = new EngineSet();
   setAdd(met, value);
   let isFound = false;
+  let objects = 1;
   /** @type {any[]} */
   let next = [];
   const visit = (/** @type {unknown} */ inner) => {
@@ -96,8 +102,10 @@ export function reaches(value, depth, suspicious = false, isIt = isWatched) {
       const isKnown = eachWithin(/** @type {object} */ (all[at]), visit);
       if (isFound || (suspicious && !isKnown)) return true;
     }
+    objects += next.length;
     all = next;
   }
+  if (walked !== undefined) walked.objects = objects;
   return false;
 }
 

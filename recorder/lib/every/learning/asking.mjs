@@ -29,8 +29,8 @@ const PUTS = "--all can't learn what the agents do: one gives the object of a bu
 const REPLACES_NEXT = "it has replaced the `next` of all iterators of arrays";
 const { prototype: ofBuffers } = SharedArrayBuffer;
 
-/** @param {string} why @param {string} line */
-const cantText = (why, line) => `--all can't learn what the agents do: ${why}, at ${line}`;
+/** @param {string} why @param {string} line @returns {string} why agents are refused */
+export const cantText = (why, line) => `--all can't learn what the agents do: ${why}, at ${line}`;
 
 /**
  * `some` of arrays is the agents' own here.

@@ -68,6 +68,11 @@ export class Code {
     return this.capture.line();
   }
 
+  /** @param {Error} error of an agent @returns {string} the same of where it was made */
+  lineOf(error) {
+    return this.capture.lineOf(error);
+  }
+
   #renew() {
     this.renewals += 1;
     this.runtime.beginModules();

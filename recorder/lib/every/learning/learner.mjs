@@ -4,11 +4,12 @@
 import { leftOpen } from "../../agent/answer.mjs";
 import { described } from "../../agent/described.mjs";
 import { defineProperty } from "../../primordials.mjs";
+import { OWN_NAMES } from "../rewriting/naming.mjs";
 import { CantShow } from "../state/walk.mjs";
 import { DONE, DOES, isCall, nodeOf } from "../search/nodes.mjs";
 import { nodeText } from "../search/text.mjs";
 import { CantLearn, askedEnd, isSame, keyOf } from "./asked.mjs";
-import { accessed } from "./asking.mjs";
+import { accessed, cantText } from "./asking.mjs";
 
 /** @typedef {import("../search/nodes.mjs").Node} Node */
 /** @typedef {import("../search/nodes.mjs").Answer} Answer */
@@ -22,6 +23,8 @@ export class LooksAtNumber extends Error {}
 const READS_BEFORE_COMPARING = 32;
 const MOST_ACCESSES = 100_000;
 
+const NAMES_REWRITTEN = "it throws an error whose message names code that was rewritten";
+
 /**
  * @typedef {object} Agents
  * @property {number} count
@@ -34,6 +37,7 @@ const MOST_ACCESSES = 100_000;
  * @typedef {object} AgentCode
  * @property {() => Function} agentNow the agent's function, from modules that keep what they keep at first
  * @property {() => string} line where the agent that runs now asks for something
+ * @property {(error: Error) => string} [lineOfError] where an error of agents was made
  * @property {(asked: Asked) => string} [key] shows the state of the agent that asks, and throws CantShow if it can't;
  * without, no two histories are one node
  * @property {(isBegun: boolean) => void} [onCall] is called before and after each call of the agent's function
@@ -47,12 +51,13 @@ export class Learner {
    * @param {Agents} agents
    * @param {AgentCode} code
    */
-  constructor(asker, agents, { agentNow, line, key, onCall = () => {} }) {
+  constructor(asker, agents, { agentNow, line, lineOfError = line, key, onCall = () => {} }) {
     this.onCall = onCall;
     this.asker = asker;
     this.agents = agents;
     this.agentNow = agentNow;
     this.line = line;
+    this.lineOfError = lineOfError;
     this.key = key;
     /** @type {Node[]} of all automata */
     this.nodes = [];
@@ -161,10 +166,17 @@ export class Learner {
     this.onCall(false);
     if (agents.isShared && this.looksAtNumber) throw new LooksAtNumber();
     if (isBroken) return undefined;
-    if (hasThrown) return askedEnd(titleOf(thrown));
+    if (hasThrown) return askedEnd(this.#titleOf(thrown));
     const open = leftOpen(result, "an agent");
     if (open !== undefined) throw new CantLearn(`it ${open}`);
     return askedEnd();
+  }
+
+  /** @param {unknown} thrown by the agent @returns {string} without its stack */
+  #titleOf(thrown) {
+    const title = titleOf(thrown);
+    if (!(thrown instanceof TypeError) || !OWN_NAMES.test(title)) return title;
+    throw new CantLearn(cantText(NAMES_REWRITTEN, this.lineOfError(thrown)), true);
   }
 
   /**

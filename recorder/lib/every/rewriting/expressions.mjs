@@ -69,7 +69,8 @@ export const EXPRESSIONS = {
 function spreadFirst({ edits }, { arguments: given }) {
   for (const { argument, type } of given) {
     if (type !== "SpreadElement") continue;
-    edits.before(argument.start, "[...(");
+    // In an argument the engine says something else of what can't be gone through: it names `$R` here.
+    edits.before(argument.start, "[...$R.given(");
     edits.after(argument.end, ")]");
   }
 }

@@ -3,22 +3,37 @@
 
 /** @typedef {import("./tree.mjs").Tree} Tree */
 
-const NAMELESS = "(intermediate value)";
+const NAMELESS = () => "(intermediate value)";
+
+/** The names that rewritten code has. Modules that have one of them are refused. */
+export const OWN_NAMES = /\$(?:R|m|f|i|o|x|e\d+|default)\b/;
+
+/** If something with this name isn't a function, the agent is refused: its own name isn't known. */
+const NOT_KNOWN = "$R";
 
 /** @type {Record<string, (tree: Tree) => string>} by the types of trees */
 const NAMES = {
-  Identifier: ({ name }) => name,
-  ThisExpression: () => "this",
+  ArrowFunctionExpression: NAMELESS,
   CallExpression: ({ callee }) => `${engineName(callee)}(...)`,
-  Literal: ({ value }) => (typeof value === "string" ? JSON.stringify(value) : `${value}`),
+  ClassExpression: NAMELESS,
+  FunctionExpression: NAMELESS,
+  Identifier: ({ name }) => name,
+  Literal: ({ value, bigint }) => {
+    if (bigint !== undefined) return NAMELESS();
+    return typeof value === "string" ? `"${value}"` : `${value}`;
+  },
   MemberExpression: ({ object, property, computed }) => {
+    if (property.type === "PrivateIdentifier") return `${engineName(object)}[#${property.name}]`;
     const isName = !computed || typeof property.value === "string";
     const key = isName ? `.${property.value ?? property.name}` : `[${engineName(property)}]`;
     return `${engineName(object)}${key}`;
   },
+  NewExpression: NAMELESS,
+  Super: NAMELESS,
+  ThisExpression: () => "this",
 };
 
 /** @param {Tree} callee @returns {string} */
 export function engineName(callee) {
-  return NAMES[callee.type]?.(callee) ?? NAMELESS;
+  return NAMES[callee.type]?.(callee) ?? NOT_KNOWN;
 }

@@ -2,6 +2,7 @@
 
 import { Analysis } from "./analysis.mjs";
 import { DEFAULT, linked } from "./modules.mjs";
+import { OWN_NAMES } from "./naming.mjs";
 import { Places } from "./places.mjs";
 import { Writer } from "./writer.mjs";
 
@@ -15,9 +16,6 @@ import { Writer } from "./writer.mjs";
  * @property {(place: number) => import("./places.mjs").Place} at what can be read at a place of the code
  * @property {(place: number) => string} lineOf the line and the column, in the module's text, of a place of the code
  */
-
-/** The names that rewritten code has. */
-const OWN_NAMES = /\$(?:R|m|f|i|o|x|e\d+|default)\b/;
 
 /**
  * Rewrites a module.

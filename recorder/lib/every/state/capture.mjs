@@ -11,6 +11,7 @@ const CALLED_BY_ENGINE = new Set(["next", "return", "throw", "valueOf", "toStrin
 
 /** @typedef {{ name: string, id: number, isAccessor: boolean }} Called a function of the agents that runs */
 
+const NOT_KNOWN = "a place that isn't known";
 const LIBRARY = new URL("../../", import.meta.url).href;
 const ELEMENTS = new URL("../../agent/ordinary/elements.mjs", import.meta.url).href;
 const ATOMICS = new URL("../../agent/atomics.mjs", import.meta.url).href;
@@ -73,10 +74,21 @@ export class Capture {
   /** @returns {string} the file, line and column at which an agent asks for something now */
   line() {
     const site = framesHere().find((one) => this.texts.has(one.getFileName() ?? ""));
-    if (site === undefined) return "a place that isn't known";
-    const file = site.getFileName() ?? "";
-    const line = this.texts.get(file)?.lineOf(site.getPosition());
-    return `${file.slice(file.lastIndexOf("/") + 1)}:${line}`;
+    return site === undefined ? NOT_KNOWN : this.#lineAt(site.getFileName() ?? "", site.getPosition());
+  }
+
+  /** @param {Error} error of an agent @returns {string} the file, line and column at which it was made */
+  lineOf(error) {
+    const frames = [...String(error.stack).matchAll(/(file:\S+):(\d+):(\d+)/g)];
+    const [, file, line, column] = frames.find(([, name]) => this.texts.has(name)) ?? ["", ""];
+    if (file === "") return NOT_KNOWN;
+    const before = this.texts.get(file)?.code.split("\n").slice(0, Number(line) - 1) ?? [];
+    return this.#lineAt(file, before.reduce((sum, { length }) => sum + length + 1, 0) + Number(column) - 1);
+  }
+
+  /** @param {string} file @param {number} position in its rewritten text */
+  #lineAt(file, position) {
+    return `${file.slice(file.lastIndexOf("/") + 1)}:${this.texts.get(file)?.lineOf(position)}`;
   }
 
   /** @param {Walk} walk */

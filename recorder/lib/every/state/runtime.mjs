@@ -154,6 +154,7 @@ export class Runtime {
       module: (read, indexes) => void this.modules.push({ environment: new Environment(read), indexes }),
       callable,
       constructible,
+      given: (/** @type {unknown} */ value) => value,
       iterable,
       key,
       method,

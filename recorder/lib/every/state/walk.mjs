@@ -36,8 +36,10 @@ const FLAGS = [
   "hasIndices", "global", "ignoreCase", "multiline", "dotAll", "unicode", "unicodeSets", "sticky",
 ].map((name) => reader(RegExp.prototype, name));
 const isResizable = reader(ArrayBuffer.prototype, "resizable");
-// It is watched when the agents' code is there.
+// They are watched when the agents' code is there.
 const EngineBytes = Uint8Array;
+const FLOAT = new Float64Array(1);
+const FLOAT_BYTES = new Uint8Array(FLOAT.buffer);
 const stackOfErrors = /** @type {PropertyDescriptor} */ (Reflect.getOwnPropertyDescriptor(new Error("stack"), "stack"));
 const { has: weakSetHas } = WeakSet.prototype;
 const entriesOf = Map.prototype.entries;
@@ -93,7 +95,7 @@ export class Walk {
     switch (typeof value) {
       case "undefined": this.out.push("u"); return;
       case "boolean": this.out.push(value ? "t" : "f"); return;
-      case "number": this.out.push(Object.is(value, -0) ? "-0" : value); return;
+      case "number": this.out.push(numberText(value)); return;
       case "bigint": this.out.push(`${value}n`); return;
       case "string": this.out.push(JSON.stringify(value)); return;
       case "symbol": this.out.push(this.#symbol(value)); return;
@@ -344,6 +346,14 @@ export class Walk {
       this.value(set);
     }
   }
+}
+
+/** @param {number} value @returns {number | string} for two NaNs not the same if arrays would show other bits */
+function numberText(value) {
+  if (Object.is(value, -0)) return "-0";
+  if (value === value) return value;
+  FLOAT[0] = value;
+  return `NaN${hexOf(FLOAT_BYTES, 0, 8)}`;
 }
 
 /** @param {ArrayBufferLike} buffer @returns {Uint8Array} its bytes */
