@@ -3,13 +3,14 @@
 import assert from "node:assert/strict";
 import { spawn } from "node:child_process";
 import { randomUUID } from "node:crypto";
+import { once } from "node:events";
 import { writeFileSync } from "node:fs";
 import { join } from "node:path";
 import { test } from "node:test";
 import { setTimeout as sleep } from "node:timers/promises";
 import { Delivery } from "../lib/seeds/delivery.mjs";
 import { Difference, LostJob, NoSabsim, Refused, explore, record } from "../recorder.mjs";
-import { agentsOf, agentsPath, processesWith, temporaryFolder } from "./helpers/common.mjs";
+import { agentsOf, agentsPath, processesWith, soon, stayingWith, temporaryFolder } from "./helpers/common.mjs";
 import { CHECKER, NOWHERE, onLinux, withShell } from "./helpers/needs.mjs";
 
 const LIBRARY = new URL("../recorder.mjs", import.meta.url).href;
@@ -216,19 +217,20 @@ for (const [what, code] of Object.entries(WAYS_OUT)) {
         const runs = explore(${JSON.stringify(options)});
         ${code}
         process.send("over");
-        process.disconnect();
+        await new Promise((done) => process.once("disconnect", done));
       `);
       const env = { ...process.env, RECORDER_TEST: mark };
       const stdio = ["ignore", "inherit", "inherit", "ipc"];
       const child = spawn(process.execPath, [file], { env, stdio });
-      const left = new Promise((done) => {
-        child.once("message", () => done(processesWith(mark).filter((id) => Number(id) !== child.pid)));
+      const ended = new Promise((done) => {
+        child.on("exit", done);
       });
+      // It goes on until it has no parent to speak to.
+      await Promise.race([once(child, "message"), ended]);
+      assert.ok(await soon(() => processesWith(mark).every((id) => Number(id) === child.pid)));
+      if (child.connected) child.disconnect();
       // It ends by itself: no worker holds it.
-      const status = await new Promise((done) => {
-        child.on("close", done);
-      });
-      assert.deepEqual([status, await left, processesWith(mark)], [0, [], []]);
+      assert.deepEqual([await ended, processesWith(mark)], [0, []]);
     }));
   });
 }
@@ -245,12 +247,12 @@ test("a signal that is aborted while no outcome is taken ends all the same", onL
       await explore({ ...options, signal: controller.signal }).next();
       controller.abort();
     `);
-    const child = spawn(process.execPath, [file], { env: { ...process.env, RECORDER_TEST: mark }, timeout: 60_000 });
+    const child = spawn(process.execPath, [file], { env: { ...process.env, RECORDER_TEST: mark }, timeout: 600_000 });
     // It ends by itself, though nobody has asked the iterator for more.
     const status = await new Promise((done) => {
       child.on("close", done);
     });
-    assert.deepEqual([status, processesWith(mark)], [0, []]);
+    assert.deepEqual([status, await stayingWith(mark)], [0, []]);
   }));
 });
 

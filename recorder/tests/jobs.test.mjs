@@ -15,7 +15,7 @@ import { Runs, outcomesOf } from "../lib/seeds/runs.mjs";
 import { isWorthIt, moreJobs } from "../lib/seeds/more-jobs.mjs";
 import { jobWords } from "../lib/seeds/start-job.cjs";
 import { commandHere } from "./helpers/command-here.mjs";
-import { RECORD, agentsOf, agentsPath, processesWith, temporaryFolder } from "./helpers/common.mjs";
+import { RECORD, agentsOf, agentsPath, processesWith, stayingWith, temporaryFolder } from "./helpers/common.mjs";
 import { CHECKING, onLinux, withSignals } from "./helpers/needs.mjs";
 
 /**
@@ -98,7 +98,7 @@ test("without --jobs a command that goes on takes further jobs, and prints the s
   assert.deepEqual({ status, stdout }, one);
   // Besides the command itself there is a process for each job. Whether one is added depends on what else is running.
   assert.ok(most >= 2 && most <= 1 + availableParallelism(), `${most} processes`);
-  assert.deepEqual(processesWith(mark), []);
+  assert.deepEqual(await stayingWith(mark), []);
 });
 
 /** So many outcomes are taken when there is a further job, so that some come from it. */
@@ -282,10 +282,10 @@ test("if one job of several is killed, the others go on", onLinux, async (contex
   // A job is given 16 seeds at a time at most.
   assert.ok(made >= 1_500 - 16 && made < 1_500, runs);
   assert.match(output.stderr, /^record: a job's process ended by itself \(SIGKILL\), and nothing is known of /m);
-  assert.deepEqual(processesWith(mark), []);
+  assert.deepEqual(await stayingWith(mark), []);
 });
 
-test("a call of native code that takes long holds nothing, nor does what it has started", onLinux, (context) => {
+test("a call of native code that takes long holds nothing, nor does what it has started", onLinux, async (context) => {
   const mark = randomUUID();
   const folder = temporaryFolder(context);
   const module = join(folder, "agents.mjs");
@@ -304,5 +304,5 @@ test("a call of native code that takes long holds nothing, nor does what it has 
   assert.match(stdout, /^1 of 1 run failed: 1 limit met\n/);
   // If anything held it, that would be for ten minutes.
   assert.ok(took < 600_000, `it took ${took} ms`);
-  assert.deepEqual(processesWith(mark), []);
+  assert.deepEqual(await stayingWith(mark), []);
 });

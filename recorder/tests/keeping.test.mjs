@@ -7,7 +7,7 @@ import { join } from "node:path";
 import { test } from "node:test";
 import { Keeper, NotKept } from "../lib/keeping/keep.mjs";
 import { Refused } from "../lib/options/refused.mjs";
-import { RECORD, agentsPath, temporaryFolder } from "./helpers/common.mjs";
+import { RECORD, agentsPath, soon, temporaryFolder } from "./helpers/common.mjs";
 import { CHECKING, onLinux, withLinks, withShell, withSignals } from "./helpers/needs.mjs";
 
 const run = (seed, parts) => ({ seed, script: `script ${seed}`, report: `report ${seed}`, ...parts });
@@ -111,16 +111,6 @@ function started(words, options) {
   return { child, ended };
 }
 
-/** Waits until something holds. */
-async function until(holds) {
-  for (const end = Date.now() + 30_000; !holds();) {
-    assert.ok(Date.now() < end, "it took too long");
-    await new Promise((done) => {
-      setTimeout(done, 20);
-    });
-  }
-}
-
 test("--out is tried before anything runs", onLinux, () => {
   const words = [RECORD, agentsPath("cases"), "--agents", "1", "--buffers", "4", "--out", "/proc/self", "--", "prints"];
   const { status, stdout, stderr } = spawnSync(process.execPath, words, { encoding: "utf8" });
@@ -139,7 +129,7 @@ for (const signal of ["SIGINT", "SIGTERM"]) {
         return false;
       }
     };
-    await until(kept);
+    assert.ok(await soon(kept));
     child.kill(signal);
     const { stdout, stderr, signal: by } = await ended;
     assert.deepEqual([by, stderr], [signal, ""]);

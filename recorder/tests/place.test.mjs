@@ -8,7 +8,7 @@ import { setTimeout as sleep } from "node:timers/promises";
 import { pathToFileURL } from "node:url";
 import { Worker } from "node:worker_threads";
 import { framesOf } from "../lib/processes/place-of-thread.mjs";
-import { temporaryFolder } from "./helpers/common.mjs";
+import { soon, temporaryFolder } from "./helpers/common.mjs";
 import { withShell } from "./helpers/needs.mjs";
 
 /**
@@ -23,7 +23,7 @@ async function workerOf(context, code) {
   const worker = new Worker(pathToFileURL(file));
   context.after(() => worker.terminate());
   while (!existsSync(mark)) await sleep(10);
-  return { worker, file: pathToFileURL(file).href };
+  return { worker, file: pathToFileURL(file).href, mark };
 }
 
 test("the frames of code that loops, whatever it has made of Error", async (context) => {
@@ -44,11 +44,15 @@ writeFileSync(${mark}, "");
 });
 
 test("a worker that answers too late isn't paused then, and can be ended", withShell, async (context) => {
-  const { worker } = await workerOf(context, (mark) => `import { execSync } from "node:child_process";
-execSync("touch '" + ${mark} + "'; sleep 1");
+  const { worker, mark } = await workerOf(context, (path) => `import { execSync } from "node:child_process";
+import { writeFileSync } from "node:fs";
+const mark = ${path};
+execSync(\`touch '\${mark}'; while [ -e '\${mark}' ] && [ ! -e '\${mark}-go' ]; do sleep 0.05; done\`);
+writeFileSync(\`\${mark}-gone\`, "");
 for (;;);
 `);
   assert.deepEqual(await framesOf(worker, 0.1), []);
-  await sleep(1_500);
+  writeFileSync(`${mark}-go`, "");
+  assert.ok(await soon(() => existsSync(`${mark}-gone`)));
   assert.equal(await worker.terminate(), 1);
 });

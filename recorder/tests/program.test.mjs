@@ -9,7 +9,9 @@ import { test } from "node:test";
 import { optionsOf, USAGE } from "../lib/command/options.mjs";
 import { Refused } from "../lib/options/refused.mjs";
 import { commandHere } from "./helpers/command-here.mjs";
-import { RECORD, WITHOUT_SABSIM, agentsOf, agentsPath, processesWith, temporaryFolder } from "./helpers/common.mjs";
+import {
+  RECORD, WITHOUT_SABSIM, agentsOf, agentsPath, processesWith, soon, stayingWith, temporaryFolder,
+} from "./helpers/common.mjs";
 import { CHECKING, NOWHERE, hasSabsim, onLinux, withDevices, withShell } from "./helpers/needs.mjs";
 import { simulated } from "./helpers/simulate.mjs";
 
@@ -372,16 +374,6 @@ test("the cause of a worker's death while its module is loaded is reported", asy
   }
 });
 
-const soon = async (holds, milliseconds = 300_000) => {
-  const until = Date.now() + milliseconds;
-  while (!holds() && Date.now() < until) {
-    await new Promise((done) => {
-      setTimeout(done, 20);
-    });
-  }
-  return holds();
-};
-
 // What the recorder is busy with in two processes when it is killed: how many agents do it in each of them, what it has
 // printed by then, and what that needs.
 const BUSY = {
@@ -409,7 +401,7 @@ for (const signal of ["SIGINT", "SIGTERM", "SIGKILL"]) {
       assert.ok(processesWith(mark).length >= 3);
       child.kill(signal);
       assert.equal(await ended, signal);
-      assert.ok(await soon(() => processesWith(mark).length === 0));
+      assert.deepEqual(await stayingWith(mark), []);
     });
   }
 }

@@ -28,7 +28,7 @@ const BUILT = fileURLToPath(new URL("../../crates/sabsim/out/sabsim", import.met
  */
 const CERTIFICATES = "NODE_EXTRA_CA_CERTS";
 
-/** A file that takes longer is ended, and has failed. */
+/** A file that prints nothing for longer is ended, and has failed. Each test prints something when it has ended. */
 const MOST_MILLISECONDS = 40 * 60_000;
 
 /** The status of a command line that asks for something that there isn't. */
@@ -54,11 +54,13 @@ function resultOf(name, env) {
   // Without --test the file's own process writes the report, and no further process starts it.
   const words = [...(startsNothing(name, env) ? WITHOUT_OTHERS : []), "--test-reporter=tap", join(FOLDER, name)];
   return new Promise((done) => {
-    const limits = /** @type {const} */ ({ maxBuffer: 2 ** 30, timeout: MOST_MILLISECONDS, killSignal: "SIGKILL" });
-    execFile(process.execPath, words, { env, ...limits }, (error, stdout, stderr) => {
+    const child = execFile(process.execPath, words, { env, maxBuffer: 2 ** 30 }, (error, stdout, stderr) => {
+      clearTimeout(limit);
       const seconds = (performance.now() - begun) / 1_000;
       done({ name, seconds, ...readReport(stdout + stderr, error === null) });
     });
+    const limit = setTimeout(() => child.kill("SIGKILL"), MOST_MILLISECONDS);
+    child.stdout?.on("data", () => limit.refresh());
   });
 }
 

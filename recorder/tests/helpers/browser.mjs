@@ -8,7 +8,8 @@ import { setTimeout as sleep } from "node:timers/promises";
 import { hasSabsim, needing, withSabsim } from "./needs.mjs";
 
 const NAMES = ["chromium", "chromium-browser", "google-chrome", "google-chrome-stable"];
-const MOST_MILLISECONDS = 30_000;
+/** What takes longer hangs. */
+const MOST_MILLISECONDS = 300_000;
 
 /** The browser of this machine, or undefined. */
 export const BROWSER = NAMES.find((name) => spawnSync(name, ["--version"]).status === 0);
@@ -188,6 +189,13 @@ class Tab {
       name: name?.value ?? "",
       ...Object.fromEntries(properties.map((each) => [each.name, each.value.value])),
     }));
+  }
+
+  /** For how many seconds the page's thread has had a processor. @returns {Promise<number>} */
+  async processorSeconds() {
+    await this.send("Performance.enable");
+    const { metrics } = await this.send("Performance.getMetrics");
+    return metrics.find(({ name }) => name === "ThreadTime").value;
   }
 
   /** @returns {Promise<Buffer>} a picture of the window, as PNG */

@@ -4,6 +4,7 @@ import { execFile } from "node:child_process";
 import { mkdtempSync, readFileSync, readdirSync, rmSync, writeFileSync } from "node:fs";
 import { tmpdir } from "node:os";
 import { join } from "node:path";
+import { setTimeout as sleep } from "node:timers/promises";
 import { fileURLToPath } from "node:url";
 import { record } from "../../recorder.mjs";
 import { NOWHERE } from "./needs.mjs";
@@ -72,4 +73,27 @@ export function processesWith(word) {
       return false;
     }
   });
+}
+
+/** A test that waits for longer has failed: what it waits for would never come. */
+const MOST_MILLISECONDS = 300_000;
+
+/**
+ * Waits until something holds.
+ * @param {() => boolean} holds
+ * @returns {Promise<boolean>} whether it holds
+ */
+export async function soon(holds) {
+  for (const end = performance.now() + MOST_MILLISECONDS; !holds() && performance.now() < end;) await sleep(20);
+  return holds();
+}
+
+/**
+ * The processes whose environment has a word, and that don't end soon. One that was killed is still there until it gets
+ * a processor.
+ * @param {string} word
+ */
+export async function stayingWith(word) {
+  await soon(() => processesWith(word).length === 0);
+  return processesWith(word);
 }

@@ -10,7 +10,8 @@ import { setTimeout as sleep } from "node:timers/promises";
 import { removed } from "./browser.mjs";
 
 const NAMES = ["firefox-esr", "firefox"];
-const MOST_MILLISECONDS = 60_000;
+/** What takes longer hangs. */
+const MOST_MILLISECONDS = 300_000;
 
 /** The Firefox of this machine, or undefined. */
 export const FIREFOX = NAMES.find((name) => spawnSync(name, ["--version"]).status === 0);

@@ -28,8 +28,10 @@ async function runsOf(group, module, { seeds, isFresh }) {
   const runs = [];
   group.enter(module);
   const wanted = seeds.map((seed, at) => ({ seed, whole: true, needsTrace: true, isSilent: true, isFresh: isFresh && at === 0 }));
-  await group.run(wanted, ({ seed, ending, detail, moves, script, noScript, report, trace }) => {
-    if (trace === undefined || (script ?? noScript) === undefined) throw new Error(`seed ${seed} lacks its script or trace`);
+  await group.run(wanted, ({ seed, ending, detail, moves, script, noScript, report, trace, noTrace }) => {
+    if (trace === undefined || (script ?? noScript) === undefined) {
+      throw new Error(`seed ${seed} lacks its script or trace: ${[ending, detail, noTrace].join("; ")}`);
+    }
     runs.push({ seed, text: JSON.stringify({ ending, detail, moves, script, noScript, report, trace }) });
   });
   return runs;

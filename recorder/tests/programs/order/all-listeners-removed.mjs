@@ -4,7 +4,8 @@ import { MessageChannel, receiveMessageOnPort } from "node:worker_threads";
 const { port1, port2 } = new MessageChannel();
 const sent = async (value) => {
   port1.postMessage(value);
-  await new Promise((done) => setTimeout(done, 20));
+  // The message comes before the immediate, also if the timer is late.
+  await new Promise((done) => setTimeout(() => setImmediate(done), 20));
 };
 port2.on("message", (value) => console.log("first", value));
 await sent(1);

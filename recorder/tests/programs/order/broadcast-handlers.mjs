@@ -1,5 +1,7 @@
 // The listeners of a BroadcastChannel get one event, in the order in which they were added; a handler is one of them.
 process.on("uncaughtException", ({ message }) => console.log("uncaught", message));
+// What was sent comes before the immediate, also if a timer is late.
+const turns = () => new Promise((done) => setTimeout(() => setImmediate(done), 20));
 const [from, to] = [new BroadcastChannel("name"), new BroadcastChannel("name")];
 to.addEventListener("message", ({ data }) => console.log("first", data));
 to.onmessage = ({ data }) => {
@@ -20,9 +22,9 @@ for (const act of [() => new BroadcastChannel(), () => from.postMessage()]) {
   }
 }
 from.postMessage(1);
-await new Promise((done) => setTimeout(done, 20));
+await turns();
 to.onmessage = null;
 from.postMessage(2);
-await new Promise((done) => setTimeout(done, 20));
+await turns();
 from.close();
 to.close();
