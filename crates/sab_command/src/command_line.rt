@@ -3,8 +3,7 @@
 ghost use Rattle.std.specs.Prelude.{◌≡◌, IfOk, Ok, false};
 ghost use Rattle.clap.specs.Words.{app_of, new_app, rule_of};
 ghost use Rattle.sab_command.specs.CommandLine.{HaveRules, IsLocal, Lists, command_line};
-ghost use Rattle.sab_command.specs.CommandLine.{failure_rule, file_rule, flag_rule, format_rule, limit_rule, mix_rule};
-ghost use Rattle.sab_command.specs.CommandLine.{share_rule};
+ghost use Rattle.sab_command.specs.CommandLine.{file_rule, flag_rule, format_rule, limit_rule, mix_rule, share_rule};
 ghost use Rattle.sab_command.specs.CommandLine.{judge_rules, report_rules, search_rules, spins_rule, thread_rules};
 ghost use Rattle.sab_command.specs.CommandLine.{timeouts_rule, trace_rule, with_command, with_rules};
 ghost use Rattle.sab_command.specs.CommandLine.{check_app, judge_app, race_app, replay_app, search_app};
@@ -24,9 +23,6 @@ static FORMATS: [&str; 5] = ["plain", "explained", "json", "svg", "script"];
 
 /// What `--format` of a judge takes.
 static VERDICT_FORMATS: [&str; 2] = ["plain", "json"];
-
-/// What `--format` of a search takes.
-static SEARCH_FORMATS: [&str; 3] = ["plain", "json", "script"];
 
 /// What `--timeouts` takes.
 static TIMEOUTS: [&str; 3] = ["early", "last", "never"];
@@ -116,18 +112,6 @@ fn limit_argument<'a>(alloc: Global) -> Arg<'a>
         .value_parser(value_parser!(u32).range(1..=4_294_967_295))
 }
 
-/// The argument that says which failure a script replays to.
-fn failure_argument<'a>(alloc: Global) -> Arg<'a>
-    ensures rule { rule_of result ≡ failure_rule }
-    ensures local { result.global ≡ false }
-{
-    Arg::new(alloc, "failure")
-        .long("failure")
-        .value_name("K")
-        .help(help::FAILURE)
-        .value_parser(value_parser!(u32).range(1..=4_294_967_295))
-}
-
 /// An argument that is there or not, called by its name.
 fn flag<'a>(alloc: Global, name: &'a str, help: &'a str) -> Arg<'a>
     ensures rule { rule_of result ≡ flag_rule name.entry.now }
@@ -196,7 +180,6 @@ fn search_arguments<'a>(
         timeouts_argument(alloc, timeouts),
         limit_argument(alloc),
         format_argument(alloc, help::SEARCH_FORMAT, formats),
-        failure_argument(alloc),
         flag(alloc, "states", help::STATES),
         flag(alloc, "explain", help::EXPLAIN_FILE),
         file_argument(alloc),
@@ -298,12 +281,7 @@ pub(crate) fn command<'a>(alloc: Global) -> Result<Command<'a>, AllocError>
     let sabsim = with_runs(alloc, sabsim, FORMATS.as_slice(), SHARES.as_slice())?;
     let formats = VERDICT_FORMATS.as_slice();
     let sabsim = with_checks(alloc, sabsim, formats)?;
-    with_search(
-        alloc,
-        sabsim,
-        TIMEOUTS.as_slice(),
-        SEARCH_FORMATS.as_slice(),
-    )
+    with_search(alloc, sabsim, TIMEOUTS.as_slice(), formats)
 }
 
 /// The command with those below it that run agents.
