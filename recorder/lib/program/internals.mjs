@@ -102,19 +102,11 @@ const OUTSIDE = 1;
 /** The numbers of what a run begins come after this one: a thread has fewer before. */
 const BEFORE_RUNS = 1_000;
 
-/**
- * Does something of the recorder's. What the program's code begins then has no other context.
- * @param {object} resource
- * @param {() => void} act
- */
-export function withinContext(resource, act) {
-  asyncHooks.pushAsyncContext(OUTSIDE, 0, resource);
-  try {
-    act();
-  } finally {
-    asyncHooks.popAsyncContext(OUTSIDE);
-  }
-}
+/** @param {object} resource of something that the recorder does now: what the program's code begins then is under no other */
+export const enterContext = (resource) => void asyncHooks.pushAsyncContext(OUTSIDE, 0, resource);
+
+/** It is done. */
+export const exitContext = () => void asyncHooks.popAsyncContext(OUTSIDE);
 
 /** The numbers of async_hooks, and of timers, are counted anew: so they are the same in each run. */
 export function countAnew() {

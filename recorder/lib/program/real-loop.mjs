@@ -3,7 +3,7 @@
 // thread: from then on nothing else is called when the thread's real loop turns, or when a real time has passed.
 
 import { apply } from "../primordials.mjs";
-import { IMMEDIATES, REFED_IMMEDIATES, realTimers, withinContext } from "./internals.mjs";
+import { IMMEDIATES, REFED_IMMEDIATES, enterContext, exitContext, realTimers } from "./internals.mjs";
 
 const { binding, getLibuvNow, immediateInfo, scheduleTimer, setupTimers, toggleImmediateRef, toggleTimerRef } = realTimers;
 
@@ -37,18 +37,24 @@ function without(list, later) {
   return rest;
 }
 
-/** @param {Later[]} list whose functions are called, each in a context of its own */
-function doAll(list) {
-  for (let at = 0; at < list.length; at += 1) withinContext(list[at], list[at].act);
+/** @returns {Later[]} what is to be done when the loop has turned */
+function takeNext() {
+  const all = next;
+  next = [];
+  if (all.length > 0) awaitTurn(false);
+  return all;
 }
 
-/** Node calls this when the loop has turned. */
-function turn() {
-  if (next.length === 0) return;
-  const now = next;
-  next = [];
-  awaitTurn(false);
-  doAll(now);
+/** @param {number} now @returns {Later[]} what is to be done by then */
+function takeDue(now) {
+  const all = timed;
+  const due = [];
+  timed = [];
+  for (let at = 0; at < all.length; at += 1) {
+    const list = all[at].due <= now ? due : timed;
+    list[list.length] = all[at];
+  }
+  return due;
 }
 
 /** @returns {number} when the first time has come; 0 if there is none */
@@ -59,20 +65,24 @@ function firstDue() {
 }
 
 /**
- * Node calls this when a time may have come.
- * @param {number} now
- * @returns {number} when it is to be called again
+ * A function that node calls. No further one is below what is done: a stack has ten frames, also of a program's error.
+ * @param {(now: number) => Later[]} take takes what is to be done
+ * @returns {(now: number) => number} returns when a time has come next
  */
-function timeIsUp(now) {
-  const all = timed;
-  timed = [];
-  const due = [];
-  for (let at = 0; at < all.length; at += 1) (all[at].due <= now ? due : timed).push(all[at]);
-  doAll(due);
+const doing = (take) => (now) => {
+  const all = take(now);
+  for (let at = 0; at < all.length; at += 1) {
+    enterContext(all[at]);
+    try {
+      all[at].act();
+    } finally {
+      exitContext();
+    }
+  }
   return firstDue();
-}
+};
 
-setupTimers(turn, timeIsUp);
+setupTimers(doing(takeNext), doing(takeDue));
 
 /** @param {() => void} act is called when the real loop has turned @returns {Later} */
 export function turnLater(act) {

@@ -65,7 +65,7 @@ export class Timers {
 
   /** @returns {any[]} where each timer was made */
   places() {
-    return lists().flatMap((list) => itemsOf(list)).map((timer) => weakGet(this.#made, timer));
+    return allTimers().map((timer) => weakGet(this.#made, timer));
   }
 
   /** @returns {number} how many immediates are ready */
@@ -87,7 +87,7 @@ export class Timers {
   keepers() {
     this.#gather();
     const isRefed = (/** @type {Item} */ item) => item[kRefed];
-    const waiting = lists().flatMap((list) => itemsOf(list)).filter(isRefed);
+    const waiting = allTimers().filter(isRefed);
     waiting.sort((one, other) => timeOf(one) - timeOf(other));
     const ready = this.#round.concat(this.#next).filter(isRefed);
     return waiting.concat(ready).map((item) => this.#described(item));
@@ -216,6 +216,9 @@ export class Timers {
 
 /** @returns {any[]} node's lists of timers, one for each number of milliseconds */
 const lists = () => Object.values(timerListMap);
+
+/** @returns {Item[]} */
+const allTimers = () => lists().flatMap((list) => itemsOf(list));
 
 /** @param {Item} item @returns {string} it in words */
 function textOf(item) {
