@@ -69,6 +69,15 @@ describe("threads that are kept", () => {
     assert.deepEqual(outcomes.map(({ ending, noTrace }) => [ending, noTrace]), Array(3).fill(["finished", undefined]));
   });
 
+  it("count the numbers of async_hooks and of timers anew", async (context) => {
+    const outcomes = await runsOf(context, {
+      "main.mjs": `import assert from "node:assert/strict"; import { AsyncResource } from "node:async_hooks";
+        const numbers = [new AsyncResource("one").asyncId(), +setTimeout(() => {}, 1), +setInterval(() => {}, 1).unref()];
+        assert.deepEqual(globalThis.numbers ??= numbers, numbers);`,
+    }, { seeds: [1, 2, 3] });
+    assert.deepEqual(outcomes.map(({ ending, detail }) => `${ending}: ${detail}`), Array(3).fill("finished: "));
+  });
+
   it("are started anew after many runs", async (context) => {
     // The first run in a thread has most moves.
     const main = programOf(context, {

@@ -61,3 +61,14 @@ test("what a program prints is shown for the first seed and the kept run, for al
   assert.deepEqual([agents.status, agents.stderr], [2,
     "record: --program-output needs --program: what agents print is always shown\n"]);
 });
+
+test("a stack that a program prints has no frames of the recorder", (context) => {
+  const main = programOf(context, { "main.mjs": `const print = () => console.log(new Error("shown").stack);
+setTimeout(print, 1);
+setImmediate(function inImmediate() { print(); });` });
+  const byNode = spawnSync(process.execPath, [main], { encoding: "utf8" }).stdout.trimEnd().split("\n");
+  const { stderr } = spawnSync(process.execPath, [RECORD, "--program", main, "--seeds", "1"], { encoding: "utf8" });
+  const lines = stderr.split("\n").filter((line) => line.startsWith("[main] ")).map((line) => line.slice(7));
+  // When a timer of 1 ms comes isn't certain in node.
+  assert.deepEqual(lines.sort(), byNode.sort());
+});

@@ -144,6 +144,26 @@ server.unref();` }, { seeds: seedsTo(5) }));
   });
 });
 
+/** A socket on which nothing comes for 10 minutes. */
+const IDLE = `import net from "node:net"; import assert from "node:assert/strict";
+const server = net.createServer((socket) => socket.setTimeout(600_000, () => {
+  assert.ok(performance.now() >= 600_000); socket.end("bye"); server.close(); }));
+server.listen(0, "127.0.0.1", () => net.connect(server.address().port, "127.0.0.1").resume());`;
+
+/** A server that closes a connection for which no further request comes. */
+const KEPT_ALIVE = `import http from "node:http"; import assert from "node:assert/strict";
+const server = http.createServer({ keepAliveTimeout: 600_000 }, (asked, answer) => answer.end("hello"));
+server.on("connection", (socket) => socket.on("close", () => {
+  assert.ok(performance.now() >= 600_000); process.exit(0); }));
+server.listen(0, "127.0.0.1", () => http.get({ host: "127.0.0.1", port: server.address().port,
+  agent: new http.Agent({ keepAlive: true }) }, (answer) => answer.resume()));`;
+
+describe("sockets' timers", () => {
+  it("go by the run's clock", async (context) => {
+    for (const main of [IDLE, KEPT_ALIVE]) areFinished(await runsOf(context, { "main.mjs": main }, { seeds: seedsTo(3) }));
+  });
+});
+
 describe("kept threads", () => {
   it("give right results for 50 seeds in a row", async (context) => {
     const outcomes = await runsOf(context, { "main.mjs": `import { Worker } from "node:worker_threads";

@@ -60,6 +60,25 @@ function isOwn(file) {
   return false;
 }
 
+/** @param {unknown} file @returns {boolean} whether it is one of the recorder's that agents' code calls */
+const isOfLibrary = (file) => typeof file === "string" && begins(file, LIBRARY);
+
+/**
+ * Frames as the agents' code is to see them: without the recorder's own, unless there are no others.
+ * @param {NodeJS.CallSite[]} frames
+ * @returns {NodeJS.CallSite[]}
+ */
+export function shownFrames(frames) {
+  const shown = [];
+  let isOfAgents = false;
+  for (let at = 0; at < frames.length; at += 1) {
+    const file = /** @type {string | null} */ (frames[at].getFileName());
+    if (isAgentsFile(file)) isOfAgents = true;
+    if (!isOfLibrary(file)) shown[shown.length] = frames[at];
+  }
+  return isOfAgents ? shown : frames;
+}
+
 /** @type {Map<string, boolean>} for each file whether it is one of the agents' code */
 const agentsFiles = new EngineMap();
 

@@ -1,11 +1,9 @@
 // The child processes of a thread: they are real ones. What they print goes where the program's own output goes, and
 // standard input is empty. None of them is left when the thread's part in a run is over.
 
-import timers from "node:timers";
 import { apply } from "../primordials.mjs";
 import { processes } from "./internals.mjs";
-
-const { setTimeout: wake } = timers;
+import { wake } from "./real-loop.mjs";
 
 /** The machine's clock. What the program finds under this name has the run's time. */
 const machineTime = performance.now.bind(performance);

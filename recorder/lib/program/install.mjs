@@ -3,8 +3,6 @@
 
 import nodeModule from "node:module";
 import process from "node:process";
-import timers from "node:timers";
-import timersPromises from "node:timers/promises";
 import threads from "node:worker_threads";
 import { apply, construct, isArray, likeEngine, proxyOf, put } from "../primordials.mjs";
 import { member } from "./member.mjs";
@@ -15,20 +13,6 @@ import { clonedValue, installMarks } from "./values.mjs";
 const EngineShared = SharedArrayBuffer;
 const { syncBuiltinESMExports } = nodeModule;
 const { performance } = /** @type {any} */ (globalThis);
-
-/**
- * Puts a run's timers in the place of node's.
- * @param {import("./timers.mjs").Timers} own
- */
-export function installTimers(own) {
-  for (const [name, each] of Object.entries(own.functions)) {
-    member(globalThis, name, each);
-    member(timers, name, each);
-  }
-  for (const name of Object.keys(timersPromises)) member(timersPromises, name, own.promises[name]);
-  member(timers, "promises", timersPromises);
-  member(AbortSignal, "timeout", own.timeoutSignal);
-}
 
 /**
  * Reports each shared buffer that the program makes.

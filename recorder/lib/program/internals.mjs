@@ -1,13 +1,12 @@
 // What the recorder uses of node's inside: all of it is here, with what is needed of it. Only threads with the flags of
 // `graph-flags.cjs` have it. If this node lacks something, no thread of a program begins, and the error names all of it.
 
-import publicHooks from "node:async_hooks";
 import fs from "node:fs";
 import Module from "node:module";
 import process from "node:process";
 import { fileURLToPath } from "node:url";
 import { types } from "node:util";
-import { apply } from "../primordials.mjs";
+import { apply, defineProperty, setPrototypeOf } from "../primordials.mjs";
 import { REFUSED } from "../options/refused.mjs";
 import { TRIED } from "../processes/node-versions.mjs";
 
@@ -38,6 +37,17 @@ export function withoutWarning(make) {
 }
 
 /**
+ * @param {any} found of this node
+ * @param {Record<string, string>} needed the names of what it has to have, and what `typeof` says about them
+ * @param {string} shown its name
+ */
+function demand(found, needed, shown) {
+  for (const [name, type] of Object.entries(needed)) {
+    if (typeof found[name] !== type) lacking.push(`${name} of ${shown}`);
+  }
+}
+
+/**
  * A module of node's own. Its name is no literal, which the checker of types would look for.
  * @param {string} id without `internal/`
  * @param {Record<string, string>} needed the names of what it has to export, and what `typeof` says about them
@@ -50,9 +60,7 @@ function inside(id, needed) {
   } catch {
     // All that is needed of it is missing.
   }
-  for (const [name, type] of Object.entries(needed)) {
-    if (typeof exported[name] !== type) lacking.push(`${name} of internal/${id}`);
-  }
+  demand(exported, needed, `internal/${id}`);
   return exported;
 }
 
@@ -62,7 +70,22 @@ const has = (id) => required("node:module").builtinModules.includes(`internal/${
 /** What of node isn't JavaScript, by the names of its parts; and the language's functions as node's own code takes them. */
 const { internalBinding, primordials } = inside("test/binding", { internalBinding: "function", primordials: "object" });
 
-const asyncHooks = inside("async_hooks", { clearAsyncIdStack: "function", newAsyncId: "function" });
+/**
+ * A part of node that isn't JavaScript.
+ * @param {string} id
+ * @param {Record<string, string>} needed as above
+ * @returns {any}
+ */
+function below(id, needed) {
+  const found = internalBinding?.(id) ?? {};
+  demand(found, needed, `the binding ${id}`);
+  return found;
+}
+
+const asyncHooks = inside("async_hooks", {
+  clearAsyncIdStack: "function", popAsyncContext: "function", pushAsyncContext: "function",
+});
+const asyncWrap = below("async_wrap", { async_id_fields: "object", constants: "object" });
 
 /** What AsyncLocalStorage holds now; a later node has it here, and not in async_hooks. */
 const contextFrames = has("async_context_frame") ? inside("async_context_frame", { set: "function" }) : { set() {} };
@@ -73,12 +96,83 @@ export function leaveContexts() {
   contextFrames.set(undefined);
 }
 
-/** The classes of node's own timers and immediates; the rest is used of a copy that `timersOver` makes. */
-export const { Timeout, Immediate } = inside("timers", {
-  Timeout: "function", Immediate: "function", insert: "function", getTimerCallbacks: "function",
-  timerListMap: "object", timerListQueue: "object", immediateQueue: "object",
-  async_id_symbol: "symbol", kHasPrimitive: "symbol", kRefed: "symbol",
+/** The number of async_hooks of all that no program has begun. */
+const OUTSIDE = 1;
+
+/** The numbers of what a run begins come after this one: a thread has fewer before. */
+const BEFORE_RUNS = 1_000;
+
+/** @param {object} resource of something that the recorder does now: what the program's code begins then is under no other */
+export const enterContext = (resource) => void asyncHooks.pushAsyncContext(OUTSIDE, 0, resource);
+
+/** It is done. */
+export const exitContext = () => void asyncHooks.popAsyncContext(OUTSIDE);
+
+/** The numbers of async_hooks, and of timers, are counted anew: so they are the same in each run. */
+export function countAnew() {
+  asyncWrap.async_id_fields[asyncWrap.constants.kAsyncIdCounter] = BEFORE_RUNS;
+}
+
+/** Node's own timers and immediates: those of the run, in a program's thread. */
+export const nodeTimers = inside("timers", {
+  Timeout: "function", Immediate: "function", getTimerCallbacks: "function", timerListMap: "object",
+  timerListQueue: "object", immediateQueue: "object", knownTimersById: "object", async_id_symbol: "symbol",
+  kRefed: "symbol",
 });
+
+/** What node's timers stand on. */
+const timersBelow = below("timers", {
+  getLibuvNow: "function", scheduleTimer: "function", setupTimers: "function", toggleImmediateRef: "function",
+  toggleTimerRef: "function", immediateInfo: "object", timeoutInfo: "object",
+});
+
+/** The same as it is of the thread, however it is replaced later. The functions are called as members of `binding`. */
+export const realTimers = { ...timersBelow, binding: timersBelow };
+
+/** Which words of `immediateInfo` count immediates: all, those that keep the thread alive, and whether one has thrown. */
+export const IMMEDIATES = 0;
+export const REFED_IMMEDIATES = 1;
+export const THREW = 2;
+
+/**
+ * Has node's own timers and immediates stand on something else: nothing of them runs by itself.
+ * @param {() => number} now whole milliseconds
+ * @param {(item: any) => void} made gets each timer and immediate that is made
+ */
+export function putBelowTimers(now, made) {
+  const nothing = () => {};
+  const { Timeout, Immediate, async_id_symbol: key } = nodeTimers;
+  Object.assign(timersBelow, {
+    getLibuvNow: now, scheduleTimer: nothing, toggleTimerRef: nothing, toggleImmediateRef: nothing,
+  });
+  // Node gives each its number once it has the rest.
+  /** @this {any} @param {number} value */
+  const set = function (value) {
+    defineProperty(this, key, { value, writable: true, enumerable: true, configurable: true });
+    made(this);
+  };
+  const inherited = Object.create(Object.prototype, { [key]: { set } });
+  for (const { prototype } of [Timeout, Immediate]) setPrototypeOf(prototype, inherited);
+}
+
+const { prepareStackTraceCallback } = inside("errors", { prepareStackTraceCallback: "function" });
+const { setPrepareStackTraceCallback } = below("errors", { setPrepareStackTraceCallback: "function" });
+
+/**
+ * Has stacks show other frames. A function that code has put into `Error.prepareStackTrace` still gets all.
+ * @param {(frames: NodeJS.CallSite[]) => NodeJS.CallSite[]} shown
+ */
+export function showFrames(shown) {
+  const { Error: EngineError } = globalThis;
+  const { prepareStackTrace } = EngineError;
+  setPrepareStackTraceCallback((/** @type {any} */ realm, /** @type {any} */ error, /** @type {any} */ frames) => {
+    const isTaken = EngineError.prepareStackTrace !== prepareStackTrace;
+    return prepareStackTraceCallback(realm, error, isTaken ? frames : shown(frames));
+  });
+}
+
+/** The options that node itself was started with. */
+export const options = inside("options", { getOptionValue: "function" });
 
 /** All child processes begin by this; the functions are called as its members. */
 export const processes = inside("child_process", { ChildProcess: "function", spawnSync: "function" });
@@ -143,13 +237,27 @@ function withHidden(name, owner, functions) {
   return own;
 }
 
-const { _tickCallback, _getActiveHandles } = withHidden("process", process, ["_tickCallback", "_getActiveHandles"]);
+const ownProcess = withHidden("process", process, ["_tickCallback", "_getActiveHandles", "getActiveResourcesInfo"]);
+const { _tickCallback, _getActiveHandles, getActiveResourcesInfo } = ownProcess;
 
 /** Runs what was passed to `process.nextTick`, and all microtasks. */
 export const runTicks = /** @type {() => void} */ (_tickCallback?.bind(process));
 
 /** What keeps this thread's event loop alive. */
 export const activeHandles = /** @type {() => any[]} */ (_getActiveHandles?.bind(process));
+
+/** @returns {string[]} the names of what node has under way for this thread, except timers and immediates */
+export function underWay() {
+  const { immediateInfo, timeoutInfo } = realTimers;
+  const { 0: timers } = timeoutInfo;
+  const { [REFED_IMMEDIATES]: immediates } = immediateInfo;
+  timeoutInfo[0] = 0;
+  immediateInfo[REFED_IMMEDIATES] = 0;
+  const names = getActiveResourcesInfo();
+  timeoutInfo[0] = timers;
+  immediateInfo[REFED_IMMEDIATES] = immediates;
+  return names;
+}
 
 /** Finds, loads and compiles modules of CommonJS. */
 export const Modules = withHidden("Module", Module, ["_findPath", "_load", "_resolveFilename"]);
@@ -216,8 +324,7 @@ export function freshLoader() {
 }
 
 /** Compiles a module of node's own once more. */
-const { compileFunction } = internalBinding?.("builtins") ?? {};
-if (typeof compileFunction !== "function") lacking.push("compileFunction of the binding builtins");
+const { compileFunction } = below("builtins", { compileFunction: "function" });
 
 /**
  * Compiles modules of node's own once more.
@@ -226,7 +333,7 @@ if (typeof compileFunction !== "function") lacking.push("compileFunction of the 
  * @param {(name: string) => any} bindingOf what of node isn't JavaScript, by its name
  * @returns {(id: string) => any} what a module exports, by its name
  */
-function compiledAnew(isOne, modules, bindingOf = internalBinding) {
+export function compiledAnew(isOne, modules, bindingOf = internalBinding) {
   const load = (/** @type {string} */ id) => {
     if (modules.has(id)) return modules.get(id);
     if (!isOne(id)) return required(id);
@@ -236,91 +343,6 @@ function compiledAnew(isOne, modules, bindingOf = internalBinding) {
     return module.exports;
   };
   return load;
-}
-
-/** The modules that timers are made of. */
-const TIMERS = Object.freeze(["internal/timers", "timers", "timers/promises"]);
-
-/**
- * @typedef {object} TimersBelow what timers stand on
- * @property {() => number} now whole milliseconds
- * @property {(id: number) => void} begins gets the number of async_hooks that each timer and immediate gets
- */
-
-/**
- * Makes node's timers once more, by node's own code. Only what they stand on is another: nothing runs by itself.
- * @param {TimersBelow} below
- * @returns {{ inside: any, timers: any, promises: any, counts: { immediateInfo: Uint32Array, timeoutInfo: Int32Array } }}
- *   what `internal/timers`, `timers` and `timers/promises` export, and the counts that node keeps of them
- */
-export function timersOver({ now, begins }) {
-  const counts = { immediateInfo: new Uint32Array(3), timeoutInfo: new Int32Array(1) };
-  const nothing = () => {};
-  const binding = {
-    ...counts, getLibuvNow: now, scheduleTimer: nothing, toggleTimerRef: nothing, toggleImmediateRef: nothing,
-  };
-  const bindingOf = (/** @type {string} */ name) => (name === "timers" ? binding : internalBinding(name));
-  const newAsyncId = () => {
-    const id = asyncHooks.newAsyncId();
-    begins(id);
-    return id;
-  };
-  /** @type {Map<string, any>} what the copies require, by name; node's own code asks for the last one when it is used */
-  const modules = new Map([
-    ["internal/async_hooks", { ...asyncHooks, newAsyncId }], ["internal/event_target", required("internal/event_target")],
-  ]);
-  const load = compiledAnew((id) => TIMERS.includes(id), modules, bindingOf);
-  const [inside, timers, promises] = TIMERS.map(load);
-  return { inside, timers, promises, counts };
-}
-
-/** The modules that node's runner of tests is made of. */
-const OF_TESTS = /^(?:test|internal\/test_runner\/(?!reporter\/).*)$/;
-
-/** By this a module of node's own becomes what `import` and `require` find. */
-const TESTS = "test";
-
-/** Options of the process, which may itself run tests: where these are reported is none of the program's. */
-const OF_REPORTS = /^--test-reporter/;
-
-function ownOptions() {
-  const options = required("internal/options");
-  return {
-    ...options, getOptionValue: (/** @type {string} */ name) => (OF_REPORTS.test(name) ? [] : options.getOptionValue(name)),
-  };
-}
-
-/**
- * Makes node's runner of tests once more, by node's own code, and has programs find it as `node:test`. Node's own has
- * ended with the first run.
- * @param {(name: string, where: any, details: any, directive: any) => void} failed is called if a test or suite fails
- * @param {() => never} run in place of the function that runs files in processes of their own
- * @returns {() => void} stops what it has begun
- */
-export function freshTests(failed, run) {
-  const { createHook } = publicHooks;
-  /** @type {any[]} */
-  const hooks = [];
-  const keeping = (/** @type {object} */ callbacks) => {
-    const hook = createHook(callbacks);
-    hooks.push(hook);
-    return hook;
-  };
-  const ofThis = new Map([["async_hooks", { ...publicHooks, createHook: keeping }], ["internal/options", ownOptions()]]);
-  const load = compiledAnew((id) => OF_TESTS.test(id), ofThis);
-  const { TestsStream: { prototype } } = load("internal/test_runner/tests_stream");
-  const { fail } = prototype;
-  /** @this {any} @param {any[]} given */
-  prototype.fail = function (...given) {
-    const [, where, , name, details, directive] = given;
-    failed(name, where, details, directive);
-    return apply(fail, this, given);
-  };
-  const own = loadBuiltinModule(TESTS);
-  own.exports = Object.assign(load(TESTS), { run });
-  own.syncExports();
-  own.module?.setExport("default", own.exports);
-  return () => hooks.forEach((hook) => hook.disable());
 }
 
 /** The modules that `crypto.subtle` is made of, besides those of keys and of errors. */

@@ -2,14 +2,12 @@
 // then has the thread's turn, as a task has.
 
 import { AsyncResource, createHook, executionAsyncResource } from "node:async_hooks";
-import timers from "node:timers";
 import { MessagePort } from "node:worker_threads";
-import { Immediate, Timeout } from "./internals.mjs";
+import { nodeTimers } from "./internals.mjs";
+import { Later, turnLater, wake, wakeNever } from "./real-loop.mjs";
 
-const { clearTimeout: clear, setImmediate: turnLater, setTimeout: wake } = timers;
-
-/** The classes of what is no answer: node's own timers and immediates, and the recorder's ports. */
-const OWN = [Timeout, Immediate, MessagePort, Promise, AsyncResource];
+/** The classes of what is no answer: the run's timers and immediates, and what the recorder does later. */
+const OWN = [nodeTimers.Timeout, nodeTimers.Immediate, Later, MessagePort, Promise, AsyncResource];
 
 /**
  * How a look ends: something has come; nothing has, and all is as it was; or something that was waited for has gone,
@@ -32,7 +30,7 @@ export class Looking {
   /** @type {(found: Found) => void} as in `Look` */
   #then = () => {};
 
-  /** @type {any} the timer that ends the look; undefined: something has come, or nothing is looked for */
+  /** @type {Later | undefined} the end of the look; undefined: something has come, or nothing is looked for */
   #guard = undefined;
 
   // Only while a thread looks, since it makes promises slower.
@@ -40,14 +38,6 @@ export class Looking {
 
   /** What is done while an answer is held back isn't done on its behalf. */
   #outside = new AsyncResource("sabsim");
-
-  /** @type {Function[]} the classes of what is no answer */
-  #own;
-
-  /** @param {Function[]} timers the classes of the run's timers and immediates, which are no answers either */
-  constructor(timers) {
-    this.#own = OWN.concat(/** @type {any[]} */ (timers));
-  }
 
   /** @param {Look} look begins; the caller returns to the real loop then */
   begin({ onCome, milliseconds, waitsFor, then }) {
@@ -70,14 +60,14 @@ export class Looking {
   /** Nothing is looked for any more. */
   close() {
     this.#hook.disable();
-    clear(this.#guard);
+    wakeNever(this.#guard);
     this.#guard = undefined;
   }
 
   #before() {
     if (!this.#isAnswer(executionAsyncResource())) return;
     if (this.#guard !== undefined) {
-      clear(this.#guard);
+      wakeNever(this.#guard);
       this.#guard = undefined;
       turnLater(() => this.#end("came"));
     }
@@ -95,8 +85,8 @@ export class Looking {
    * @returns {boolean} whether that is an answer; if not, it is a tick, or what was done on behalf of an answer
    */
   #isAnswer(resource) {
-    for (let at = 0; at < this.#own.length; at += 1) {
-      if (resource instanceof this.#own[at]) return false;
+    for (let at = 0; at < OWN.length; at += 1) {
+      if (resource instanceof OWN[at]) return false;
     }
     return !("callback" in resource && "args" in resource);
   }

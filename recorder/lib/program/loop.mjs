@@ -2,20 +2,12 @@
 // a message, a timer, an immediate, or one of the thread's own; the seed draws which. The thread's real loop turns only
 // while modules are read, and before the thread ends.
 
-import process from "node:process";
-import timers from "node:timers";
 import { WORD } from "../memory/layout.mjs";
 import { Random } from "../memory/random.mjs";
-import { runTicks } from "./internals.mjs";
+import { runTicks, underWay } from "./internals.mjs";
 import { READING } from "./reading.mjs";
+import { turnLater, turnNever } from "./real-loop.mjs";
 import { isForeign, pendingOf } from "./real-work.mjs";
-import { keeperText, taskText } from "./timer-texts.mjs";
-
-const { setImmediate: turnLater, clearImmediate: turnNever } = timers;
-/** @type {any} node's, with members that it doesn't document */
-const own = process;
-/** @type {() => string[]} */
-const resources = own.getActiveResourcesInfo.bind(own);
 
 /** Each thread draws its tasks from a random stream of its own, numbered from here. */
 const TASKS = 64;
@@ -154,7 +146,7 @@ export class Loop {
     const { ends, moves, keepers, waits, locks } = this.served;
     this.drain();
     if (ends.isDone()) return STEP.IS_OVER;
-    const active = resources();
+    const active = underWay();
     if (isReading(active)) return STEP.READS;
     const pending = holds ? HELD : this.#pending(active);
     if (this.#hasTask()) {
@@ -178,7 +170,7 @@ export class Loop {
     looking.begin({
       onCome: this.#answered,
       milliseconds: moves.looksFor,
-      waitsFor: () => this.#pending(resources()).texts.join(),
+      waitsFor: () => this.#pending(underWay()).texts.join(),
       then: (found) => {
         this.#mayLook = found === "came";
         moves.looked(found);
@@ -222,7 +214,7 @@ export class Loop {
   /** Runs ticks and microtasks of node's. @returns {boolean} whether node has nothing else under way for the thread */
   isSwept() {
     runTicks();
-    return !resources().some((each) => READING.has(each) || isForeign(each));
+    return !underWay().some((each) => READING.has(each) || isForeign(each));
   }
 
   /** Nothing keeps the thread alive. @returns {number} one of `STEP` */
@@ -235,7 +227,7 @@ export class Loop {
     ends.beforeExit();
     this.drain();
     if (ends.isOver) return STEP.IS_OVER;
-    if (this.#hasOwnTask() || this.#keepers().length > 0 || this.#pending(resources()).isSome) return STEP.GOES_ON;
+    if (this.#hasOwnTask() || this.#keepers().length > 0 || this.#pending(underWay()).isSome) return STEP.GOES_ON;
     ends.leave();
     return STEP.IS_OVER;
   }
@@ -361,7 +353,7 @@ export class Loop {
     } else {
       const timer = armed.nextTimer();
       vain?.turns(timer?.where);
-      if (timer !== undefined && vain?.isShown) this.note(`runs ${taskText(timer)}`, timer.where);
+      if (timer !== undefined && vain?.isShown) this.note(`runs ${timer.text}`, timer.where);
       armed.runTimer();
     }
   };
@@ -370,7 +362,7 @@ export class Loop {
   #runImmediate() {
     const { timers: armed } = this.served;
     const immediate = armed.nextImmediate();
-    if (immediate !== undefined) this.note(`runs ${taskText(immediate)}`, immediate.where);
+    if (immediate !== undefined) this.note(`runs ${immediate.text}`, immediate.where);
     try {
       armed.runImmediate();
     } finally {
@@ -388,6 +380,9 @@ export class Loop {
     if (likelihood > 0 && this.random.fraction() < likelihood) deadlines.passEarly(agent, left);
   }
 }
+
+/** @param {import("./timers.mjs").Described} timer @returns {string} */
+const keeperText = ({ text, where }) => (where === undefined ? text : `${text} from ${where}`);
 
 /** @param {string[]} active resources of node's @returns {boolean} */
 const isReading = (active) => active.some((each) => READING.has(each));

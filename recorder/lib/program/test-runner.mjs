@@ -1,10 +1,11 @@
 // `node:test` in a program: node's own runner of tests, made anew for each run. It goes on by the thread's loop, as all
 // code of the program does.
 
+import publicHooks from "node:async_hooks";
 import { isAbsolute } from "node:path";
 import { pathToFileURL } from "node:url";
 import { apply } from "../primordials.mjs";
-import { Modules, freshTests } from "./internals.mjs";
+import { Modules, compiledAnew, loadBuiltinModule, options } from "./internals.mjs";
 
 /**
  * @typedef {object} FailedTest
@@ -58,4 +59,50 @@ export class TestRunner {
       this.onFailed({ name, place, thrown: error?.cause ?? error, isCancelled: error?.failureType === BY_PARENT });
     }, () => /** @type {never} */ (this.refuse("test.run")));
   }
+}
+
+/** The modules that node's runner of tests is made of. */
+const OF_TESTS = /^(?:test|internal\/test_runner\/(?!reporter\/).*)$/;
+
+/** By this a module of node's own becomes what `import` and `require` find. */
+const TESTS = "test";
+
+/** Options of the process, which may itself run tests: where these are reported is none of the program's. */
+const OF_REPORTS = /^--test-reporter/;
+
+const ownOptions = () => ({
+  ...options, getOptionValue: (/** @type {string} */ name) => (OF_REPORTS.test(name) ? [] : options.getOptionValue(name)),
+});
+
+/**
+ * Makes node's runner of tests once more, by node's own code, and has programs find it as `node:test`. Node's own has
+ * ended with the first run.
+ * @param {(name: string, where: any, details: any, directive: any) => void} failed is called if a test or suite fails
+ * @param {() => never} run in place of the function that runs files in processes of their own
+ * @returns {() => void} stops what it has begun
+ */
+function freshTests(failed, run) {
+  const { createHook } = publicHooks;
+  /** @type {any[]} */
+  const hooks = [];
+  const keeping = (/** @type {object} */ callbacks) => {
+    const hook = createHook(callbacks);
+    hooks.push(hook);
+    return hook;
+  };
+  const ofThis = new Map([["async_hooks", { ...publicHooks, createHook: keeping }], ["internal/options", ownOptions()]]);
+  const load = compiledAnew((id) => OF_TESTS.test(id), ofThis);
+  const { TestsStream: { prototype } } = load("internal/test_runner/tests_stream");
+  const { fail } = prototype;
+  /** @this {any} @param {any[]} given */
+  prototype.fail = function (...given) {
+    const [, where, , name, details, directive] = given;
+    failed(name, where, details, directive);
+    return apply(fail, this, given);
+  };
+  const own = loadBuiltinModule(TESTS);
+  own.exports = Object.assign(load(TESTS), { run });
+  own.syncExports();
+  own.module?.setExport("default", own.exports);
+  return () => hooks.forEach((hook) => hook.disable());
 }

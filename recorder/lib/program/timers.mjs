@@ -1,24 +1,20 @@
-// Timers and immediates of a thread whose time is the run's. They are node's own code over lower functions of the run:
-// `timersOver`. Node's sockets keep node's first timers, whose time is real. Nothing runs by itself: the loop of the
-// thread asks what is due, and runs one callback after the other.
+// Timers and immediates of a thread whose time is the run's: node's own, over lower functions of the run. So those that
+// node itself starts, as for sockets, go by the run's time, too. Nothing runs by itself: the loop of the thread asks what
+// is due, and runs one callback after the other.
 
 import process from "node:process";
-import timers from "node:timers";
-import { apply, defineProperty, likeEngine, mapDelete, mapGet, mapSet, weakGet, weakSet } from "../primordials.mjs";
-import { Immediate as EngineImmediate, Timeout as EngineTimeout, timersOver } from "./internals.mjs";
+import { apply, likeEngine, weakGet, weakSet } from "../primordials.mjs";
+import {
+  IMMEDIATES, REFED_IMMEDIATES, THREW, nodeTimers, putBelowTimers, realTimers,
+} from "./internals.mjs";
+import { member } from "./member.mjs";
+import { turns } from "./real-loop.mjs";
 
 /** @typedef {any} Item a Timeout or an Immediate */
-/** @typedef {{ kind: "timer" | "immediate", milliseconds: number, repeats: boolean, where: any }} Described */
-/** @typedef {Record<string, Function>} Functions */
-/** @typedef {{ number: number, where: any }} Made which one it is in the run, and where it was made */
+/** @typedef {{ text: string, where: any }} Described what it is, in words, and where it was made */
 
-const engine = { ...timers };
-const { timeout: engineSignal } = /** @type {any} */ (AbortSignal);
-const MOST_MILLISECONDS = 2 ** 32 - 1;
-
-/** Which words of `immediateInfo` count immediates: all, and those that keep the thread alive. */
-const IMMEDIATES = 0;
-const REFED_IMMEDIATES = 1;
+const { getTimerCallbacks, immediateQueue, kRefed, knownTimersById, timerListMap, timerListQueue } = nodeTimers;
+const { immediateInfo, timeoutInfo } = realTimers;
 
 /** Is thrown where node would run ticks between two callbacks: the loop goes on there. */
 const BETWEEN = new Error("one callback has run");
@@ -29,64 +25,52 @@ const stop = () => {
 };
 
 export class Timers {
-  #node;
   /** Node's functions that run callbacks; one callback each time. */
-  #process;
-  /** @type {Map<number, Made>} by numbers of async_hooks: timers and immediates that haven't ended */
-  #made = new Map();
-  /** @type {WeakMap<Item, { id: number, number: number }>} what `Number(timer)` returned, while it has this number there */
-  #numbered = new WeakMap();
-  /** @type {Map<string, Item>} timers that haven't ended, by what `Number(timer)` returned */
-  #known = new Map();
+  #process = getTimerCallbacks(stop);
+  /** @type {WeakMap<Item, any>} where each was made */
+  #made = new WeakMap();
   /** @type {Item[]} immediates of the round that has begun, and those of the next one */
   #round = [];
   /** @type {Item[]} */
   #next = [];
-  #numbers = 0;
+  /** @type {unknown[]} signals that have a time. Node would forget the timers of those that are garbage */
+  #signals = [];
   /** The time of the pass: timers that are started in it aren't due before all others that are due have run. */
   #pass = 0;
   #now;
 
   /**
+   * One for each thread: node's timers are those of the run from now on.
    * @param {object} given
    * @param {() => number} given.now the run's clock in milliseconds
    * @param {() => any} [given.here] where the code is that makes a timer
    */
   constructor({ now, here = () => undefined }) {
     this.#now = () => Math.floor(now());
-    this.#node = timersOver({ now: this.#now, begins: (id) => mapSet(this.#made, id, this.#newMade(here())) });
-    const { inside, promises } = this.#node;
-    this.#process = inside.getTimerCallbacks(stop);
-    this.#count();
-    /** @type {Functions} setTimeout and so on, for `globalThis` and `node:timers` */
-    this.functions = this.#functions();
-    /** @type {any} what `node:timers/promises` has */
-    this.promises = promises;
-    /** @type {Function} AbortSignal.timeout */
-    this.timeoutSignal = this.#timeoutSignal();
-    /** @type {Function[]} the classes of timers and immediates */
-    this.classes = [inside.Timeout, inside.Immediate];
+    putBelowTimers(this.#now, (item) => void weakSet(this.#made, item, here()));
+    this.#keepSignals();
+    this.clear();
   }
 
   // ---- what the loop asks
 
   /** @returns {number} when the first timer is due, on the run's clock; Infinity if there is none */
   get deadline() {
-    const first = this.#node.inside.timerListQueue.peek();
+    const first = timerListQueue.peek();
     if (first === undefined) return Infinity;
     if (dueOf(first) === first.expiry) return first.expiry;
     // Node looks at a list whose first timer was cleared when that one would have been due.
-    return this.#lists().reduce((earliest, list) => Math.min(earliest, dueOf(list)), Infinity);
+    return lists().reduce((earliest, list) => Math.min(earliest, dueOf(list)), Infinity);
   }
 
   /** @returns {any[]} where each timer was made */
   places() {
-    return this.#lists().flatMap((list) => itemsOf(list)).map((timer) => this.#whereOf(timer));
+    return allTimers().map((timer) => weakGet(this.#made, timer));
   }
 
   /** @returns {number} how many immediates are ready */
   get immediates() {
-    return this.#node.counts.immediateInfo[IMMEDIATES];
+    return immediateInfo[IMMEDIATES] - turns();
   }
 
   /** @returns {number} how many of them belong to the round that has begun: node runs no timer between them */
@@ -96,31 +80,30 @@ export class Timers {
 
   /** @returns {boolean} whether a timer or an immediate keeps the thread alive */
   get alive() {
-    const { timeoutInfo, immediateInfo } = this.#node.counts;
-    return timeoutInfo[0] > 0 || immediateInfo[REFED_IMMEDIATES] > 0;
+    return timeoutInfo[0] > 0 || immediateInfo[REFED_IMMEDIATES] > turns();
   }
 
   /** @returns {Described[]} the timers, by deadline, and the immediates that keep the thread alive */
   keepers() {
     this.#gather();
-    const isRefed = (/** @type {Item} */ item) => item[this.#node.inside.kRefed];
-    const waiting = this.#lists().flatMap((list) => itemsOf(list)).filter(isRefed);
+    const isRefed = (/** @type {Item} */ item) => item[kRefed];
+    const waiting = allTimers().filter(isRefed);
     waiting.sort((one, other) => timeOf(one) - timeOf(other));
     const ready = this.#round.concat(this.#next).filter(isRefed);
-    return waiting.map((timer) => this.#timer(timer)).concat(ready.map((immediate) => this.#immediate(immediate)));
+    return waiting.concat(ready).map((item) => this.#described(item));
   }
 
   /** @returns {Described | undefined} the timer that `runTimer` would run now */
   nextTimer() {
     const timer = this.#due();
-    return timer && this.#timer(timer);
+    return timer && this.#described(timer);
   }
 
   /** @returns {Described | undefined} the immediate that `runImmediate` would run now */
   nextImmediate() {
     this.#gather();
     const immediate = firstOf(this.#round) ?? firstOf(this.#next);
-    return immediate && this.#immediate(immediate);
+    return immediate && this.#described(immediate);
   }
 
   /**
@@ -129,13 +112,8 @@ export class Timers {
    * @returns {boolean} whether there was one
    */
   runTimer() {
-    const timer = this.#due();
-    if (timer === undefined) return false;
-    try {
-      this.#turn();
-    } finally {
-      this.#ended(timer);
-    }
+    if (this.#due() === undefined) return false;
+    this.#turn();
     return true;
   }
 
@@ -153,30 +131,41 @@ export class Timers {
     const immediate = firstOf(this.#round);
     if (immediate === undefined) return false;
     this.#round.shift();
-    this.#node.inside.immediateQueue.append(immediate);
+    immediateQueue.append(immediate);
     try {
       apply(this.#process.processImmediate, process, []);
     } finally {
-      this.#ended(immediate);
+      immediateInfo[THREW] = 0;
     }
     return true;
   }
 
   /** Forgets all, for the next run. */
   clear() {
-    const { inside: { timerListMap, timerListQueue, immediateQueue }, counts } = this.#node;
-    for (const name of Object.keys(timerListMap)) delete timerListMap[name];
+    for (const table of [timerListMap, knownTimersById]) for (const name of Object.keys(table)) delete table[name];
     while (timerListQueue.peek() !== undefined) timerListQueue.shift();
     immediateQueue.head = null;
     immediateQueue.tail = null;
-    counts.immediateInfo.fill(0);
-    counts.timeoutInfo.fill(0);
-    this.#made.clear();
-    this.#known.clear();
+    immediateInfo[IMMEDIATES] = turns();
+    immediateInfo[REFED_IMMEDIATES] = turns();
+    immediateInfo[THREW] = 0;
+    timeoutInfo[0] = 0;
+    // What has thrown may have left immediates in there.
+    this.#process = getTimerCallbacks(stop);
     this.#round = [];
     this.#next = [];
-    this.#numbers = 0;
+    this.#signals = [];
     this.#pass = 0;
+  }
+
+  #keepSignals() {
+    /** @type {any} */
+    const { timeout } = AbortSignal;
+    member(AbortSignal, "timeout", likeEngine((/** @type {unknown[]} */ ...given) => {
+      const signal = apply(timeout, AbortSignal, given);
+      this.#signals.push(signal);
+      return signal;
+    }, timeout));
   }
 
   /** Lets node's code go over its timers until one has run, or one that can't run is out of the way. */
@@ -197,7 +186,6 @@ export class Timers {
   }
 
   #dueInPass() {
-    const { timerListQueue } = this.#node.inside;
     for (;;) {
       const list = timerListQueue.peek();
       if (list === undefined || list.expiry > this.#pass) return undefined;
@@ -209,7 +197,6 @@ export class Timers {
 
   /** Takes the immediates that were made. So node's queue has one alone when it runs. */
   #gather() {
-    const { immediateQueue } = this.#node.inside;
     for (let item = immediateQueue.head; item !== null;) {
       const next = item._idleNext;
       item._idlePrev = null;
@@ -221,116 +208,22 @@ export class Timers {
     immediateQueue.tail = null;
   }
 
-  /** @returns {any[]} node's lists, one for each number of milliseconds */
-  #lists() {
-    return Object.values(this.#node.inside.timerListMap);
+  /** @param {Item} item @returns {Described} */
+  #described(item) {
+    return { text: textOf(item), where: weakGet(this.#made, item) };
   }
+}
 
-  /** @param {any} where @returns {Made} */
-  #newMade(where) {
-    this.#numbers += 1;
-    return { number: this.#numbers, where };
-  }
+/** @returns {any[]} node's lists of timers, one for each number of milliseconds */
+const lists = () => Object.values(timerListMap);
 
-  /** @param {Item} item @returns {number} its number of async_hooks; it gets another one when it begins once more */
-  #idOf(item) {
-    return item[this.#node.inside.async_id_symbol];
-  }
+/** @returns {Item[]} */
+const allTimers = () => lists().flatMap((list) => itemsOf(list));
 
-  /** @param {Item} item @returns {any} where it was made */
-  #whereOf(item) {
-    return mapGet(this.#made, this.#idOf(item))?.where;
-  }
-
-  /** @param {Item} item that has run, or was cleared */
-  #ended(item) {
-    if (!item._destroyed) return;
-    mapDelete(this.#made, this.#idOf(item));
-    const known = weakGet(this.#numbered, item);
-    if (known !== undefined) mapDelete(this.#known, String(known.number));
-  }
-
-  /** @param {Item} timer @returns {Described} */
-  #timer(timer) {
-    const { _idleTimeout: milliseconds, _repeat } = timer;
-    return { kind: "timer", milliseconds, repeats: _repeat !== null, where: this.#whereOf(timer) };
-  }
-
-  /** @param {Item} immediate @returns {Described} */
-  #immediate(immediate) {
-    return { kind: "immediate", milliseconds: 0, repeats: false, where: this.#whereOf(immediate) };
-  }
-
-  /** `Number(timer)` is counted for each run, so that it is the same in each: node's numbers also count other things. */
-  #count() {
-    const { Timeout } = this.#node.inside;
-    const numberOf = (/** @type {Item} */ timer) => this.#numberOf(timer);
-    const name = Symbol.toPrimitive;
-    const own = likeEngine(/** @this {Item} */ function () {
-      return numberOf(this);
-    }, Timeout.prototype[name]);
-    defineProperty(Timeout.prototype, name, { value: own, writable: true, enumerable: true, configurable: true });
-  }
-
-  /** @param {Item} timer that is asked for its number @returns {number} */
-  #numberOf(timer) {
-    const id = this.#idOf(timer);
-    const known = weakGet(this.#numbered, timer);
-    if (known?.id === id) return known.number;
-    const { number } = mapGet(this.#made, id) ?? this.#newMade(undefined);
-    weakSet(this.#numbered, timer, { id, number });
-    timer[this.#node.inside.kHasPrimitive] = true;
-    if (!timer._destroyed) mapSet(this.#known, String(number), timer);
-    return number;
-  }
-
-  /** @param {unknown} number @returns {Item | undefined} the timer that has this number, and hasn't ended since */
-  #withNumber(number) {
-    const timer = mapGet(this.#known, String(number));
-    return timer !== undefined && weakGet(this.#numbered, timer)?.id === this.#idOf(timer) ? timer : undefined;
-  }
-
-  /** @returns {Functions} */
-  #functions() {
-    const { timers: { setTimeout, setInterval, setImmediate, clearTimeout, clearInterval, clearImmediate }, inside } =
-      this.#node;
-    const clearing = (/** @type {Function} */ own) => likeEngine((/** @type {any} */ timer) => {
-      if (timer instanceof EngineTimeout) return engine.clearTimeout(timer);
-      const isNumber = typeof timer === "number" || typeof timer === "string";
-      const item = isNumber ? this.#withNumber(timer) : timer;
-      own(item);
-      if (item instanceof inside.Timeout) this.#ended(item);
-      return undefined;
-    }, own);
-    return {
-      setTimeout,
-      setInterval,
-      setImmediate,
-      clearTimeout: clearing(clearTimeout),
-      clearInterval: clearing(clearInterval),
-      clearImmediate: likeEngine((/** @type {any} */ immediate) => {
-        if (immediate instanceof EngineImmediate) engine.clearImmediate(immediate);
-        else if (immediate instanceof inside.Immediate) clearImmediate(immediate);
-      }, clearImmediate),
-    };
-  }
-
-  /** @returns {Function} what AbortSignal.timeout is. Node's own function throws its error, and starts nothing then */
-  #timeoutSignal() {
-    const { Timeout, insert } = this.#node.inside;
-    return likeEngine(function (/** @type {any} */ delay) {
-      const isGood = Number.isInteger(delay) && delay >= 0 && delay <= MOST_MILLISECONDS;
-      if (!isGood) return apply(engineSignal, AbortSignal, [delay]);
-      const controller = new AbortController();
-      const abort = () => {
-        const text = "The operation was aborted due to timeout";
-        controller.abort(new DOMException(text, "TimeoutError"));
-      };
-      const timer = new Timeout(abort, delay, undefined, false, false);
-      insert(timer, timer._idleTimeout);
-      return controller.signal;
-    }, engineSignal);
-  }
+/** @param {Item} item @returns {string} it in words */
+function textOf(item) {
+  if (item instanceof nodeTimers.Immediate) return "an immediate";
+  return `${item._repeat === null ? "a timer" : "an interval"} of ${item._idleTimeout} ms`;
 }
 
 /** @param {Item} timer @returns {number} when it is due */

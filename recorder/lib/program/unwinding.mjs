@@ -4,15 +4,13 @@
 
 import { createHook, executionAsyncResource } from "node:async_hooks";
 import { Session } from "node:inspector";
-import timers from "node:timers";
 import { promiseHooks } from "node:v8";
 import { MessagePort } from "node:worker_threads";
 import { restoreBuiltins } from "./builtins.mjs";
 import { restoreProcess } from "./install.mjs";
 import { leaveContexts } from "./internals.mjs";
 import { isDropped } from "./microtasks.mjs";
-
-const { setImmediate: turnLater } = timers;
+import { turnLater } from "./real-loop.mjs";
 
 /**
  * @typedef {object} Unwound

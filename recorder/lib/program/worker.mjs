@@ -5,12 +5,11 @@
 import buffer from "node:buffer";
 import crypto from "node:crypto";
 import process from "node:process";
-import nodeTimers from "node:timers";
 import util from "node:util";
 import threads from "node:worker_threads";
 import { recordedAtomics } from "../agent/atomics.mjs";
 import { described } from "../agent/described.mjs";
-import { isCalledByAgents, sourceHere, sourceOfCall } from "../agent/frames.mjs";
+import { isCalledByAgents, shownFrames, sourceHere, sourceOfCall } from "../agent/frames.mjs";
 import { watchRealm } from "../agent/ordinary/watch.mjs";
 import { Player } from "../agent/player.mjs";
 import { Chance, simulateChance, simulateTime } from "../agent/time.mjs";
@@ -35,9 +34,8 @@ import { Buffers } from "./buffers.mjs";
 import { restoreBuiltins } from "./builtins.mjs";
 import { Children } from "./children.mjs";
 import { installGrowing } from "./growing.mjs";
-import {
-  installCloning, installMemory, installProcess, installTimers, keepProcess, restoreProcess,
-} from "./install.mjs";
+import { installCloning, installMemory, installProcess, keepProcess, restoreProcess } from "./install.mjs";
+import { countAnew, showFrames } from "./internals.mjs";
 import { Looking } from "./looking.mjs";
 import { Loop } from "./loop.mjs";
 import { Locks } from "./locks.mjs";
@@ -50,6 +48,7 @@ import { NODE } from "./node-surroundings.mjs";
 import { PortTable } from "../board/port-table.mjs";
 import { Ports } from "./ports.mjs";
 import { forgetError, lastError, printAtOnce } from "./printing.mjs";
+import { turnLater } from "./real-loop.mjs";
 import { RealWork } from "./real-work.mjs";
 import { installRefusals } from "./refusals.mjs";
 import { refuseRest } from "./surface.mjs";
@@ -78,7 +77,6 @@ const { Error: EngineError } = globalThis;
 /** @typedef {import("./thread-start.mjs").Start} Start */
 
 const { port, origin, web, isRelaxed, memory: shared, plan, rules } = /** @type {Given} */ (threads.workerData);
-const { setImmediate: turnLater } = nodeTimers;
 const surroundings = web ? WEB : NODE;
 const chance = new Chance();
 const awaits = new Awaits();
@@ -229,7 +227,7 @@ function partsOf(player, blocks, mesh) {
   const waits = new WaitAsync({ moves, buffers, isPlaying, refuse });
   const loop = new Loop({
     moves, ports, events, timers, waits, locks, ends, keepers, children, refuse, goHome: () => late.goHome?.(), leave,
-    notes, here: sourceHere, hasPhases: surroundings.hasPhases, looking: new Looking(timers.classes),
+    notes, here: sourceHere, hasPhases: surroundings.hasPhases, looking: new Looking(),
   });
   Object.assign(late, { loop, ends });
   return {
@@ -241,7 +239,7 @@ function partsOf(player, blocks, mesh) {
 /** @typedef {ReturnType<typeof partsOf>} Parts */
 
 /** @param {Parts} parts */
-function installReplacements({ moves, buffers, waits, ends, events, timers, later, late, spawned, isShown }) {
+function installReplacements({ moves, buffers, waits, ends, events, later, late, spawned, isShown }) {
   const listAgain = listingOf([globalThis, buffer, crypto, process, util]);
   printAtOnce(isShown, printedName, () => moves.board.vain?.news());
   simulateTime(() => (isPlaying() ? playing().look() : 0));
@@ -250,6 +248,7 @@ function installReplacements({ moves, buffers, waits, ends, events, timers, late
   // before.
   new (/** @type {any} */ (globalThis).ReadableStream)().getReader().releaseLock();
   const atomics = atomicsOf(moves, waits);
+  showFrames(shownFrames);
   late.wasm = installWebAssembly({
     buffers, moves, atomics, seen: watching.seen, here: sourceOfCall, refuse, isPlaying, isRelaxed,
   });
@@ -260,7 +259,6 @@ function installReplacements({ moves, buffers, waits, ends, events, timers, late
   installGrowing(buffers, moves, isPlaying);
   globalThis.Atomics = atomics;
   waits.install(Atomics);
-  installTimers(timers);
   installMicrotasks(isPlaying);
   surroundings.serve(events);
   installRefusals(refuse);
@@ -312,6 +310,7 @@ function begin(parts, graph) {
   if (agent !== 0) ends.parentPort = parentPort;
   surroundings.begin(parts, start, parentPort);
   graph.begin();
+  countAnew();
   loop.begin(() => {
     surroundings.evaluated(start, graph, parts).then(() => ends.evaluated(), (thrown) => {
       ends.evaluated();

@@ -1,17 +1,14 @@
 // Runs a program several times in one thread with all parts together: graph, timers, twins, and the rest refused. Its
 // loop is simple: a task, else an immediate, else a timer, else the clock goes on. Prints each run's lines as JSON.
 
-import Module from "node:module";
-import timers from "node:timers";
-import timersPromises from "node:timers/promises";
 import util from "node:util";
 import { ProgramModules } from "../../lib/program/program-modules.mjs";
+import { turnLater } from "../../lib/program/real-loop.mjs";
 import { refuseRest } from "../../lib/program/surface.mjs";
 import { Timers } from "../../lib/program/timers.mjs";
 import { putTwins } from "../../lib/program/twins.mjs";
 
 const [url, runs] = process.argv.slice(2);
-const { setImmediate: turn } = timers;
 const { log } = console;
 void [process.stdin, process.stdout, process.stderr];
 
@@ -24,10 +21,6 @@ const own = new Timers({ now: () => now });
 const graph = new ProgramModules({ refuse: () => {} });
 refuseRest({ refuse, isPlaying });
 putTwins({ isPlaying, later: (name, act) => tasks.push(act) });
-Object.assign(globalThis, own.functions);
-Object.assign(timers, own.functions);
-Object.assign(timersPromises, own.promises);
-Module.syncBuiltinESMExports();
 
 /** @returns {boolean} whether there was anything to do */
 function step() {
@@ -50,9 +43,9 @@ for (let run = 0; run < Number(runs); run += 1) {
   graph.enter(url).catch((error) => lines.push(`failed: ${error.stack}`));
   let steps = 0;
   for (let isOver = false; !isOver; steps += 1) {
-    await new Promise((done) => turn(() => {
+    await new Promise((done) => turnLater(() => {
       isOver = !step();
-      turn(done);
+      turnLater(done);
     }));
   }
   playing = false;

@@ -36,13 +36,10 @@ function putAll(members) {
   for (const [name, value] of Object.entries(members)) put(scope, name, value);
 }
 
-/**
- * Timers with numbers, as browsers have them.
- * @param {Record<string, Function>} functions those of the run
- */
-function putTimers(functions) {
+/** Timers with numbers, as browsers have them. */
+function putTimers() {
   for (const name of ["setTimeout", "setInterval"]) {
-    const start = functions[name];
+    const { [name]: start } = scope;
     /** @type {(callback: any, after: unknown, ...given: unknown[]) => number} */
     const numbered = (callback, after, ...given) => {
       const called = typeof callback === "function" ? () => apply(callback, scope, given) : callback;
@@ -136,7 +133,7 @@ let type = "module";
  * @param {(url: string) => void} run runs a script in the global scope
  */
 export function installGlobals(parts, targets, run) {
-  const { timers, ends, refuse, moves: { agent } } = parts;
+  const { ends, refuse, moves: { agent } } = parts;
   /** What isn't simulated is there, and ends the run when it is called. */
   const refusing = (/** @type {string} */ name) => function () {
     refuse(`called ${name}, which isn't simulated`);
@@ -144,7 +141,7 @@ export function installGlobals(parts, targets, run) {
   const { manager: locks, classes } = lockManager(parts.locks);
   for (const name of [...OF_NODE, Symbol.toStringTag]) deleteProperty(scope, name);
   for (const name of FOR_NODE) hide(scope, name);
-  putTimers(timers.functions);
+  putTimers();
   putMethods(scope, targets);
   for (const name of ["error", "unhandledrejection"]) putHandler(scope, name, targets);
   putAll({
