@@ -94,7 +94,12 @@ describe("a message that can't be read", () => {
 
   it("is emitted as messageerror", async (context) => {
     const main = SENDS.replace("process.argv[2]", '"messageerror"');
-    assert.equal((await runOf(context, { "main.mjs": main, "w.mjs": LIST })).ending, "finished");
+    const beside = "[new Int32Array(new SharedArrayBuffer(4)), list]";
+    const all = "(() => { const all = []; for (let one = list; one !== null; one = one.next) all.push(one); return all; })()";
+    for (const sent of ["list", beside, all]) {
+      const worker = LIST.replace("postMessage(list)", `postMessage(${sent})`);
+      assert.equal((await runOf(context, { "main.mjs": main, "w.mjs": worker })).ending, "finished", sent);
+    }
   });
 
   it("is an event without data in a browser, by each way", async (context) => {
