@@ -4,7 +4,7 @@
 import { AsyncResource, createHook, executionAsyncResource } from "node:async_hooks";
 import { MessagePort } from "node:worker_threads";
 import { nodeTimers } from "./internals.mjs";
-import { Later, turnLater, wake, wakeNever } from "./real-loop.mjs";
+import { Later, never, turnLater, wake } from "./real-loop.mjs";
 
 /** The classes of what is no answer: the run's timers and immediates, and what the recorder does later. */
 const OWN = [nodeTimers.Timeout, nodeTimers.Immediate, Later, MessagePort, Promise, AsyncResource];
@@ -60,14 +60,14 @@ export class Looking {
   /** Nothing is looked for any more. */
   close() {
     this.#hook.disable();
-    wakeNever(this.#guard);
+    never(this.#guard);
     this.#guard = undefined;
   }
 
   #before() {
     if (!this.#isAnswer(executionAsyncResource())) return;
     if (this.#guard !== undefined) {
-      wakeNever(this.#guard);
+      never(this.#guard);
       this.#guard = undefined;
       turnLater(() => this.#end("came"));
     }

@@ -6,7 +6,7 @@ import { WORD } from "../memory/layout.mjs";
 import { Random } from "../memory/random.mjs";
 import { runTicks, underWay } from "./internals.mjs";
 import { READING } from "./reading.mjs";
-import { turnLater, turnNever } from "./real-loop.mjs";
+import { never, turnLater } from "./real-loop.mjs";
 import { isForeign, pendingOf } from "./real-work.mjs";
 
 /** Each thread draws its tasks from a random stream of its own, numbered from here. */
@@ -108,7 +108,7 @@ export class Loop {
   /** The thread's part in the run is over, while its code runs. */
   halt() {
     this.#isHalted = true;
-    turnNever(this.#next);
+    never(this.#next);
     // Node would hand what is held back to the program.
     if (this.#holds) this.served.moves.park();
   }

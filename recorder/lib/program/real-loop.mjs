@@ -30,13 +30,6 @@ function awaitTurn(isAwaited) {
   apply(toggleImmediateRef, binding, [isAwaited]);
 }
 
-/** @param {Later[]} list @param {Later} later @returns {Later[]} the list without it. Programs may have replaced `filter` */
-function without(list, later) {
-  const rest = [];
-  for (let at = 0; at < list.length; at += 1) if (list[at] !== later) rest[rest.length] = list[at];
-  return rest;
-}
-
 /** @returns {Later[]} what is to be done when the loop has turned */
 function takeNext() {
   const all = next;
@@ -92,13 +85,6 @@ export function turnLater(act) {
   return later;
 }
 
-/** @param {Later} later that isn't to be called any more */
-export function turnNever(later) {
-  if (next.length === 0) return;
-  next = without(next, later);
-  if (next.length === 0) awaitTurn(false);
-}
-
 /** @returns {number} how many immediates node counts because the loop is to turn */
 export const turns = () => (next.length === 0 ? 0 : 1);
 
@@ -112,7 +98,7 @@ export function wake(act, milliseconds) {
   return later;
 }
 
-/** @param {Later | undefined} later that isn't to be called any more */
-export function wakeNever(later) {
-  if (later !== undefined) timed = without(timed, later);
+/** @param {Later | undefined} later that isn't to be done any more */
+export function never(later) {
+  if (later !== undefined) later.act = () => {};
 }
