@@ -12,7 +12,7 @@ abbrev pub place_by : List ℕ → Stop → Place
 place_by text (Token at fault) = record { spot = spot_after (take at text); fault = Some fault }
 place_by text End = record { spot = spot_after text; fault = None }
 
--- it is the place of the text's stop, where no text that is read goes on
+-- it is the place of the text's stop, where the text stops being JSON
 pub record IsPlace (text : List ℕ) (place : Place) : Type 0 where
   pub is : place ≡ place_by text (stop_of text)
   pub stops : StopsAt text (stop_of text)

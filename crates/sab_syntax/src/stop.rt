@@ -18,7 +18,7 @@ pub enum Stop {
         /// What is wrong with it.
         fault: Fault,
     },
-    /// At its end: a text that is read begins so.
+    /// At its end: a text of JSON begins so, if a number may have any size.
     End,
 }
 
@@ -26,7 +26,8 @@ pub enum Stop {
 ///
 /// It is at the first token that is broken: no text that is read begins with everything up to the token's end. A word or
 /// a number with a byte behind it is judged as a whole, and a string from its first quote on. A word or a number at the
-/// end of the text is judged by what it can become. If no token is broken, the text ends too early.
+/// end of the text is judged by what it can become; there a number may have any size. If no token is broken, the text
+/// ends too early.
 #[tactic(auto, using(crate::proofs::Walking::stop_stops))]
 pub fn stop_of(text: &[u8]) -> Stop
     ensures place { result ≡ stop_of text.now }
