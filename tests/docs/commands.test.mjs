@@ -63,6 +63,7 @@ const COMMANDS = [
   ["cd crates/sab_refusal && rt check --only ReadFault::number", PROVES],
   ["tools/edits sab_refusal", PROVES],
   ["tests/cases crates/sabsim/out/sabsim", { notRun: "./check runs it" }],
+  ["tools/release .", { by: "tests/docs/release.test.mjs", words: '"tools/release"), [folder]' }],
   ["rt doc", { status: 0, ...withKit }],
   ["rt version", { status: 0, ...withKit }],
   ["node recorder/bench/turns.mjs HEAD~1", { by: "recorder/tests/bench.test.mjs", words: 'turns("HEAD", "mutex-naive", ' }],

@@ -41,6 +41,7 @@ function takeNext() {
 /** @param {number} now @returns {Later[]} what is to be done by then */
 function takeDue(now) {
   const all = timed;
+  /** @type {Later[]} */
   const due = [];
   timed = [];
   for (let at = 0; at < all.length; at += 1) {
