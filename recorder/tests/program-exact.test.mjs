@@ -81,6 +81,21 @@ parentPort.on("message", () => {});
 parentPort.postMessage("begun");`,
 };
 
+/** What is fetched is packed, and zlib's results are tasks beside the answers. */
+const PACKED = `import { createServer } from "node:http";
+import { createGzip } from "node:zlib";
+const server = createServer((request, response) => {
+  response.setHeader("content-encoding", "gzip");
+  const packing = createGzip();
+  packing.pipe(response);
+  packing.end("text ".repeat(9_000));
+});
+await new Promise((done) => server.listen(0, "127.0.0.1", done));
+const answer = await fetch(\`http://127.0.0.1:\${server.address().port}/\`);
+if ((await answer.text()).length !== 45_000) throw new Error("other bytes");
+server.close();
+server.closeAllConnections();`;
+
 describe("a run with real answers is the same by its row", () => {
   it("in which threads see that a socket has closed, which is no move", async (context) => {
     await repeated(context, CLOSED, 3);
@@ -88,6 +103,10 @@ describe("a run with real answers is the same by its row", () => {
 
   it("in which a thread asks itself", async (context) => {
     await repeated(context, { "main.mjs": ONE_THREAD }, 2);
+  });
+
+  it("in which bytes of a socket are unpacked", async (context) => {
+    await repeated(context, { "main.mjs": PACKED }, 2);
   });
 
   it("in which nothing comes at last", async (context) => {

@@ -12,7 +12,6 @@ import { pipeline as piped } from "node:stream/promises";
 import { test } from "node:test";
 import timers from "node:timers";
 import util from "node:util";
-import zlib from "node:zlib";
 import { putTwins } from "../lib/program/twins.mjs";
 
 const { setImmediate: turn } = timers;
@@ -264,22 +263,6 @@ const SCENARIOS = {
     await new Promise((done) => target.createWriteStream().on("close", done).end("by a handle"));
     log(readFileSync(at("t"), "utf8"), target.fd);
   },
-  "zlib": async (at, log) => {
-    const text = "text ".repeat(50);
-    for (const [make, open] of [["gzip", "gunzip"], ["deflate", "inflate"], ["deflateRaw", "inflateRaw"],
-      ["brotliCompress", "brotliDecompress"], ["gzip", "unzip"]]) {
-      const [, packed] = await noted(log, make, (done) => zlib[make](text, done));
-      await noted((name, error, data) => log(name, error, data.toString() === text), open,
-        (done) => zlib[open](packed, done));
-      await noted(log, open, (done) => zlib[open](Buffer.from("not packed"), done));
-      await noted(log, make, (done) => zlib[make](text, { level: 1 }, done));
-      await noted(log, make, (done) => zlib[make](5, done));
-    }
-    await noted(log, "gzip", (done) => zlib.gzip("x", { level: 99 }, done));
-    await noted(log, "too large", (done) => zlib.gunzip(zlib.gzipSync(text), { maxOutputLength: 8 }, done));
-    try { zlib.gzip("x"); } catch (error) { log(error); }
-    log(await util.promisify(zlib.gzip)("x"));
-  },
   "crypto": async (at, log) => {
     // OpenSSL keeps some errors for the next function, so this one comes first.
     await noted(log, "sign", (done) => crypto.sign("sha256", Buffer.from("x"), "no key", done));
@@ -332,7 +315,7 @@ const SCENARIOS = {
       }));
       later = true;
       await reading;
-      await new Promise((done) => zlib.gzip("x", () => { log(storage.getStore()); done(); }));
+      await new Promise((done) => crypto.pbkdf2("a", "b", 1, 1, "sha1", () => { log(storage.getStore()); done(); }));
       await fs.promises.stat(at("a.txt"));
       log(storage.getStore());
     });
@@ -360,15 +343,6 @@ const LATER = {
     for await (const each of fs.promises.glob("dir/*", { cwd: at(".") })) found.push(each);
     log(found.sort());
     try { fs.glob("*"); } catch (error) { log(error); }
-  },
-  "zlib: zstd": async (at, log) => {
-    const text = "text ".repeat(50);
-    const [, packed] = await noted(() => {}, "zstdCompress", (done) => zlib.zstdCompress(text, done));
-    await noted((name, error, data) => log(name, error, data.toString() === text), "zstdDecompress",
-      (done) => zlib.zstdDecompress(packed, done));
-    await noted(log, "zstdDecompress", (done) => zlib.zstdDecompress(Buffer.from("not packed"), done));
-    await noted(log, "zstdCompress", (done) => zlib.zstdCompress(5, done));
-    try { zlib.zstdCompress("x"); } catch (error) { log(error); }
   },
 };
 

@@ -49,9 +49,8 @@ export const LATER = Object.freeze([{
       harmless: "isInternalThread isMarkedAsUntransferable",
     },
     zlib: {
-      simulated: "zstdCompress zstdDecompress",
+      simulated: "zstdCompress zstdDecompress ZstdCompress ZstdDecompress createZstdCompress createZstdDecompress",
       harmless: "zstdCompressSync zstdDecompressSync",
-      refused: "ZstdCompress ZstdDecompress createZstdCompress createZstdDecompress",
     },
   },
   schemes: {
@@ -72,6 +71,8 @@ export const LATER = Object.freeze([{
 const OTHERWISE = Object.freeze({
   /** `fs.stat` and `fs.promises.stat` take the option `throwIfNoEntry`. */
   statWithoutEntry: 24,
+  /** A stream of `zlib` throws if it is reset before the result of a write has come. */
+  resetWhileBusy: 24,
   /** Listeners of `exit` get the code of a top-level await that never settles, and not the code before it. */
   unsettledAtExit: 24,
   /** An atomic access of WebAssembly that is neither aligned nor within the memory traps as one that isn't aligned. */

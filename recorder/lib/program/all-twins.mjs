@@ -1,5 +1,6 @@
 // All twins: those that need node's inside, too.
 
+import { putPacking } from "./packing.mjs";
 import { putBlobs } from "./twin-blobs.mjs";
 import { putSubtle } from "./twin-subtle.mjs";
 import { putTwins } from "./twins.mjs";
@@ -9,4 +10,5 @@ export function putAllTwins(given) {
   putTwins(given);
   putBlobs(given);
   putSubtle(given);
+  putPacking(given);
 }

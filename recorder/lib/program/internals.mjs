@@ -83,7 +83,7 @@ function below(id, needed) {
 }
 
 const asyncHooks = inside("async_hooks", {
-  clearAsyncIdStack: "function", popAsyncContext: "function", pushAsyncContext: "function",
+  clearAsyncIdStack: "function", popAsyncContext: "function", pushAsyncContext: "function", symbols: "object",
 });
 const asyncWrap = below("async_wrap", { async_id_fields: "object", constants: "object" });
 
@@ -170,6 +170,11 @@ export function showFrames(shown) {
     return prepareStackTraceCallback(realm, error, isTaken ? frames : shown(frames));
   });
 }
+
+/** What packs and unpacks for `zlib`: node's classes, and by what their objects have the stream that they do it for. */
+export const packers = Object.values(below("zlib", { Zlib: "function", BrotliEncoder: "function", BrotliDecoder: "function" }))
+  .filter((each) => typeof each.prototype?.writeSync === "function");
+export const streamOf = asyncHooks.symbols?.owner_symbol;
 
 /** The options that node itself was started with. */
 export const options = inside("options", { getOptionValue: "function" });

@@ -3,11 +3,11 @@
 
 import { AsyncResource, createHook, executionAsyncResource } from "node:async_hooks";
 import { MessagePort } from "node:worker_threads";
-import { nodeTimers } from "./internals.mjs";
+import { nodeTimers, packers } from "./internals.mjs";
 import { Later, never, turnLater, wake } from "./real-loop.mjs";
 
-/** The classes of what is no answer: the run's timers and immediates, and what the recorder does later. */
-const OWN = [nodeTimers.Timeout, nodeTimers.Immediate, Later, MessagePort, Promise, AsyncResource];
+/** The classes of what is no answer: the run's timers, immediates and results, and what the recorder does later. */
+const OWN = [nodeTimers.Timeout, nodeTimers.Immediate, Later, MessagePort, Promise, AsyncResource, ...packers];
 
 /**
  * How a look ends: something has come; nothing has, and all is as it was; or something that was waited for has gone,

@@ -64,9 +64,13 @@ export class Loop {
     this.random = new Random(new Int32Array(4));
   }
 
-  /** @param {string} text what a task of the thread's own does, in words @param {() => void} act */
-  later(text, act) {
-    this.#tasks.push({ text, act, place: this.#notes ? this.served.here() : undefined });
+  /**
+   * @param {string} text what a task of the thread's own does, in words
+   * @param {() => void} act
+   * @param {string} [place] where the program has begun it, if its code doesn't run now
+   */
+  later(text, act, place) {
+    this.#tasks.push({ text, act, place: this.#notes ? this.served.here() ?? place : undefined });
   }
 
   /** Whether it is noted what the loop begins. */

@@ -149,7 +149,7 @@ export const MODULES = withLater({
       ReadableByteStreamController ReadableStreamDefaultController TransformStream TransformStreamDefaultController
       WritableStream WritableStreamDefaultWriter WritableStreamDefaultController ByteLengthQueuingStrategy
       CountQueuingStrategy TextEncoderStream TextDecoderStream`,
-    refused: "CompressionStream DecompressionStream",
+    simulated: "CompressionStream DecompressionStream",
   },
   string_decoder: "harmless",
   sys: "harmless",
@@ -189,12 +189,12 @@ export const MODULES = withLater({
     refused: "moveMessagePortToContext postMessageToThread",
   },
   zlib: {
-    simulated: "deflate gzip deflateRaw unzip inflate gunzip inflateRaw brotliCompress brotliDecompress",
+    simulated: `deflate gzip deflateRaw unzip inflate gunzip inflateRaw brotliCompress brotliDecompress Deflate Inflate
+      Gzip Gunzip DeflateRaw InflateRaw Unzip BrotliCompress BrotliDecompress createDeflate createInflate
+      createDeflateRaw createInflateRaw createGzip createGunzip createUnzip createBrotliCompress
+      createBrotliDecompress`,
     harmless: `crc32 deflateSync gzipSync deflateRawSync unzipSync inflateSync gunzipSync inflateRawSync
       brotliCompressSync brotliDecompressSync constants codes`,
-    refused: `Deflate Inflate Gzip Gunzip DeflateRaw InflateRaw Unzip BrotliCompress BrotliDecompress createDeflate
-      createInflate createDeflateRaw createInflateRaw createGzip createGunzip createUnzip createBrotliCompress
-      createBrotliDecompress`,
   },
 }, ({ modules }) => modules);
 
@@ -209,7 +209,8 @@ export const SCHEME_MODULES = withLater({
 const ALL = withLater({ globals: {
   simulated: `Date Math console process clearImmediate setImmediate clearInterval clearTimeout setInterval setTimeout
     queueMicrotask structuredClone BroadcastChannel MessageChannel MessagePort performance SharedArrayBuffer Atomics
-    WebAssembly crypto AbortSignal require module exports __filename __dirname`,
+    WebAssembly crypto AbortSignal CompressionStream DecompressionStream require module exports __filename
+    __dirname`,
   harmless: `Object Function Array Number parseFloat parseInt Infinity NaN undefined Boolean String Symbol Promise
     RegExp Error AggregateError EvalError RangeError ReferenceError SyntaxError TypeError URIError globalThis JSON Intl
     ArrayBuffer Uint8Array Int8Array Uint16Array Int16Array Uint32Array Int32Array Float32Array Float64Array
@@ -223,7 +224,7 @@ const ALL = withLater({ globals: {
     PerformanceEntry PerformanceMark PerformanceMeasure PerformanceObserverEntryList PerformanceResourceTiming FormData
     Headers Request Response Crypto CryptoKey SubtleCrypto CustomEvent gc`,
   real: "fetch",
-  refused: "CompressionStream DecompressionStream PerformanceObserver EventSource",
+  refused: "PerformanceObserver EventSource",
 } }, ({ globals }) => ({ globals }));
 
 /** @type {Readonly<Partial<Record<Kind, string>>>} */

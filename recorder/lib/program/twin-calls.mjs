@@ -5,7 +5,9 @@ import { apply, construct, copyProperty, defineProperty, ownKeys } from "../prim
 
 /**
  * @typedef {object} Given
- * @property {(name: string, act: () => void) => void} later lets the thread's loop run a task
+ * @property {(name: string, act: () => void, place?: string) => void} later lets the thread's loop run a task; `place`
+ *   is where the program has begun it, if its code doesn't run now
+ * @property {() => string | undefined} [here] where the program's code is
  * @property {() => boolean} [isPlaying] whether the program runs; until then all is node's own
  */
 /** @typedef {{ value?: any, problem?: any }} Outcome */

@@ -3,18 +3,12 @@
 // `crypto` has when `putTwins` is called.
 
 import crypto from "node:crypto";
-import zlib from "node:zlib";
 import { putFiles } from "./twin-files.mjs";
 import { putFolders } from "./twin-folders.mjs";
 import { promiseLater, putTwin, replaceCall } from "./twin-calls.mjs";
 
 /** @typedef {import("./twin-calls.mjs").Given} Given */
 
-/** The frames of `zstdCompress` have the size of their content, since all of it is there at once. Node's have not. */
-const ZLIB = Object.freeze([
-  "brotliCompress", "brotliDecompress", "deflate", "deflateRaw", "gunzip", "gzip", "inflate", "inflateRaw", "unzip",
-  "zstdCompress", "zstdDecompress",
-]);
 const CRYPTO = Object.freeze([
   "argon2", "checkPrime", "generateKey", "generatePrime", "hkdf", "pbkdf2", "randomFill", "scrypt",
 ]);
@@ -83,15 +77,13 @@ function putWebAssembly(given) {
 }
 
 /**
- * Replaces the slow functions of `fs`, `fs/promises`, `zlib`, `crypto` and WebAssembly. Call it once in a thread, and
+ * Replaces the slow functions of `fs`, `fs/promises`, `crypto` and WebAssembly. Call it once in a thread, and
  * `syncBuiltinESMExports` after it.
  * @param {Given} given
  */
 export function putTwins(given) {
   putFiles(given);
   putFolders(given);
-  const owner = /** @type {any} */ (zlib);
-  for (const name of thoseIn(ZLIB, owner)) putTwin(given, owner, name, owner[`${name}Sync`]);
   putCrypto(given);
   putWebAssembly(given);
 }

@@ -207,7 +207,8 @@ function partsOf(player, blocks, mesh) {
   const all = new Threads(agent, board, table, moves);
   /** @type {import("./unwinding.mjs").Late} */
   const late = {};
-  const later = (/** @type {string} */ name, /** @type {() => void} */ act) => late.loop?.later(name, act);
+  /** @type {import("./twin-calls.mjs").Given["later"]} */
+  const later = (name, act, place) => late.loop?.later(name, act, place);
   const notes = new TaskNotes(shared.tasks);
   /** @type {import("./ends.mjs").Leaving["note"]} */
   const note = (text, place) => late.loop?.note(text, place);
@@ -253,7 +254,7 @@ function installReplacements({ moves, buffers, waits, ends, events, later, late,
     buffers, moves, atomics, seen: watching.seen, here: sourceOfCall, refuse, isPlaying, isRelaxed,
   });
   watchRealm(watching);
-  putAllTwins({ later, isPlaying });
+  putAllTwins({ later, isPlaying, here: sourceOfCall });
   installMemory((buffer) => buffers.made(buffer, sourceOfCall()));
   installCloning(buffers, refuse);
   installGrowing(buffers, moves, isPlaying);

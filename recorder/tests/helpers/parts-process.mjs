@@ -2,11 +2,11 @@
 // loop is simple: a task, else an immediate, else a timer, else the clock goes on. Prints each run's lines as JSON.
 
 import util from "node:util";
+import { putAllTwins } from "../../lib/program/all-twins.mjs";
 import { ProgramModules } from "../../lib/program/program-modules.mjs";
 import { turnLater } from "../../lib/program/real-loop.mjs";
 import { refuseRest } from "../../lib/program/surface.mjs";
 import { Timers } from "../../lib/program/timers.mjs";
-import { putTwins } from "../../lib/program/twins.mjs";
 
 const [url, runs] = process.argv.slice(2);
 const { log } = console;
@@ -20,7 +20,7 @@ const refuse = (name) => { throw new Error(`refused: ${name}`); };
 const own = new Timers({ now: () => now });
 const graph = new ProgramModules({ refuse: () => {} });
 refuseRest({ refuse, isPlaying });
-putTwins({ isPlaying, later: (name, act) => tasks.push(act) });
+putAllTwins({ isPlaying, later: (name, act) => tasks.push(act) });
 
 /** @returns {boolean} whether there was anything to do */
 function step() {
