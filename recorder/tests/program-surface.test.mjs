@@ -143,7 +143,7 @@ test("all that is refused calls `refuse` with its name, by require, node: and ge
       const isMade = shown.includes(made) || made === "TypeError: value is not a constructor";
       return shown.includes(called) && isMade ? [] : [[shown, called, made]];
     });
-    console.log(JSON.stringify([wrong, names.size > 80 || names.size, early,
+    console.log(JSON.stringify([wrong, names.size > 60 || names.size, early,
       by(() => require("node:cluster").fork()), by(() => new PerformanceObserver()), by(() => crypto.subtle.generateKey()),
       by(() => WebAssembly.compileStreaming()), by(() => process.umask(0)), by(() => typeof process.umask()),
       by(() => require("inspector").console.log(1)), by(() => require("tty").WriteStream(1)),

@@ -20,7 +20,7 @@ test("a task with a result says whose it is and where the stream was made", asyn
   const texts = new Set(tasks.map(({ agent, text, source }) => `${agent} ${text}, at ${source}`));
   assert.deepEqual([...texts].sort(), [
     "0 has a result of Deflate, at main.mjs:6:29", "0 has a result of Gunzip, at main.mjs:5:3",
-    "0 has a result of Gzip, at main.mjs:4:43",
+    "0 has a result of Gzip, at main.mjs:4:41",
   ]);
 });
 

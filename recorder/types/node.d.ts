@@ -178,6 +178,7 @@ declare module "node:async_hooks" {
   export function createHook(hooks: Hooks): { enable(): void; disable(): void };
   export function executionAsyncResource(): object;
   export class AsyncResource {
+    static bind(act: Function, type: string): Function;
     constructor(type: string);
     runInAsyncScope(act: () => void): void;
   }
