@@ -64,11 +64,7 @@ export class Loop {
     this.random = new Random(new Int32Array(4));
   }
 
-  /**
-   * @param {string} text what a task of the thread's own does, in words
-   * @param {() => void} act
-   * @param {string} [place] where the program has begun it, if its code doesn't run now
-   */
+  /** @param {string} text what a task of the thread's own does, in words @param {() => void} act @param {string} [place] */
   later(text, act, place) {
     this.#tasks.push({ text, act, place: this.#notes ? this.served.here() ?? place : undefined });
   }
@@ -153,6 +149,7 @@ export class Loop {
     const active = underWay();
     if (isReading(active)) return STEP.READS;
     const pending = holds ? HELD : this.#pending(active);
+    if (this.#isLeft(pending)) return this.#endsNow();
     if (this.#hasTask()) {
       if (!moves.offer(pending, this.#mayLook)) return STEP.IS_OVER;
     } else {
@@ -231,7 +228,8 @@ export class Loop {
     ends.beforeExit();
     this.drain();
     if (ends.isOver) return STEP.IS_OVER;
-    if (this.#hasOwnTask() || this.#keepers().length > 0 || this.#pending(underWay()).isSome) return STEP.GOES_ON;
+    const pending = this.#pending(underWay());
+    if (!this.#isLeft(pending) && (this.#hasOwnTask() || this.#keepers().length > 0 || pending.isSome)) return STEP.GOES_ON;
     ends.leave();
     return STEP.IS_OVER;
   }
@@ -254,6 +252,14 @@ export class Loop {
   #hasOwnTask() {
     const { ports, timers: { deadline, immediates } } = this.served;
     return this.#tasks.length > 0 || immediates > 0 || deadline <= this.#now() || ports.ready().length > 0;
+  }
+
+  /** @param {import("./real-work.mjs").Pending} pending @returns {boolean} whether only unref'ed immediates are left */
+  #isLeft(pending) {
+    const { ports, timers: { areLeft }, waits } = this.served;
+    if (!areLeft || !this.#looks || !this.#isTurning || this.#tasks.length > 0 || pending.isSome) return false;
+    const isDue = waits.isWoken || this.#deadline() <= this.#now();
+    return !isDue && ports.ready().length === 0 && this.#keepers().length === 0;
   }
 
   /** @returns {number} when the first timer is due, or the time of the first waitAsync is up */

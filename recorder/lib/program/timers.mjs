@@ -78,6 +78,11 @@ export class Timers {
     return this.#round.reduce((sum, immediate) => sum + (immediate._destroyed ? 0 : 1), 0);
   }
 
+  /** @returns {boolean} whether there are immediates of the next round alone, and neither they nor timers keep the thread */
+  get areLeft() {
+    return this.immediates > 0 && this.inRound === 0 && !this.alive;
+  }
+
   /** @returns {boolean} whether a timer or an immediate keeps the thread alive */
   get alive() {
     return timeoutInfo[0] > 0 || immediateInfo[REFED_IMMEDIATES] > turns();
