@@ -96,6 +96,10 @@ for (const product of productsOf(process.argv.slice(2))) {
     console.log(`${product.name}: skipped: node ${product.before} and later don't have the bug that is mended here`);
     continue;
   }
+  if (product.version !== undefined && NODE !== product.version) {
+    console.log(`${product.name}: skipped: they are tests of node ${product.version}`);
+    continue;
+  }
   // The user's own node is there.
   product.sources.filter(({ kind }) => kind === "node").forEach(fetchSource);
   if (!product.sources.every(isFetched)) {

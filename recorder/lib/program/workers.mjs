@@ -18,6 +18,8 @@ import { startThread } from "./thread-start.mjs";
 import { sent } from "./values.mjs";
 
 const { SHARE_ENV } = /** @type {any} */ (threads);
+const { nextTick } = /** @type {any} */ (process);
+const emit = /** @type {any} */ (process.emit).bind(process);
 /** What the Worker of this node has: later versions have more. */
 const { prototype: engine } = /** @type {any} */ (threads.Worker);
 
@@ -191,6 +193,7 @@ class Worker extends EventEmitter {
     const isFirst = (/** @type {unknown} */ name) => name === "message" && this.listenerCount("message") === 0;
     this.on("newListener", (/** @type {unknown} */ name) => isFirst(name) && this.#listens(true));
     this.on("removeListener", (/** @type {unknown} */ name) => isFirst(name) && this.#listens(false));
+    nextTick(() => emit("worker", this));
   }
 
   /** @param {boolean} isListening whether the program listens to its messages from now on; if not, they wait, as in node */

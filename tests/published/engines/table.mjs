@@ -1,5 +1,6 @@
 // Engines' own tests of several threads: where they come from, how they are tried, and which don't pass, and why.
 
+import { OF_VERSIONS } from "./node-tests.mjs";
 import { TEST262 } from "./test262.mjs";
 import { pageOf } from "./wpt.mjs";
 
@@ -17,6 +18,7 @@ import { pageOf } from "./wpt.mjs";
  * @property {Record<string, Known>} others
  * @property {Record<string, number>} [seeds] of tests that take long
  * @property {string[]} [fresh] tests that leave in a thread what can't be taken back
+ * @property {number} [version] of node: they are tried by that one alone
  */
 
 const ATOMICS = "js/src/tests/test262/built-ins/Atomics";
@@ -100,7 +102,7 @@ const hasTrace = process.allowedNodeEnvironmentFlags.has("--trace-atomics-wait")
 
 /** @type {Family} */
 const OF_NODE = {
-  name: "node-tests", sources: [NODEJS], programOf: by("node.mjs"), options: {},
+  name: "node-tests", sources: [NODEJS], programOf: (test) => by("node.mjs")(`nodejs/test/${test}`), options: {},
   passing: [
     "async-hooks-worker-asyncfn-terminate-4", "worker-beforeexit-throw-exit", "worker-broadcastchannel",
     "worker-http2-generic-streams-terminate",
@@ -151,4 +153,4 @@ const OF_WPT = {
 };
 
 /** @type {readonly Family[]} */
-export const FAMILIES = Object.freeze([OF_TEST262, OF_SPIDERMONKEY, OF_NODE, OF_WPT]);
+export const FAMILIES = Object.freeze([OF_TEST262, OF_SPIDERMONKEY, OF_NODE, ...OF_VERSIONS, OF_WPT]);
