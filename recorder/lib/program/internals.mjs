@@ -171,8 +171,8 @@ export function showFrames(shown) {
   });
 }
 
-/** What packs and unpacks for `zlib`: node's classes, and by what their objects have the stream that they do it for. */
-export const packers = Object.values(below("zlib", { Zlib: "function", BrotliEncoder: "function", BrotliDecoder: "function" }))
+/** What packs and unpacks for `zlib`, and by what its objects have the stream that they do it for. */
+export const packers = Object.values(below("zlib", { Zlib: "function", BrotliEncoder: "function" }))
   .filter((each) => typeof each.prototype?.writeSync === "function");
 export const streamOf = asyncHooks.symbols?.owner_symbol;
 

@@ -64,7 +64,7 @@ export class Loop {
     this.random = new Random(new Int32Array(4));
   }
 
-  /** @param {string} text what a task of the thread's own does, in words @param {() => void} act @param {string} [place] */
+  /** @param {string} text what a task of the thread's own does @param {() => void} act @param {string} [place] */
   later(text, act, place) {
     this.#tasks.push({ text, act, place: this.#notes ? this.served.here() ?? place : undefined });
   }
@@ -229,7 +229,8 @@ export class Loop {
     this.drain();
     if (ends.isOver) return STEP.IS_OVER;
     const pending = this.#pending(underWay());
-    if (!this.#isLeft(pending) && (this.#hasOwnTask() || this.#keepers().length > 0 || pending.isSome)) return STEP.GOES_ON;
+    const hasMore = this.#hasOwnTask() || this.#keepers().length > 0 || pending.isSome;
+    if (hasMore && !this.#isLeft(pending)) return STEP.GOES_ON;
     ends.leave();
     return STEP.IS_OVER;
   }

@@ -1,5 +1,5 @@
-// The functions and streams of `zlib`: node's own, over lower functions of the run. What node packs or unpacks in another
-// thread is done in a task of the run, which has the result. So a run repeats.
+// The functions and streams of `zlib`: node's own, over lower functions of the run. What node packs or unpacks in
+// another thread is done in a task of the run, which has the result. So a run repeats.
 
 import { AsyncResource } from "node:async_hooks";
 import zlib from "node:zlib";

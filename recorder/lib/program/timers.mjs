@@ -78,7 +78,7 @@ export class Timers {
     return this.#round.reduce((sum, immediate) => sum + (immediate._destroyed ? 0 : 1), 0);
   }
 
-  /** @returns {boolean} whether there are immediates of the next round alone, and neither they nor timers keep the thread */
+  /** @returns {boolean} whether there are immediates of the next round, and no timer or immediate keeps the thread */
   get areLeft() {
     return this.immediates > 0 && this.inRound === 0 && !this.alive;
   }
