@@ -1,28 +1,32 @@
-// Tests of node's own about timers, workers, messages, modules and zlib, as Debian has them for two versions of node. Each
-// version's are tried by a node of that version alone. A family has all files whose names begin so, except those that
-// need flags of node's. Those that don't pass stand here by their reasons.
+// Tests of node's own about timers, workers, messages, modules and zlib, as Debian has them for two versions of node.
+// Each version's are tried by a node of that version alone. A family has all files of `test/parallel` whose names begin
+// so, except those that need flags of node's. `node-reasons.mjs` has those that don't pass.
 
 import { existsSync, readFileSync, readdirSync } from "node:fs";
 import { FETCHED } from "../folder.mjs";
-import { FRESH, REASONS } from "./node-reasons.mjs";
+import { FRESH, NOT_HERE, REASONS } from "./node-reasons.mjs";
 
 /** @typedef {import("./table.mjs").Family} Family */
 
-const ABOUT = /^test-(?:atomics|broadcastchannel|message|messagechannel|messageport|module|require|timers?|worker|zlib)[-.]/;
+const ABOUT = /^test-(?:atomics|broadcastchannel|message(?:channel|port)?|module|require|timers?|worker|zlib)\b/;
 
 /** A line of node's flags, which is at the beginning of a file. */
 const FLAGS = /^\/\/ Flags: /m;
 
-/** @param {string} folder of the tests @returns {string[]} the names of those that are tried; none if they aren't fetched */
+/** @param {string | undefined} names @returns {string[]} */
+const words = (names = "") => names.split(/\s+/).filter((name) => name !== "");
+
+/** @param {string} name of a file @returns {string} without what all have */
+const short = (name) => name.replace(/^test-|\.m?js$/g, "");
+
+/** @param {string} folder of a version @returns {string[]} the names of its tests that are tried */
 function namesIn(folder) {
   const parallel = new URL(`${folder}/test/parallel/`, FETCHED);
   if (!existsSync(parallel)) return [];
-  const named = readdirSync(parallel).filter((name) => ABOUT.test(name)).sort();
+  const isLeftOut = (/** @type {string} */ name) => words(NOT_HERE).includes(short(name));
+  const named = readdirSync(parallel).filter((name) => ABOUT.test(name) && !isLeftOut(name)).sort();
   return named.filter((name) => !FLAGS.test(readFileSync(new URL(name, parallel), "utf8")));
 }
-
-/** @param {string} name @returns {string} the name of its file, without what all have */
-const short = (name) => name.replace(/^test-|\.m?js$/g, "");
 
 /**
  * @param {number} version of node
@@ -31,11 +35,8 @@ const short = (name) => name.replace(/^test-|\.m?js$/g, "");
  */
 function familyOf(version, suite) {
   const folder = `nodejs-${version}`;
-  const known = new Map(REASONS.flatMap(({ says, why, tests, ...more }) => {
-    const here = `${tests ?? ""} ${more[version] ?? ""}`.trim().split(/\s+/);
-    return here.map((name) => [name, { says, why }]);
-  }));
-  const fresh = FRESH.trim().split(/\s+/);
+  const known = new Map(REASONS.flatMap(({ says, why, tests, ...more }) =>
+    [...words(tests), ...words(more[version])].map((name) => [name, { says, why }])));
   return {
     name: `node-${version}-tests`, version,
     sources: [{
@@ -52,7 +53,7 @@ function familyOf(version, suite) {
       return Object.fromEntries(names.map((name) => [name, known.get(short(name))]));
     },
     get fresh() {
-      return namesIn(folder).filter((name) => fresh.includes(short(name)));
+      return namesIn(folder).filter((name) => words(FRESH).includes(short(name)));
     },
   };
 }

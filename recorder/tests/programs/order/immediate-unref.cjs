@@ -1,11 +1,11 @@
-// An immediate that nothing keeps the thread alive for doesn't run when the loop has turned, and else it does.
+// An immediate that doesn't keep the thread runs with others of its round, and never if no other thing keeps the thread.
 setImmediate(() => {
   console.log("immediate");
   setImmediate(() => console.log("in the next round")).unref();
-  setTimeout(() => {
-    console.log("timer");
+  setImmediate(() => {
+    console.log("beside it");
     setImmediate(() => console.log("never")).unref();
-  }, 1);
+  });
 });
 process.on("beforeExit", () => {
   console.log("before exit");
