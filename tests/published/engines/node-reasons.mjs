@@ -18,7 +18,8 @@ export const REASONS = Object.freeze([
       worker-message-port-move worker-messaging-errors-handler worker-messaging-errors-invalid
       worker-messaging-errors-timeout worker-messaging worker-name worker-no-stdin-stdout-interaction worker-process-cwd
       worker-process-env-shared worker-stack-overflow-stack-size worker-stdio-from-preload-module
-      worker-terminate-http2-respond-with-file`,
+      worker-terminate-http2-respond-with-file worker-unsupported-things worker-vm-context-terminate
+      worker-workerdata-messageport`,
     20: `timers-active timers-enroll-invalid-msecs timers-enroll-second-time timers-max-duration-warning
       timers-unenroll-unref-interval timers-unref-active timers-unref-remove-other-unref-timers-only-one-fires
       timers-unref-remove-other-unref-timers`,
@@ -51,7 +52,8 @@ export const REASONS = Object.freeze([
     tests: "worker-message-port-close-while-receiving",
   },
   {
-    says: /options\.env/, why: "the error doesn't say what was given as `env`", tests: "worker-process-env",
+    says: /ERR_INVALID_ARG_TYPE|options\.eval/, why: "the error of `new Worker` doesn't say what was given",
+    tests: "worker-process-env worker-type-check worker-unsupported-eval-on-url",
   },
   {
     says: /Missing expected rejection/, why: "threads of a program have node's inside", 24: "worker-internal-modules",
@@ -65,7 +67,7 @@ export const REASONS = Object.freeze([
   },
   {
     says: /Missing expected exception/, why: "a file that a thread has left open is open until the runs end",
-    tests: "worker-cleanup-handles",
+    tests: "worker-cleanup-handles worker-track-unmanaged-fds",
   },
   {
     says: /threw Error: ok/, why: "it replaces how node itself takes an error that nobody catches",
@@ -85,7 +87,8 @@ export const REASONS = Object.freeze([
   },
   {
     says: /has made no call/, why: "a thread that makes no call isn't ended by others",
-    tests: "worker-message-port-terminate-transfer-list worker-nexttick-terminate",
+    tests: `worker-message-port-terminate-transfer-list worker-nexttick-terminate worker-terminate-microtask-loop
+      worker-terminate-timers`,
   },
   { says: /16 threads/, why: "a run has at most 16 threads", tests: "worker-memory" },
   { says: /a child process/, why: "its process takes longer than 5 s", tests: "worker-init-failure" },
@@ -95,10 +98,11 @@ export const REASONS = Object.freeze([
 export const FRESH = `
   timers-api-refs timers-nan-duration-emit-once-per-process timers-nan-duration-warning-promises
   timers-negative-duration-warning-emit-once-per-process timers-process-tampering worker-http2-generic-streams-terminate
-  zlib-bytes-read
+  worker-terminate-source-map zlib-bytes-read
 `;
 
 /** Tests that fail or take more than a minute in node itself, if a module loads them. */
 export const NOT_HERE = `
-  worker-exit-heapsnapshot worker-message-port-inspect-during-init-hook zlib-reject-garbage-after-end
+  worker-exit-heapsnapshot worker-message-port-inspect-during-init-hook worker-unsupported-path
+  zlib-reject-garbage-after-end
 `;
