@@ -242,6 +242,11 @@ declare module "node:fs" {
   export default all;
 }
 
+declare module "node:net" {
+  const net: object;
+  export default net;
+}
+
 declare module "node:module" {
   interface SourceEntry {
     originalSource?: string;

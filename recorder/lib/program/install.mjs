@@ -2,6 +2,7 @@
 // ends the run by its name and line.
 
 import nodeModule from "node:module";
+import net from "node:net";
 import process from "node:process";
 import threads from "node:worker_threads";
 import { apply, construct, isArray, likeEngine, proxyOf, put } from "../primordials.mjs";
@@ -119,12 +120,21 @@ function clearTimes() {
   performance.clearResourceTimings();
 }
 
-/** Nothing of an earlier run listens, or is a global of evaluated code. */
+const sockets = /** @type {any} */ (net);
+
+/** How node's sockets choose among addresses, and what changes that. */
+const CHOOSING = ["DefaultAutoSelectFamily", "DefaultAutoSelectFamilyAttemptTimeout"].map((name) => {
+  const { [`get${name}`]: get, [`set${name}`]: set } = sockets;
+  return { set, value: get() };
+});
+
+/** Nothing of an earlier run listens, has changed how sockets choose, or is a global of evaluated code. */
 export function restoreProcess() {
   /** @type {any} */
   const own = process;
   for (const name of own.eventNames()) own.removeAllListeners(name);
   clearTimes();
+  CHOOSING.forEach(({ set, value }) => set(value));
   for (const [name, listeners] of listening) for (const listener of listeners) own.on(name, listener);
   delete (/** @type {any} */ (globalThis)).require;
 }

@@ -1,7 +1,6 @@
 // A test of node's own, with node's own `test/common`.
 
 import { createRequire } from "node:module";
-import net from "node:net";
 import { fileURLToPath } from "node:url";
 import { FETCHED } from "../folder.mjs";
 
@@ -11,8 +10,6 @@ const path = fileURLToPath(file);
 process.umask = () => 0o022;
 // It knows the globals of node 18, and a later one has more.
 process.env.NODE_TEST_KNOWN_GLOBALS = "0";
-// It makes this time ten times as long as it was, in each run of a thread.
-net.setDefaultAutoSelectFamilyAttemptTimeout(250);
 // At their end tests leave the folder that they have made, in which none of them is.
 const { chdir } = process;
 const root = fileURLToPath(new URL("..", file)).replace(/.$/, "");
