@@ -95,6 +95,10 @@ export const REASONS = Object.freeze([
     tests: `worker-message-port-terminate-transfer-list worker-nexttick-terminate worker-terminate-microtask-loop
       worker-terminate-timers`,
   },
+  {
+    says: /Command failed/, why: "it copies node's program, which may need what is beside it",
+    24: "module-loading-globalpaths",
+  },
   { says: /16 threads/, why: "a run has at most 16 threads", tests: "worker-memory" },
   { says: /a child process/, why: "its process takes longer than 5 s", tests: "worker-init-failure" },
 ]);

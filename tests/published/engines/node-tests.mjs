@@ -43,8 +43,8 @@ function familyOf(version, suite) {
       kind: "source", folder, name: `nodejs/${suite}`, files: ["test/common/*", "test/fixtures/*", "test/parallel/*"],
     }],
     programOf: (test) => ({ program: new URL("node.mjs", import.meta.url), args: [`${folder}/test/parallel/${test}`] }),
-    // Their authors take it that what is due after 100 ms comes after what others do at once.
-    options: { timeouts: 0 },
+    // Their authors take it that what is due after 100 ms comes after what others do at once. Some start processes.
+    options: { timeouts: 0, seconds: 20 },
     get passing() {
       return namesIn(folder).filter((name) => !known.has(short(name)));
     },
