@@ -13,13 +13,13 @@
 export const REASONS = Object.freeze([
   {
     says: /isn't simulated|can't record/, why: "it needs what is refused, such as domains or the inspector",
-    tests: `module-loading-error timers-immediate-queue-throw timers-reset-process-domain-on-throw worker-debug
-      worker-execargv-invalid worker-execargv worker-fs-stat-watcher worker-heap-snapshot worker-heapdump-failure
-      worker-message-port-close worker-message-port-move worker-messaging-errors-handler
-      worker-messaging-errors-invalid worker-messaging-errors-timeout worker-messaging worker-name
-      worker-no-stdin-stdout-interaction worker-process-cwd worker-process-env-shared worker-stack-overflow-stack-size
-      worker-stdio-from-preload-module worker-terminate-http2-respond-with-file worker-unsupported-things
-      worker-vm-context-terminate worker-workerdata-messageport`,
+    tests: `module-loading-error require-resolve-opts-paths-relative timers-immediate-queue-throw
+      timers-reset-process-domain-on-throw worker-debug worker-execargv-invalid worker-execargv worker-fs-stat-watcher
+      worker-heap-snapshot worker-heapdump-failure worker-message-port-close worker-message-port-move
+      worker-messaging-errors-handler worker-messaging-errors-invalid worker-messaging-errors-timeout worker-messaging
+      worker-name worker-no-stdin-stdout-interaction worker-process-cwd worker-process-env-shared
+      worker-stack-overflow-stack-size worker-stdio-from-preload-module worker-terminate-http2-respond-with-file
+      worker-unsupported-things worker-vm-context-terminate worker-workerdata-messageport`,
     20: `timers-active timers-enroll-invalid-msecs timers-enroll-second-time timers-max-duration-warning
       timers-unenroll-unref-interval timers-unref-active timers-unref-remove-other-unref-timers-only-one-fires
       timers-unref-remove-other-unref-timers`,
@@ -56,8 +56,8 @@ export const REASONS = Object.freeze([
     tests: "worker-process-env worker-type-check worker-unsupported-eval-on-url",
   },
   {
-    says: /Missing expected rejection|isBuiltin/, why: "threads of a program have node's inside",
-    tests: "module-isBuiltin", 24: "worker-internal-modules",
+    says: /Missing expected (?:rejection|exception)|isBuiltin/, why: "threads of a program have node's inside",
+    tests: "module-isBuiltin require-node-prefix", 24: "worker-internal-modules",
   },
   {
     says: /globalPaths/, why: "node looks for NODE_PATH in the process, and a thread has variables of its own",
