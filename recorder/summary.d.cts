@@ -134,8 +134,8 @@ export interface Summary {
   /** How many of the failing runs fail only after the early end of a timed wait. */
   early: number;
   /**
-   * Of the runs that finished, waits that ended only because their time was up. Nothing else could move then, and the word
-   * had changed, or no other agent could ever go on. `served` are the places at which agents wait and that others
+   * Of the runs that finished, waits that ended only because their time was up. Nothing else could move then, and the
+   * word had changed, or no other agent could ever go on. `served` are the places at which agents wait and that others
    * notify or write in some run. The text reports the waits at these places; others are sleeps.
    */
   onlyByTime: Listed<OnlyByTime> & { served: Place[] };

@@ -22,7 +22,9 @@ const MODULES = ["examples/mutex-naive.agents.mjs", "examples/ring.agents.mjs", 
 /** So many runs are made first: by then the engine has compiled all. */
 const WARM = 1_000;
 
-/** @typedef {{ turns: number, each: number, warm?: number }} Amount how many turns, outcomes of each, and runs before */
+/**
+ * @typedef {{ turns: number, each: number, warm?: number }} Amount how many turns, outcomes of each, and runs before
+ */
 
 /** Between turns no outcomes are taken. By the end of this pause all runs are made that are made ahead. */
 const REST_MILLISECONDS = 100;

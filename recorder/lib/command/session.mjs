@@ -194,8 +194,8 @@ export class Session {
   }
 
   /**
-   * Whether no summary is printed, since what went wrong says all. One in JSON reports that itself, and can be joined to
-   * those of other shards.
+   * Whether no summary is printed, since what went wrong says all. One in JSON reports that itself, and can be joined
+   * to those of other shards.
    * @param {unknown} stopped why not all runs were made, if so
    */
   #isWithoutSummary(stopped) {

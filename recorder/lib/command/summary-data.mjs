@@ -4,7 +4,8 @@
 
 /** @typedef {import("../run/outcome.mjs").Outcome & { checked?: boolean }} Outcome */
 
-/** @typedef {Pick<Outcome, "seed" | "ending" | "detail" | "noScript" | "onlyIf" | "standing"> & Partial<Outcome>} Failing */
+/** @typedef {"seed" | "ending" | "detail" | "noScript" | "onlyIf" | "standing"} Always what each failing run has */
+/** @typedef {Pick<Outcome, Always> & Partial<Outcome>} Failing */
 
 /** @typedef {{ ending: string, shown: string[], named: string | null }} State how a run ended, and its bytes */
 

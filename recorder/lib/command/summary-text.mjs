@@ -102,13 +102,15 @@ function raceLines({ races: { allowed, runs, pairs } }) {
 /** @param {SummaryData} summary */
 function unrecordedLines({ unrecorded: { allowed, runs, used } }) {
   if (runs === 0) return [];
-  return [`agents used what isn't recorded${allowed ? ", which is allowed" : ""}: ${counted(runs, "run")}`, ...usedLines(used)];
+  const that = allowed ? ", which is allowed" : "";
+  return [`agents used what isn't recorded${that}: ${counted(runs, "run")}`, ...usedLines(used)];
 }
 
 /** @param {SummaryData} summary @returns {string[]} what programs used that the machine answers */
 function realLines({ real: { runs, used } }) {
   if (runs === 0) return [];
-  const title = `${counted(runs, "run")} used sockets, pipes or child processes, and repeat only as far as their input does`;
+  const title = `${counted(runs, "run")} used sockets, pipes or child processes, `
+    + "and repeat only as far as their input does";
   return [runs === 1 ? title.replace(/repeat (.*)their/, "repeats $1its") : title, ...usedLines(used)];
 }
 

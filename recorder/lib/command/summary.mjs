@@ -47,7 +47,8 @@ const UNSEEN = { watch: [], store: [CHANGES_ALONE], refuse: [CHANGES_ALONE] };
 
 /** What else a run may not have seen, if other code was loaded before the recorder. */
 const UNSEEN_BEFORE =
-  "node's own options, as --require, loaded code first: accesses by typed arrays and Atomics that it kept were not seen";
+  "node's own options, as --require, loaded code first: "
+  + "accesses by typed arrays and Atomics that it kept were not seen";
 
 /** @type {("failing" | "passing")[]} */
 const BOTH = ["failing", "passing"];
@@ -176,7 +177,8 @@ export class Summary {
       failures: failingListOf(this.failures, (_, { ending, message, sources }) => ({ ending, message, sources })),
       shortened: this.shortened === undefined ? null : shorteningOf(this.shortened, this.failing),
       races: {
-        allowed: this.races === "allow", runs: this.raced, pairs: failingListOf(this.pairs, (_, { lines }) => ({ lines })),
+        allowed: this.races === "allow", runs: this.raced,
+        pairs: failingListOf(this.pairs, (_, { lines }) => ({ lines })),
       },
       unrecorded: { allowed: this.unrecorded === "allow", ...this.uses.unrecorded.data() },
       real: this.uses.real.data(),

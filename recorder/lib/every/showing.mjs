@@ -43,8 +43,8 @@ export async function shown(findings, options) {
 }
 
 /**
- * Behind a race, real runs may differ from a search that makes all accesses of a segment at once. So if a race is shown,
- * nothing else has to be. The first race has none before it, so it has to be shown.
+ * Behind a race, real runs may differ from a search that makes all accesses of a segment at once. So if a race is
+ * shown, nothing else has to be. The first race has none before it, so it has to be shown.
  * @param {Shown[]} found
  * @returns {Shown | undefined} the first that has to be shown and isn't
  */

@@ -51,12 +51,12 @@ import { moduleUrlOf } from "./module-url.mjs";
  * @property {string | URL} program its main module: a URL, or a path, from the folder of the file that calls `record`
  * @property {undefined} [module]
  * @property {"fail" | "allow"} [stuck] whether a run that is stuck fails; else "fail"
- * @property {number} [early] by how many milliseconds the run's clock may be ahead of what waits, since a timer or a timed
- * wait has ended early; 0: none does; else 100
+ * @property {number} [early] by how many milliseconds the run's clock may be ahead of what waits, since a timer or a
+ * timed wait has ended early; 0: none does; else 100
  * @property {boolean} [web] whether the program is one for browsers; else it is one of node
  * @property {"all" | "none"} [programOutput] for which runs it is shown what the program prints; else for the first one
- * @property {"ordinary" | "relaxed"} [wasmAccesses] what plain aligned accesses of WebAssembly to shared memory are: C's
- * `volatile` is relaxed; else "ordinary"
+ * @property {"ordinary" | "relaxed"} [wasmAccesses] what plain aligned accesses of WebAssembly to shared memory are:
+ * C's `volatile` is relaxed; else "ordinary"
  */
 
 /**

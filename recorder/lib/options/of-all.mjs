@@ -43,7 +43,7 @@ export function needFittingAll(given, spelled, isAll = given.all === true) {
     if (isRefused) throw new Refused(`${spelled(name)} ${given[name]} ${without}: ${why}`);
   }
   if (given.timeouts === 0) {
-    throw new Refused(`${spelled("timeouts")} 0 ${without}: it has no time that goes by. Above 0 any wait's time may be `
-      + "over at any moment, and never means that it never is");
+    throw new Refused(`${spelled("timeouts")} 0 ${without}: it has no time that goes by. Above 0 any wait's time may `
+      + "be over at any moment, and never means that it never is");
   }
 }

@@ -13,7 +13,10 @@ const WITHOUT = Object.freeze({
 
 /** Options that are about programs alone; and why. */
 const OF_PROGRAMS = Object.freeze({
-  stuck: "only programs can be stuck", early: "agents have no timers", web: "agents aren't run as in a browser", programOutput: "what agents print is always shown",
+  stuck: "only programs can be stuck",
+  early: "agents have no timers",
+  web: "agents aren't run as in a browser",
+  programOutput: "what agents print is always shown",
   wasmAccesses: "the shared memory of WebAssembly is recorded in programs alone",
 });
 

@@ -100,7 +100,9 @@
 
 /** @typedef {{ outcome: Outcome, judgement?: Judgement, aside: Aside }} One all that is reported about one run */
 
-/** @typedef {Omit<Judgement, "events"> & { events?: Int32Array }} SentJudgement without the events if they are copied */
+/**
+ * @typedef {Omit<Judgement, "events"> & { events?: Int32Array }} SentJudgement without the events if they are copied
+ */
 
 /** @typedef {Omit<One, "judgement"> & { judgement?: SentJudgement, taken?: import("./taken.mjs").Taken }} Sent the same
  * as the referee sends it: without its script and report if these are made of copies */

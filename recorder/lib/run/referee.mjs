@@ -240,8 +240,8 @@ class Referee {
    * @param {Wanted} wanted
    * @param {Outcome} outcome
    * @param {Made} found
-   * @param {{ lines: number, isFirst: boolean }} known which of the log's accesses have noted their lines; whether it may
-   * be the first failing run
+   * @param {{ lines: number, isFirst: boolean }} known which of the log's accesses have noted their lines; whether it
+   * may be the first failing run
    */
   async #addSources(wanted, outcome, found, { lines, isFirst }) {
     const { maker, reporter } = this;

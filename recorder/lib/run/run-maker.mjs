@@ -73,7 +73,8 @@ const ENDLESS = "didn't come to its end";
  */
 const NOT_SYNCHRONOUS = /^(?:agent \d+ )?(?:goes on later|returned a promise), /;
 
-const NOTHING_TRIED = "no agent has made a call of Atomics, or another access that is seen, on the recorded buffers: nothing was tried";
+const NOTHING_TRIED = "no agent has made a call of Atomics, or another access that is seen, on the recorded buffers: "
+  + "nothing was tried";
 
 /**
  * Which accesses of a run note their lines of code: how many of the ordinary ones do, wherever they are. Those in the
@@ -152,7 +153,8 @@ export class RunMaker {
     const unseen = unseenText(found.unseen, unrecorded, this.sourceNames.placeName);
     if (unseen !== "" && found.stray === undefined) return failedFor(unseen, found);
     if (found.ending !== "finished") return found;
-    if (this.program === undefined && this.#triedNothing()) return { ...found, ending: "failed", detail: NOTHING_TRIED };
+    const triedNothing = this.program === undefined && this.#triedNothing();
+    if (triedNothing) return { ...found, ending: "failed", detail: NOTHING_TRIED };
     const problem = check === undefined ? "" : await this.#asked("check");
     if (problem !== "") return { ...found, ending: "check", detail: `check ${problem}` };
     return found.racy && races === "fail" ? { ...found, ending: "race" } : found;
@@ -262,7 +264,10 @@ export class RunMaker {
     return `${detail}${this.program?.awaitText(detail) ?? ""}`;
   }
 
-  /** @param {string} ending @returns {string[]} which threads of a program have ended by an error, and which have nothing to do */
+  /**
+   * @param {string} ending
+   * @returns {string[]} which threads of a program have ended by an error, and which have nothing to do
+   */
   #standstillLines(ending) {
     const { program, sourceNames } = this;
     const ends = (program?.ends(ending) ?? []).map(({ agent, text }) => {

@@ -52,7 +52,8 @@ export class RunReporter {
     const draws = row.own();
     const unrecorded = unrecordedIn(found.unseen, this.sourceNames.placeName);
     const real = realIn(found.real ?? [], this.sourceNames.placeName);
-    const isAllowed = (ending === "bound" && options.bounds === "allow") || (ending === "stuck" && options.stuck === "allow");
+    const isAllowed = (ending === "bound" && options.bounds === "allow")
+      || (ending === "stuck" && options.stuck === "allow");
     const fails = ending !== "finished" && !isAllowed;
     const early = deadlines.early();
     const missed = maker.program?.whyMissed;
@@ -216,7 +217,8 @@ export class RunReporter {
   /** @returns {import("./outcome.mjs").Task[]} those that a program's event loops have begun */
   #tasks() {
     const tasks = this.maker.program?.tasks.list() ?? [];
-    return tasks.map(({ place, ...task }) => ({ ...task, source: place === "" ? null : this.sourceNames.nameOf(place) }));
+    const sourceOf = (/** @type {string} */ place) => (place === "" ? null : this.sourceNames.nameOf(place));
+    return tasks.map(({ place, ...task }) => ({ ...task, source: sourceOf(place) }));
   }
 
   /**
