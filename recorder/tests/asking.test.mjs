@@ -33,7 +33,11 @@ before(async () => {
 });
 after(() => Promise.all(ends.map((end) => end())));
 
-/** A simulator whose module has other bytes. @param {import("node:test").TestContext} context @param {Uint8Array} bytes */
+/**
+ * A simulator whose module has other bytes.
+ * @param {import("node:test").TestContext} context
+ * @param {Uint8Array} bytes
+ */
 function simulatorOf(context, bytes) {
   const path = join(temporaryFolder(context), "sabsim.wasm");
   writeFileSync(path, bytes);

@@ -1,5 +1,5 @@
-// The run of the first seed is made once more at the end. Where it isn't the same, the module keeps something in its own
-// variables, and the summary says so. How the runs ended stays as it was.
+// The run of the first seed is made once more at the end. Where it isn't the same, the module keeps something in its
+// own variables, and the summary says so. How the runs ended stays as it was.
 
 import assert from "node:assert/strict";
 import { writeFileSync } from "node:fs";
@@ -45,8 +45,8 @@ function moduleIn(context) {
 }
 
 /**
- * Runs the command line, and gives its summary as an object of JSON, and the status. If it has several jobs, they and it
- * are processes of their own.
+ * Runs the command line, and gives its summary as an object of JSON, and the status. If it has several jobs, they and
+ * it are processes of their own.
  */
 async function summaryOf(context, way, words) {
   // No worker begins that isn't needed.

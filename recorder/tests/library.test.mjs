@@ -12,7 +12,10 @@ import { simulated } from "./helpers/simulate.mjs";
 
 const module = agentsPath("cases");
 
-/** @param {string} name of a file of types @returns {string} its text, with that of the files of which it exports all */
+/**
+ * @param {string} name of a file of types
+ * @returns {string} its text, with that of the files of which it exports all
+ */
 function typesOf(name) {
   const text = readFileSync(new URL(`../${name}`, import.meta.url), "utf8");
   const others = [...text.matchAll(/^export \* from "\.\/([\w-]+)\.cjs";$/gm)];

@@ -16,8 +16,8 @@ const INT32 = KINDS.indexOf("Int32");
 const UINT8 = KINDS.indexOf("Uint8");
 
 /**
- * Records a module of agents, whose every script sabsim replays to the same where it is given. Without pilots, and since
- * it is given how many agents there are, few workers begin.
+ * Records a module of agents, whose every script sabsim replays to the same where it is given. Without pilots, and
+ * since it is given how many agents there are, few workers begin.
  */
 async function recordedModule(context, setup, body, { seeds = [1], ...options } = {}) {
   const path = join(temporaryFolder(context), "agents.mjs");

@@ -1,4 +1,5 @@
-// Runs that get real answers are made again by their rows. All programs are run in the same threads, one after the other.
+// Runs that get real answers are made again by their rows. All programs are run in the same threads, one after the
+// other.
 
 import assert from "node:assert/strict";
 import { rmSync, writeFileSync } from "node:fs";

@@ -397,8 +397,8 @@ test("a thread makes graphs as a process does, without a warning", async () => {
 });
 
 /**
- * What the engine has noted about a file: the texts that it took of it, and each time that it read or compiled a function
- * of one, with the place of that function.
+ * What the engine has noted about a file: the texts that it took of it, and each time that it read or compiled a
+ * function of one, with the place of that function.
  */
 function engineNotesOf(log, file) {
   const lines = log.split("\n").map((line) => line.split(","));

@@ -1,5 +1,5 @@
-// On which nodes whole programs run: one that lacks something of its inside refuses them, one that wasn't tried is named,
-// and TypeScript is run where node loads it.
+// On which nodes whole programs run: one that lacks something of its inside refuses them, one that wasn't tried is
+// named, and TypeScript is run where node loads it.
 
 import assert from "node:assert/strict";
 import { spawnSync } from "node:child_process";

@@ -59,7 +59,10 @@ async function kept(main, words) {
   return { main, folder, file: join(folder, name ?? "none"), name: (name ?? "").replace(".program.json", "") };
 }
 
-/** @type {Awaited<ReturnType<typeof kept>>} the program above: tests that look at its kept run leave its files as they were */
+/**
+ * @type {Awaited<ReturnType<typeof kept>>} the program above: tests that look at its kept run leave its files as they
+ * were
+ */
 let ofMain;
 const room = mkdtempSync(join(tmpdir(), "recorder-"));
 before(async () => {

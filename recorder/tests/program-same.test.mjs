@@ -1,4 +1,5 @@
-// The same seed makes the same run of a program, byte for byte: whatever the threads have run before, and in any process.
+// The same seed makes the same run of a program, byte for byte: whatever the threads have run before, and in any
+// process.
 
 import assert from "node:assert/strict";
 import { execFile } from "node:child_process";

@@ -1,5 +1,5 @@
-// Which threads of a program are kept for the next run: all that can leave their code. Others are replaced. When a thread
-// ends, none of its code runs any more.
+// Which threads of a program are kept for the next run: all that can leave their code. Others are replaced. When a
+// thread ends, none of its code runs any more.
 
 import assert from "node:assert/strict";
 import { readFileSync } from "node:fs";
@@ -49,7 +49,9 @@ async function withGroup(context, files, act, options = {}) {
   }
 }
 
-/** @type {{ group: ProgramGroup | undefined, rest: Promise<unknown> }} the threads of runs that come one after the other */
+/**
+ * @type {{ group: ProgramGroup | undefined, rest: Promise<unknown> }} the threads of runs that come one after the other
+ */
 const shared = { group: undefined, rest: Promise.resolve() };
 
 /**
@@ -252,7 +254,12 @@ describe("when a worker ends, it leaves undone", () => {
     }, { web: true });
   });
 
-  /** @param {import("node:test").TestContext} context @param {string} body @param {string} end @returns {Promise<string>} */
+  /**
+   * @param {import("node:test").TestContext} context
+   * @param {string} body
+   * @param {string} end
+   * @returns {Promise<string>}
+   */
   async function written(context, body, end) {
     const file = join(temporaryFolder(context), "written");
     group.enter(pathToFileURL(programOf(context, leaving(body, end))).href, [file]);

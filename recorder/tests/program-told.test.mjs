@@ -1,5 +1,5 @@
-// What a run of a program says besides where it stands: which thread has ended by an error, what was in messages, what was
-// written to standard error before an exit, and which await never settles.
+// What a run of a program says besides where it stands: which thread has ended by an error, what was in messages, what
+// was written to standard error before an exit, and which await never settles.
 
 import assert from "node:assert/strict";
 import { describe, it } from "node:test";

@@ -1,5 +1,5 @@
-// Values that whole programs clone and share: structuredClone keeps shared memory, memory grows in several threads, and a
-// thread that is kept has no port of an earlier run.
+// Values that whole programs clone and share: structuredClone keeps shared memory, memory grows in several threads, and
+// a thread that is kept has no port of an earlier run.
 
 import assert from "node:assert/strict";
 import { describe, it } from "node:test";
@@ -134,7 +134,11 @@ describe("memory that grows", () => {
     });
   }
 
-  /** @param {string} before what the worker does before it grows @param {string} behind and then @param {number[]} seeds */
+  /**
+   * @param {string} before what the worker does before it grows
+   * @param {string} behind and then
+   * @param {number[]} seeds
+   */
   const grown = (context, before, behind, seeds) => runsOf(context, {
     "main.mjs": `${MAIN}const grows = new SharedArrayBuffer(8, { maxByteLength: 16 });
 const words = new Int32Array(grows);

@@ -1,5 +1,5 @@
-// Whole programs with shared memory of WebAssembly. What an instruction does is compared with what the engine does; what
-// wait and notify do is as the standard says.
+// Whole programs with shared memory of WebAssembly. What an instruction does is compared with what the engine does;
+// what wait and notify do is as the standard says.
 
 import assert from "node:assert/strict";
 import { spawnSync } from "node:child_process";

@@ -9,7 +9,10 @@ import { programOf } from "./helpers/whole-programs.mjs";
 
 const BYTES = 12_000;
 
-/** Two threads write a part of the bytes each, one by one; the first writes one byte of the other's, by a line of its own. */
+/**
+ * Two threads write a part of the bytes each, one by one; the first writes one byte of the other's, by a line of its
+ * own.
+ */
 const OVERLAPS = `import { once } from "node:events";
 import { Worker, isMainThread, workerData } from "node:worker_threads";
 if (isMainThread) {

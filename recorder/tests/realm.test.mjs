@@ -1,6 +1,6 @@
 // What agents find around them, and what they do to it: nothing of it may change how a run ends, and what a run
-// can't have is reported. Work that goes on later, a patched language, messages, arrays of their own, modules that break,
-// stacks that overflow, clocks and random numbers.
+// can't have is reported. Work that goes on later, a patched language, messages, arrays of their own, modules that
+// break, stacks that overflow, clocks and random numbers.
 
 import assert from "node:assert/strict";
 import { writeFileSync } from "node:fs";

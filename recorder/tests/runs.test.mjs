@@ -142,7 +142,9 @@ test("more typed arrays than a script can have are a bound", async () => {
 /** @type {ReturnType<typeof recorded> | undefined} */
 let bySixteen;
 
-/** Two runs of sixteen agents in the same workers: in the first one they add, and in the second one they call at length. */
+/**
+ * Two runs of sixteen agents in the same workers: in the first one they add, and in the second one they call at length.
+ */
 const runsOfSixteen = () => {
   const asked = { module: agentsPath("cases"), args: ["addsThenCallsLong"], agents: 16, buffers: [65_536, 0, 8, 1] };
   bySixteen ??= recorded({ ...asked, everywhere: true }, [1, 1]);

@@ -7,8 +7,8 @@ import { agentsPath } from "./helpers/common.mjs";
 import { placesOf, recorded, seedsTo, summaryLines } from "./helpers/recorded.mjs";
 
 /**
- * The outcomes of some ways to go on, by their names. With a trace each run is made once, and is the next way. There are
- * no pilots, in which the agents would go on as long.
+ * The outcomes of some ways to go on, by their names. With a trace each run is made once, and is the next way. There
+ * are no pilots, in which the agents would go on as long.
  */
 async function outcomesOf(ways, seconds) {
   const options = { module: agentsPath("spins"), args: ways, agents: 2, everywhere: true, trace: true, seconds };

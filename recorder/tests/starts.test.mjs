@@ -1,5 +1,5 @@
-// The order in which the agents of a module begin, and when: drawn in some seeds, so that what depends on a late start is
-// found where accesses aren't watched. Other seeds are as they were.
+// The order in which the agents of a module begin, and when: drawn in some seeds, so that what depends on a late start
+// is found where accesses aren't watched. Other seeds are as they were.
 
 import assert from "node:assert/strict";
 import { writeFileSync } from "node:fs";

@@ -1,5 +1,5 @@
-// Runs with timed waits: in which order they end, what is reported of a run that fails only after an early end, and of a
-// lost wake-up that a time hides.
+// Runs with timed waits: in which order they end, what is reported of a run that fails only after an early end, and of
+// a lost wake-up that a time hides.
 
 import assert from "node:assert/strict";
 import { mkdtempSync, readFileSync, readdirSync, rmSync } from "node:fs";

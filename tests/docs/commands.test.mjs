@@ -1,5 +1,6 @@
 // The commands of README.md, CONTRIBUTING.md, recorder/README.md and docs/RECORDER.md. Each is run in a copy of the
-// repository, and prints what the document shows below it. If one is never run, the reason or another test is named here.
+// repository, and prints what the document shows below it. If one is never run, the reason or another test is named
+// here.
 
 import assert from "node:assert/strict";
 import { spawnSync } from "node:child_process";

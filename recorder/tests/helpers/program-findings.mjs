@@ -73,10 +73,18 @@ export class TableRuns {
   }
 }
 
-/** @param {string} text @param {string} place as `worker.mjs:7` @returns {boolean} whether it has a column of that line */
+/**
+ * @param {string} text
+ * @param {string} place as `worker.mjs:7`
+ * @returns {boolean} whether it has a column of that line
+ */
 const hasPlace = (text, place) => new RegExp(`(?<![\\w.-])${place.replaceAll(".", "\\.")}:\\d+`).test(text);
 
-/** @param {string[]} lines of a race @param {string[]} places @returns {boolean} whether they are these, in any order */
+/**
+ * @param {string[]} lines of a race
+ * @param {string[]} places
+ * @returns {boolean} whether they are these, in any order
+ */
 const areAt = ([one, other], [first, second]) =>
   (hasPlace(one, first) && hasPlace(other, second)) || (hasPlace(one, second) && hasPlace(other, first));
 

@@ -1,5 +1,5 @@
-// Timers of whole programs: each scenario runs by node's own timers in a thread of its own, and by those of a run here, and
-// has to go alike. The functions `cases` are run by `program-timers.test.mjs`.
+// Timers of whole programs: each scenario runs by node's own timers in a thread of its own, and by those of a run here,
+// and has to go alike. The functions `cases` are run by `program-timers.test.mjs`.
 
 import assert from "node:assert/strict";
 import { AsyncLocalStorage } from "node:async_hooks";
