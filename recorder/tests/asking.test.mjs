@@ -107,7 +107,8 @@ for (const [what, bytes, message] of [
   test(`with a module that ${what} the recorder ends with status 3, and keeps what it was asked`, (context) => {
     const out = join(temporaryFolder(context), "out");
     const small = ["--agents", "3", "--everywhere"];
-    const words = [recorderWith(context, bytes), agentsPath("three-state-mutex"), "--seeds", "1..20", ...small, "--out", out];
+    const words = [recorderWith(context, bytes), agentsPath("three-state-mutex"), "--seeds", "1..20", ...small, "--out",
+      out];
     const env = { ...process.env, SABSIM: "" };
     const { status, stdout, stderr } = spawnSync(process.execPath, words, { env, encoding: "utf8" });
     assert.equal(status, 3, stderr);

@@ -82,7 +82,9 @@ test("both recorders make the runs of a module and of a program, by turns", inCl
   assert.equal(status, 0, stderr);
   const rows = stdout.split("\n").slice(2, -1);
   assert.deepEqual(rows.map((row) => row.split(" ")[1]), ["mutex-naive", "pool", "all"]);
-  for (const row of rows) assert.match(row, /^\| [a-z-]+ \| \d+\.\d\d \| \d+\.\d\d \| \d+\.\d{3} \| \d+\.\d\d to \d+\.\d\d \|$/);
+  for (const row of rows) {
+    assert.match(row, /^\| [a-z-]+ \| \d+\.\d\d \| \d+\.\d\d \| \d+\.\d{3} \| \d+\.\d\d to \d+\.\d\d \|$/);
+  }
 });
 
 test("right programs pass, and what isn't right is refused", () => {

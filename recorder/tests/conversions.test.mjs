@@ -170,7 +170,8 @@ describe("an index at the edges of what a Number holds exactly", () => {
     assert.deepEqual(callsOf(outcome)[0].map(([, , index]) => index), all.map(({ index }) => index + 0));
   });
 
-  const beyond = Object.entries(CALLS).flatMap(([name, code]) => [BEYOND, -BEYOND].map((index) => ({ name, code, index })));
+  const beyond = Object.entries(CALLS)
+    .flatMap(([name, code]) => [BEYOND, -BEYOND].map((index) => ({ name, code, index })));
   /** @type {string} the folder of a module whose agents try each of these, in the same workers */
   let folder;
   /** @type {Cases} */

@@ -76,7 +76,8 @@ describe("a module that keeps something from run to run", SIDE_BY_SIDE, () => {
   test("is noticed behind the first failing run, too", async (context) => {
     const { summary } = await summaryOf(context, "ending", ["--seeds", "1..9", "--fail-fast"]);
     assert.deepEqual([summary.runs, summary.firstFailing.seed], [2, 2]);
-    assert.deepEqual(summary.remembers, { seed: 1, differs: "ending", was: "finished", is: "failed", threw: true, real: false });
+    assert.deepEqual(summary.remembers,
+      { seed: 1, differs: "ending", was: "finished", is: "failed", threw: true, real: false });
   });
 
   test("is noticed in a shard by its own first seed", async (context) => {
@@ -117,7 +118,8 @@ describe("a module that keeps something from run to run", SIDE_BY_SIDE, () => {
 test("which of two runs differ, and how", () => {
   const run = { seed: 5, ending: "finished", detail: "", state: { hash: "a" }, acts: "b" };
   assert.equal(differenceBetween(run, { ...run }), undefined);
-  const others = { ending: { ending: "failed", detail: "agent 0 threw Error: no" }, bytes: { state: { hash: "c" } }, acts: { acts: "d" } };
+  const others = { ending: { ending: "failed", detail: "agent 0 threw Error: no" }, bytes: { state: { hash: "c" } },
+    acts: { acts: "d" } };
   for (const [differs, other] of Object.entries(others)) {
     const found = differenceBetween(run, { ...run, ...other });
     assert.deepEqual([found.differs, found.seed], [differs, 5]);
@@ -137,7 +139,8 @@ test("the two endings are in words for people", () => {
   ];
   for (const [first, again, said] of pairs) {
     const found = differenceBetween(first, again);
-    assert.equal(rememberingText(found).includes(`, and ended in another way (${said}): `), true, rememberingText(found));
+    assert.equal(rememberingText(found).includes(`, and ended in another way (${said}): `), true,
+      rememberingText(found));
     assert.deepEqual([found.was, found.is], [first.ending, again.ending]);
   }
 });

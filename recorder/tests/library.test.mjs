@@ -25,7 +25,8 @@ function typesOf(name) {
 test("each entry of the package exports the functions and classes that its types declare, and no others", async () => {
   for (const entry of ["recorder.mjs", "testing.mjs", "testing.cjs"]) {
     const types = typesOf(entry.replace(/mjs|cjs/, "d.cts"));
-    const declared = [...types.matchAll(/^export (?:declare )?(?:function|class|const) (\w+)/gm)].map(([, name]) => name);
+    const declared = [...types.matchAll(/^export (?:declare )?(?:function|class|const) (\w+)/gm)]
+      .map(([, name]) => name);
     assert.ok(declared.length > 1);
     const { default: all, ...named } = await import(`../${entry}`);
     assert.deepEqual(Object.keys(all ?? named).sort(), declared.sort());

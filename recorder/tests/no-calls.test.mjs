@@ -42,7 +42,8 @@ describe("agents without a call of Atomics", { concurrency: 4 }, () => {
     test(`have tried nothing if they access nothing, --ordinary ${ordinary}`, async (context) => {
       const { ending, detail } = await outcomeOf(context, "", { ordinary });
       assert.equal(ending, "failed");
-      assert.match(detail, /^no agent has made a call of Atomics, or another access that is seen, .*: nothing was tried$/);
+      assert.match(detail,
+        /^no agent has made a call of Atomics, or another access that is seen, .*: nothing was tried$/);
     });
   }
 

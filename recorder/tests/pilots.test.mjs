@@ -26,7 +26,8 @@ test("output of agents in pilots isn't shown, and no module remembers pilots", (
   `);
   const { stdout, stderr } = run([module, "--agents", "2", "--buffers", "4", "--seeds", "7..8"]);
   assert.equal(stderr, "run 1 of agent 0\nrun 1 of agent 1\nrun 2 of agent 0\nrun 2 of agent 1\n");
-  assert.match(stdout, /^2 runs: 2 finished\nseed 7 was run once more at the end, and left other bytes: .*\n2 final states/);
+  assert.match(stdout,
+    /^2 runs: 2 finished\nseed 7 was run once more at the end, and left other bytes: .*\n2 final states/);
 });
 
 test("calls beside ordinary accesses that race are places to switch, though none of the calls is shared", (context) => {

@@ -92,7 +92,8 @@ describe("more than 1,000 calls of a thread", { concurrency: 3 }, () => {
     const main = `${files["main.mjs"]}\nwhile (Atomics.load(words, 0) === 0);`;
     for (const outcome of await runsOf(context, { ...files, "main.mjs": main }, { seeds: [1, 2, 3] })) {
       assert.equal(outcome.ending, "bound");
-      assert.match(outcome.detail, /^agent \d (\(.*\) )?spins at (main\.mjs:6:16|worker\.mjs:2:16): it has made [23]000 calls/);
+      assert.match(outcome.detail,
+        /^agent \d (\(.*\) )?spins at (main\.mjs:6:16|worker\.mjs:2:16): it has made [23]000 calls/);
     }
   });
 
@@ -143,7 +144,8 @@ describe("more buffers than a script can have, and a larger one", { concurrency:
     const act = `large[${LARGE} - 1] = process.argv[2];\n${WAKES}`;
     const files = { ...sharing(act, "") };
     files["main.mjs"] = files["main.mjs"].replace("workerData:", "argv: process.argv.slice(2), workerData:");
-    const [[one], [other]] = await Promise.all([runsOf(context, files, { args: ["1"] }), runsOf(context, files, { args: ["2"] })]);
+    const [[one],
+      [other]] = await Promise.all([runsOf(context, files, { args: ["1"] }), runsOf(context, files, { args: ["2"] })]);
     assert.notEqual(one.state.hash, other.state.hash);
   });
 
@@ -180,7 +182,8 @@ if (Math.random() < 0.5) {
   it("have a deadlock with its place", async (context) => {
     const [{ ending, detail }] = await runsOf(context, sharing("", FINDS));
     assert.equal(ending, "deadlock");
-    assert.match(detail, /waits at byte 0 of block \d+ \(main\.mjs:2, number 40\): its call 1, \["wait", "Int32_b\d+", 0, 0\], at main/);
+    assert.match(detail,
+      /waits at byte 0 of block \d+ \(main\.mjs:2, number 40\): its call 1, \["wait", "Int32_b\d+", 0, 0\], at main/);
   });
 
   it("are a spin if the same is read again and again", async (context) => {
@@ -203,7 +206,9 @@ if (Math.random() < 0.5) {
     assert.deepEqual(readdirSync(folder), [name]);
     assert.match(name, /^seed-\d+\.program\.json$/);
     const seed = JSON.parse(readFileSync(join(folder, name), "utf8")).seed;
-    for (const ending of ["json", "trace.jsonl"]) assert.ok(lines.includes(`not kept: seed-${seed}.${ending}: ${MEMORY}`));
+    for (const ending of ["json", "trace.jsonl"]) {
+      assert.ok(lines.includes(`not kept: seed-${seed}.${ending}: ${MEMORY}`));
+    }
     const again = await ran("--replay", join(folder, name));
     assert.deepEqual([again.status, again.stdout.split("\n")[1].replace(/:.*/, "")], [1, "1 of 1 run failed"]);
     assert.equal(again.stdout.split("\n")[3], lines[2]);

@@ -166,7 +166,8 @@ describe("programs with limits of time", () => {
     const failing = outcomes.filter(({ fails }) => fails);
     assert.ok(failing.length > 5, `${failing.length}`);
     for (const { seed, onlyIf } of failing) {
-      assert.match(onlyIf ?? `seed ${seed} isn't marked`, /^only if [\d.]+ ms pass before agent \d('s next (call|task)| goes on)/);
+      assert.match(onlyIf ?? `seed ${seed} isn't marked`,
+        /^only if [\d.]+ ms pass before agent \d('s next (call|task)| goes on)/);
     }
     // A task of the loop itself waits when its timer is early.
     assert.ok(failing.some(({ onlyIf }) => /agent 0's next task/.test(onlyIf ?? "")));

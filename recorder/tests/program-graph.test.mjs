@@ -251,8 +251,10 @@ const PROGRAMS = {
         "./typed/c.cjs", "./cjstyped/a.js",
         "./await.js", "./node_modules/deep/index.js", "./meta.js"]) console.log(name, await import(name));`,
     "commonjs.js": `exports.way = typeof require;`, "syntax.js": `export const way = typeof require;`,
-    "noext": `exports.way = typeof module;`, "typed/package.json": `{ "type": "module" }`, "typed/a.js": `export const way = 1;`,
-    "typed/noext": `export const way = 2;`, "typed/c.cjs": `exports.way = 3;`, "cjstyped/package.json": `{ "type": "commonjs" }`,
+    "noext": `exports.way = typeof module;`, "typed/package.json": `{ "type": "module" }`,
+    "typed/a.js": `export const way = 1;`,
+    "typed/noext": `export const way = 2;`, "typed/c.cjs": `exports.way = 3;`,
+    "cjstyped/package.json": `{ "type": "commonjs" }`,
     "cjstyped/a.js": `exports.way = 4;`, "await.js": `const require = 1; await null; export const way = require;`,
     "meta.js": `console.log(typeof import.meta.url);`, "node_modules/deep/index.js": `export const way = 5;`,
   },
@@ -305,7 +307,8 @@ notThere();`,
     "main.mjs": `import a from "./a.cjs"; import b from "./b.cjs"; import * as all from "./all.cjs";
       console.log(a, b, all, a.b === b);`,
     "a.cjs": `exports.b = require("./b.cjs"); exports.early = typeof require("./c.cjs");`,
-    "b.cjs": `exports.of = "b"; exports.c = require("./c.cjs");`, "c.cjs": `exports.c = Object.keys(require("./a.cjs"));`,
+    "b.cjs": `exports.of = "b"; exports.c = require("./c.cjs");`,
+    "c.cjs": `exports.c = Object.keys(require("./a.cjs"));`,
     "all.cjs": `module.exports = { ...require("./d/d.cjs"), all: 1 };`, "d/d.cjs": `exports.d = require("./e.cjs").e;`,
     "d/e.cjs": `exports.e = 5;`,
   },
@@ -410,7 +413,8 @@ function engineNotesOf(log, file) {
 
 test("from the third run on, the engine compiles nothing of CommonJS, and each run has functions of its own", async () => {
   const functions = 400;
-  const body = Array.from({ length: functions }, (_, at) => `function f${at}(a) { return a.b${at} + "c${at}"; }`).join("\n");
+  const body = Array.from({ length: functions }, (_, at) => `function f${at}(a) { return a.b${at} + "c${at}"; }`)
+    .join("\n");
   const at = join(folder, "compiled");
   programIn(at, {
     "main.cjs": `
@@ -420,11 +424,13 @@ test("from the third run on, the engine compiles nothing of CommonJS, and each r
     "large.cjs": `${body}\nexports.f0 = f0; for (let at = 0; at < 50; at += 1) f0({});`,
   });
   // The engine may drop the code of what hasn't run for long, and compile that again. Here it keeps all.
-  const logged = ["--no-flush-bytecode", "--log-function-events", "--no-logfile-per-isolate", `--logfile=${join(at, "log")}`];
+  const logged = ["--no-flush-bytecode", "--log-function-events", "--no-logfile-per-isolate",
+    `--logfile=${join(at, "log")}`];
   const [runs] = await ownRuns([pathToFileURL(join(at, "main.cjs")).href], 6, logged);
   assert.deepEqual(runs, Array(6).fill(["true"]));
   // The engine writes signs beyond ASCII by their codes.
-  const path = realpathSync(join(at, "large.cjs")).replace(/[^ -~]/g, (sign) => `\\x${sign.charCodeAt(0).toString(16)}`);
+  const path = realpathSync(join(at, "large.cjs"))
+    .replace(/[^ -~]/g, (sign) => `\\x${sign.charCodeAt(0).toString(16)}`);
   const { texts, acts } = engineNotesOf(readFileSync(join(at, "log"), "utf8"), path);
   assert.equal(texts.length, 2, "it is compiled as a function's text, and as a script");
   assert.ok(acts.length > texts.length * functions, `the engine has noted ${acts.length} acts`);

@@ -21,7 +21,8 @@ const HELPER = new URL("../testing.mjs", import.meta.url).href;
 const refused = (why) => (/** @type {unknown} */ error) => error instanceof Refused && why.test(error.message);
 
 /** The parts by which outcomes are compared. */
-const part = ({ seed, ending, fails, detail, moves, calls, ordinary, progress, state, script, report, trace, races, checked }) =>
+const part = ({ seed, ending, fails, detail, moves, calls, ordinary, progress, state, script, report, trace, races,
+  checked }) =>
   ({ seed, ending, fails, detail, moves, calls, ordinary, progress, state, script, report, trace, races, checked });
 
 test("`explore` makes the runs of the command line, with any number of jobs, and `record` each of them alone", async (context) => {
@@ -47,7 +48,8 @@ test("`explore` makes the runs of the command line, with any number of jobs, and
 
 test("the program gets its arguments, and a path is taken from the file that asks", async (context) => {
   const folder = temporaryFolder(context);
-  writeFileSync(join(folder, "main.mjs"), "process.exitCode = process.argv.length === 4 ? Number(process.argv[3]) : 1;\n");
+  writeFileSync(join(folder, "main.mjs"),
+    "process.exitCode = process.argv.length === 4 ? Number(process.argv[3]) : 1;\n");
   writeFileSync(join(folder, "asks.mjs"), `import { record } from "${new URL("../recorder.mjs", import.meta.url).href}";
     export const asked = (...args) => record({ program: "./main.mjs", args });\n`);
   const { asked } = await import(pathToFileURL(join(folder, "asks.mjs")).href);
@@ -63,7 +65,9 @@ test("a failing run of a program is shortened", async () => {
     const { original, shortened, ending, row } = await record({ program, seed: failing, shorten: true });
     assert.equal(ending, "deadlock");
     assert.ok(shortened.unchanged !== undefined || shortened.changes.after < shortened.changes.before);
-    if (original !== undefined) assert.deepEqual([original.seed, original.ending, row.length > 0], [failing, "deadlock", true]);
+    if (original !== undefined) {
+      assert.deepEqual([original.seed, original.ending, row.length > 0], [failing, "deadlock", true]);
+    }
     return;
   }
   assert.fail("no seed fails");
@@ -83,7 +87,9 @@ test("just one of module and program is given, and each has its own options", as
   const none = /^`module` is missing, or `program` in its place: it must be a path or a URL$/;
   assert.throws(() => explore({}), refused(none));
   await assert.rejects(record({ seed: 1 }), refused(none));
-  for (const program of [5, "", null]) await assert.rejects(record({ program }), refused(/^`program` must be a path or a URL/));
+  for (const program of [5, "", null]) {
+    await assert.rejects(record({ program }), refused(/^`program` must be a path or a URL/));
+  }
   const ofAgents = { agents: 2, buffers: [4], noBlock: [0], unrecorded: "allow", init() {}, check() {} };
   for (const [name, value] of Object.entries(ofAgents)) {
     const why = new RegExp(`^\`${name}\` doesn't go with \`program\`: it is about a module of agents, `);
@@ -93,8 +99,10 @@ test("just one of module and program is given, and each has its own options", as
     const why = new RegExp(`^\`${name}\` doesn't go with \`program\`: it isn't there for programs yet$`);
     await assert.rejects(record({ program: TOO_SOON, [name]: value }), refused(why));
   }
-  await assert.rejects(record({ program: TOO_SOON, timeouts: "never" }), refused(/^`timeouts` never doesn't go with `program`/));
-  await assert.rejects(record({ module, stuck: "allow" }), refused(/^`stuck` needs `program`: only programs can be stuck$/));
+  await assert.rejects(record({ program: TOO_SOON, timeouts: "never" }),
+    refused(/^`timeouts` never doesn't go with `program`/));
+  await assert.rejects(record({ module, stuck: "allow" }),
+    refused(/^`stuck` needs `program`: only programs can be stuck$/));
   const missing = { program: pathToFileURL(join(dirname(TOO_SOON), "none.mjs")) };
   await assert.rejects(record(missing), refused(/^there is no file .*none\.mjs$/));
 });
@@ -112,7 +120,8 @@ async function suite(context, code) {
   for (const name of readdirSync(dirname(TOO_SOON))) {
     writeFileSync(join(folder, name), readFileSync(join(dirname(TOO_SOON), name), "utf8"));
   }
-  writeFileSync(join(folder, "main.test.mjs"), `import { assertProgram, testAgents, testProgram } from "${HELPER}";\n${code}\n`);
+  writeFileSync(join(folder, "main.test.mjs"),
+    `import { assertProgram, testAgents, testProgram } from "${HELPER}";\n${code}\n`);
   const env = { ...process.env, TMPDIR: temporary };
   for (const name of ["NODE_TEST_CONTEXT", "FORCE_COLOR"]) delete env[name];
   const words = ["--test", "--test-reporter=tap", "main.test.mjs"];

@@ -115,7 +115,8 @@ withTypeScript("a program in TypeScript has its own lines", (context) => {
     const hook = isLoaded ? [] : ["--import", pathToFileURL(file("hook.mjs")).href];
     const { status, stdout, stderr } = ranBy(["--program", file(name)], hook);
     assert.equal(status, 1, stderr);
-    assert.match(stdout, new RegExp(`agent 1 \\(${name}, started at ${name}:5:19\\) (?:reads|writes) .* at ${name}:6:`));
+    assert.match(stdout,
+      new RegExp(`agent 1 \\(${name}, started at ${name}:5:19\\) (?:reads|writes) .* at ${name}:6:`));
   }
 });
 

@@ -160,7 +160,9 @@ server.listen(0, "127.0.0.1", () => http.get({ host: "127.0.0.1", port: server.a
 
 describe("sockets' timers", () => {
   it("go by the run's clock", async (context) => {
-    for (const main of [IDLE, KEPT_ALIVE]) areFinished(await runsOf(context, { "main.mjs": main }, { seeds: seedsTo(3) }));
+    for (const main of [IDLE, KEPT_ALIVE]) {
+      areFinished(await runsOf(context, { "main.mjs": main }, { seeds: seedsTo(3) }));
+    }
   });
 });
 
@@ -313,7 +315,8 @@ describe("a run that can't be repeated", () => {
     const main = programOf(context, { ...RACE, "main.mjs": `${RACE["main.mjs"]}
 if (Atomics.load(words, 1) === 2) throw new Error("it fails");` });
     const out = temporaryFolder(context);
-    const { status, stdout } = await commandThere(["--program", main, "--seeds", "1..60", "--jobs", "1", "--fail-fast", "--out", out]);
+    const { status, stdout } = await commandThere(["--program", main, "--seeds", "1..60", "--jobs", "1", "--fail-fast",
+      "--out", out]);
     assert.equal(status, 1, stdout);
     assert.doesNotMatch(stdout, new RegExp(OTHERWISE));
     const kept = readdirSync(out).find((name) => name.endsWith(".program.json"));

@@ -77,10 +77,12 @@ test("a kept run of a program is made again from its file alone: the same script
   assert.deepEqual([program, args, options], [main, ["mine"], { timeouts: 0.2 }]);
   assert.deepEqual([script, row.length > 0], [join(folder, `${name}.json`), true]);
   // In another folder than that of the runs.
-  const { status, stdout, stderr } = recorded(["--replay", join("found", `${name}.program.json`), "--out", "again"], { cwd: dirname(main) });
+  const { status, stdout, stderr } = recorded(["--replay", join("found", `${name}.program.json`), "--out", "again"],
+    { cwd: dirname(main) });
   assert.deepEqual([status, stderr], [1, ""], stderr);
   const [title, failed, , detail] = stdout.split("\n");
-  assert.equal(title, `replayed found/${name}.program.json: main.mjs, with the clocks and random numbers of seed ${seed}`);
+  assert.equal(title,
+    `replayed found/${name}.program.json: main.mjs, with the clocks and random numbers of seed ${seed}`);
   assert.deepEqual([failed, detail], ["1 of 1 run failed: 1 threw", "  agent 0 threw Error: mine: ready too soon"]);
   assert.match(stdout, /^every run was replayed and judged by the simulator \([\w ]+\): it agrees with the recorder$/m);
   for (const ending of ["json", "report", "trace.jsonl", "explained"]) {
@@ -188,7 +190,8 @@ test("a file that is no kept run of a program is refused, and so is a program th
   const wrong = [
     ["{", /: .*JSON/], ["[]", /: it names no program; if it is a script of agents, name their module$/],
     [{ ...right, program: 5 }, /it names no program/], [{ ...right, args: [1] }, /its args must be words$/],
-    [{ ...right, seed: -1 }, /its seed must be a whole number$/], [{ ...right, options: [] }, /its options must be an object$/],
+    [{ ...right, seed: -1 }, /its seed must be a whole number$/],
+    [{ ...right, options: [] }, /its options must be an object$/],
     [{ ...right, options: { agents: 2, faster: true } }, /there is no option faster of a run$/],
     [{ ...right, row: [[32, 1]] }, /its row must have pairs of a thread and a number of draws$/],
     [{ ...right, row: [[0, 0]] }, /its row must have pairs/], [{ ...right, row: undefined }, /its row must have pairs/],
@@ -204,7 +207,8 @@ test("a file that is no kept run of a program is refused, and so is a program th
   assert.equal(script, undefined);
   writeFileSync(file, JSON.stringify(right));
   assert.deepEqual(recorded(["--replay", file]), {
-    status: 2, stdout: "", stderr: `record: there is no file ${join(folder, "main.mjs")}: --program says where the program is\n`,
+    status: 2, stdout: "",
+    stderr: `record: there is no file ${join(folder, "main.mjs")}: --program says where the program is\n`,
   });
   const { status, stderr } = recorded(["--replay", join(folder, "seed-1.json")]);
   assert.deepEqual([status, stderr], [2, "record: the agents' module is missing; --help shows more\n"]);
@@ -230,7 +234,8 @@ test("a run in fresh threads is shortened by runs in fresh threads", async (cont
     "worker.mjs": `import { workerData as words } from "node:worker_threads";
       for (let time = 0; time < 3; time += 1) Atomics.add(words, 0, 1);`,
   });
-  const options = { ...defaultsOf("record"), isProgram: true, seconds: 20, args: [], module: pathToFileURL(program).href };
+  const options = { ...defaultsOf("record"), isProgram: true, seconds: 20, args: [],
+    module: pathToFileURL(program).href };
   const group = await ProgramGroup.open(/** @type {any} */ ({ ...options, fresh: true }));
   context.after(() => group.close());
   const { shortened } = await shorten(group, await firstFailing(group), { milliseconds: 60_000, most: 5 });
@@ -251,7 +256,8 @@ test("a run in fresh threads is shown with its lines, kept and replayed in fresh
       Atomics.notify(words, 1);`,
   }), ["--fresh"]);
   assert.deepEqual(JSON.parse(readFileSync(file, "utf8")).options, { fresh: true });
-  assert.match(readFileSync(join(folder, `${name}.words`), "utf8"), /wait\(Int32_b0, 1, 0\) waits .*, at main\.mjs:6:\d+$/m);
+  assert.match(readFileSync(join(folder, `${name}.words`), "utf8"),
+    /wait\(Int32_b0, 1, 0\) waits .*, at main\.mjs:6:\d+$/m);
   const { status, stdout, stderr } = recorded(["--replay", file]);
   assert.deepEqual([status, stderr], [1, ""]);
   assert.match(stdout, /^1 of 1 run failed: 1 deadlock$/m);

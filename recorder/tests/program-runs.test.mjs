@@ -47,7 +47,9 @@ words[0] = 5;`,
 });`,
     }, { seeds: seedsTo(3) });
     assert.deepEqual([...new Set(outcomes.map(({ ending }) => ending))], ["race"]);
-    for (const { races } of outcomes) assert.deepEqual(races.map(({ lines }) => lines), [["main.mjs:6:10", "worker.mjs:3:31"]]);
+    for (const { races } of outcomes) {
+      assert.deepEqual(races.map(({ lines }) => lines), [["main.mjs:6:10", "worker.mjs:3:31"]]);
+    }
   });
 
   it("a broadcast orders what its sender did before, but not what its receivers do", async (context) => {
@@ -164,7 +166,8 @@ describe("threads", () => {
 
   it("the first one may exit in a listener of its exit, and that code counts", async (context) => {
     const [{ ending, detail }] = await runsOf(context, { "main.mjs": 'process.on("exit", () => process.exit(3));' });
-    assert.deepEqual([ending, detail], ["failed", "agent 0 exited with code 3: it calls process.exit at main.mjs:1:34"]);
+    assert.deepEqual([ending, detail],
+      ["failed", "agent 0 exited with code 3: it calls process.exit at main.mjs:1:34"]);
   });
 
   it("one that is terminated while it waits leaves no script: its trace alone is judged", async (context) => {
@@ -198,7 +201,8 @@ describe("the seed", () => {
 
   it("gives the same script and trace each time, and another one another order", async (context) => {
     const seeds = seedsTo(6);
-    const [once, again] = [await runsOf(context, files, { seeds }), await runsOf(context, files, { seeds: [...seeds].reverse() })];
+    const [once, again] = [await runsOf(context, files, { seeds }),
+      await runsOf(context, files, { seeds: [...seeds].reverse() })];
     const partsOf = ({ ending, script, trace, report }) => ({ ending, script, trace, report });
     assert.deepEqual(once.map(partsOf), again.reverse().map(partsOf));
     assert.ok(once.every(({ trace }) => trace !== undefined));

@@ -24,7 +24,8 @@ function asking({ seed = 1, strategy = "uniform", agents = 3, isProgram = true, 
   const way = waysOf(strategy, true);
   // Of several ways a run takes one by its seed, also if they are alike.
   const ways = isMixed ? [...way, ...way] : way;
-  const board = new Board(emptyMemory(), { agents, ways, maxMoves: 100_000, timeouts, early: isProgram ? 100 : undefined });
+  const board = new Board(emptyMemory(),
+    { agents, ways, maxMoves: 100_000, timeouts, early: isProgram ? 100 : undefined });
   board.begin(seed);
   for (let agent = 1; agent < agents; agent += 1) board.pass(agent - 1);
   for (let agent = 0; agent < agents; agent += 1) ask(board, agent, 400 + agent);
@@ -161,7 +162,8 @@ describe("late waits and notifies", () => {
 
   it("are in one of eight seeds of a program, and the others draw as without the rule", () => {
     assert.ok(Math.abs(lateSeeds.length / SEEDS - 1 / 8) < 0.02, `${lateSeeds.length}`);
-    assert.deepEqual(allSeeds.filter((seed) => isLate(seed, { isProgram: false }) || isLate(seed, { isMixed: false })), []);
+    assert.deepEqual(allSeeds.filter((seed) => isLate(seed, { isProgram: false }) || isLate(seed, { isMixed: false })),
+      []);
   });
 
   it("come after what others can do, and a wait comes before a notify and when its place was written", () => {

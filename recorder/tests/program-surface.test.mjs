@@ -166,7 +166,8 @@ test("functions that the machine answers are node's own, and noted by name if th
     const failed = await fetch("http://127.0.0.1:1").catch((error) => error.message);
     console.log(JSON.stringify([used, text, failed]));`);
   assert.deepEqual(found, [["dns/promises.Resolver", "http.createServer", "dgram.createSocket", "tls.createServer",
-    "net.Server", "http2.createServer", "https.createServer", "child_process.execSync", "fetch"], "text\n", "fetch failed"]);
+    "net.Server", "http2.createServer", "https.createServer", "child_process.execSync", "fetch"], "text\n",
+    "fetch failed"]);
 });
 
 test("replaced functions keep their type, name, length and instances, and classes that extend them", () => {
@@ -201,7 +202,8 @@ test("nothing is refused until the program plays, and what is harmless works", (
 test("each method that is refused is there", () => {
   for (const [path, names] of Object.entries(METHODS)) {
     const owner = path.split(".").reduce((from, name) => from?.[name], globalThis);
-    const isLater = (name) => LATER.some(({ from, methods }) => !isSince(from) && words(methods[path] ?? "").includes(name));
+    const isLater = (name) =>
+      LATER.some(({ from, methods }) => !isSince(from) && words(methods[path] ?? "").includes(name));
     for (const name of words(names)) {
       assert.equal(typeof owner?.[name], isLater(name) ? "undefined" : "function", `${path}.${name}`);
     }

@@ -137,7 +137,8 @@ ${body}`,
 
 describe("a thread is kept", { concurrency: 3 }, () => {
   it("if it ends by itself", async (context) => {
-    const files = { "main.mjs": `${MAIN}started();\nstarted();`, "worker.mjs": `${WORKER}Atomics.add(workerData, 0, 1);` };
+    const files = { "main.mjs": `${MAIN}started();\nstarted();`,
+      "worker.mjs": `${WORKER}Atomics.add(workerData, 0, 1);` };
     assert.deepEqual(await replacedIn(context, files), []);
   });
 
@@ -162,7 +163,8 @@ describe("a thread is kept", { concurrency: 3 }, () => {
 
   it("if the run ends in a deadlock, with all others that are at a call", async (context) => {
     const wait = "Atomics.wait(words, 0, 0);";
-    const files = { "main.mjs": `${MAIN}started();\n${wait}`, "worker.mjs": `${WORKER}const words = workerData;\n${wait}` };
+    const files = { "main.mjs": `${MAIN}started();\n${wait}`,
+      "worker.mjs": `${WORKER}const words = workerData;\n${wait}` };
     assert.deepEqual(await replacedIn(context, files, { ending: "deadlock" }), []);
   });
 

@@ -26,7 +26,8 @@ describe("a thread that has ended by an error", () => {
     const { ending, detail, tasks, messages } = await runOf(context, DIES);
     assert.equal(ending, "deadlock");
     assert.match(detail, /^agent 1 \(w\.mjs, started at main\.mjs:3:5\) ended: threw Error: the reason, at w\.mjs:2:\d+\nagent 0 waits at/);
-    assert.ok(tasks.some(({ agent, text, source }) => agent === 1 && text === "throws Error: the reason" && /^w\.mjs:2:\d+$/.test(source)));
+    assert.ok(tasks.some(({ agent, text, source }) => agent === 1 && text === "throws Error: the reason"
+      && /^w\.mjs:2:\d+$/.test(source)));
     assert.deepEqual(messages.map(([, text]) => text), ["online", "error, Error: the reason", "exit with code 1"]);
   });
 
@@ -86,7 +87,8 @@ describe("a message that can't be read", () => {
     parentPort.postMessage(list);`;
 
   it("is an event with the reason, also if nobody listens", async (context) => {
-    const { detail, tasks } = await runOf(context, { "main.mjs": SENDS.replace("process.argv[2]", '"answer"'), "w.mjs": LIST });
+    const { detail, tasks } = await runOf(context,
+      { "main.mjs": SENDS.replace("process.argv[2]", '"answer"'), "w.mjs": LIST });
     assert.match(detail, /^agent 0 exited with code 13: /);
     const texts = tasks.map(({ agent, text }) => `${agent} ${text}`);
     assert.ok(texts.includes("0 gets messageerror, RangeError: Maximum call stack size exceeded"), texts.join("\n"));
@@ -128,7 +130,8 @@ describe("a message that can't be read", () => {
       const words = new Int32Array(new SharedArrayBuffer(4));
       const worker = new Worker(new URL("./w.mjs", import.meta.url), { workerData: words });
       worker.on("messageerror", () => { words[0] += 1; });`;
-    const worker = LIST.replace("let list", "workerData[0] = 1; let list").replace("{ parentPort }", "{ parentPort, workerData }");
+    const worker = LIST.replace("let list", "workerData[0] = 1; let list")
+      .replace("{ parentPort }", "{ parentPort, workerData }");
     const outcomes = await runsOf(context, { "main.mjs": main, "w.mjs": worker }, { seeds: [1, 2, 3, 4, 5] });
     assert.deepEqual(outcomes.map(({ ending }) => ending), Array(5).fill("finished"));
   });
@@ -150,7 +153,8 @@ describe("an exit", () => {
       if (process.argv[2] === "prints") console.error("once");
       process.exit(2);`;
     const outcomes = await runsOf(context, { "main.mjs": main }, { seeds: [1, 2] });
-    assert.deepEqual(outcomes.map(({ detail }) => detail.replace(/ at .*$/s, "")), Array(2).fill("agent 0 exited with code 2: it calls process.exit"));
+    assert.deepEqual(outcomes.map(({ detail }) => detail.replace(/ at .*$/s, "")),
+      Array(2).fill("agent 0 exited with code 2: it calls process.exit"));
   });
 
   it("with code 13 shows the await that never settles", async (context) => {
@@ -162,7 +166,8 @@ describe("an exit", () => {
         console.log("never");`,
       "first.mjs": "await 2;",
     });
-    assert.match(detail, /^agent 0 exited with code 13: it has a top-level await that never settles, at main\.mjs:4:\d+$/);
+    assert.match(detail,
+      /^agent 0 exited with code 13: it has a top-level await that never settles, at main\.mjs:4:\d+$/);
   });
 
   it("with code 13 is shortened to one with the same line", async (context) => {

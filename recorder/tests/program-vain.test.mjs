@@ -25,7 +25,8 @@ describe("timers in vain", () => {
       start();
       await Atomics.waitAsync(words, 1, 0).value;`, { "w.mjs": `${GETS} Atomics.notify(words, 0);` })(context);
     assert.equal(outcome.ending, "stuck");
-    assert.match(outcome.detail, /^agent 0 has nothing to do, and is kept alive by .*an interval of 1000 ms from \S*main\.mjs:4:7/);
+    assert.match(outcome.detail,
+      /^agent 0 has nothing to do, and is kept alive by .*an interval of 1000 ms from \S*main\.mjs:4:7/);
     assert.match(outcome.detail, /it awaits Atomics\.waitAsync from \S*main\.mjs:8:\d+$/);
     assert.ok(outcome.moves < 10_000, `${outcome.moves} moves`);
   });

@@ -42,7 +42,9 @@ structuredClone([words])[0][1] = 5;`,
       "worker.mjs": 'import { workerData } from "node:worker_threads";\nstructuredClone({ workerData }).workerData[1] = 7;',
     }, { seeds: [1, 2] });
     assert.deepEqual([...new Set(outcomes.map(({ ending }) => ending))], ["race"]);
-    for (const { races } of outcomes) assert.deepEqual(races.map(({ lines }) => lines), [["main.mjs:4:32", "worker.mjs:2:47"]]);
+    for (const { races } of outcomes) {
+      assert.deepEqual(races.map(({ lines }) => lines), [["main.mjs:4:32", "worker.mjs:2:47"]]);
+    }
   });
 });
 
@@ -161,7 +163,9 @@ ${behind}`,
   it("doesn't order what is done behind that", async (context) => {
     const outcomes = await grown(context, "", "words[1] = 5;", SEEDS);
     assert.deepEqual([...new Set(outcomes.map(({ ending }) => ending))], ["race"]);
-    for (const { races } of outcomes) assert.deepEqual(races.map(({ lines }) => lines), [["main.mjs:7:20", "worker.mjs:5:10"]]);
+    for (const { races } of outcomes) {
+      assert.deepEqual(races.map(({ lines }) => lines), [["main.mjs:7:20", "worker.mjs:5:10"]]);
+    }
   });
 
   it("is a spin if its length is asked for again and again, and nobody grows it", async (context) => {

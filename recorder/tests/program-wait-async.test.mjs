@@ -94,7 +94,8 @@ describe("time", () => {
     }, { seeds: seedsTo(3) });
     const [why, ...others] = endingsOf(outcomes);
     assert.deepEqual(others, []);
-    assert.match(why, /^failed: agent 0 exited with code 13: it has a top-level await that never settles, at main\.mjs:4:\d+$/);
+    assert.match(why,
+      /^failed: agent 0 exited with code 13: it has a top-level await that never settles, at main\.mjs:4:\d+$/);
   });
 });
 
@@ -122,7 +123,9 @@ ${then}`,
   it("doesn't have it before what doesn't await the promise: that is a race", async (context) => {
     const outcomes = await runsOf(context, files("", "await value;"), { seeds: seedsTo(3) });
     assert.deepEqual([...new Set(outcomes.map(({ ending }) => ending))], ["race"]);
-    for (const { races } of outcomes) assert.deepEqual(races.map(({ lines }) => lines), [["main.mjs:7:10", "worker.mjs:2:10"]]);
+    for (const { races } of outcomes) {
+      assert.deepEqual(races.map(({ lines }) => lines), [["main.mjs:7:10", "worker.mjs:2:10"]]);
+    }
   });
 });
 
@@ -140,7 +143,8 @@ describe("a run that uses it", () => {
     const { stdout } = await execute(process.execPath, words).catch((error) => error);
     const [, counted] = /^(\d+) runs have no script, and weren't replayed: it has more than 16 threads and waits of /m.exec(stdout) ?? [];
     assert.ok(Number(counted) > 1 && Number(counted) < 12, stdout);
-    assert.match(stdout, new RegExp(`^${12 - Number(counted)} of 12 runs were replayed and judged by the simulator`, "m"));
+    assert.match(stdout,
+      new RegExp(`^${12 - Number(counted)} of 12 runs were replayed and judged by the simulator`, "m"));
   });
 
   it("is the same each time", async (context) => {
@@ -150,7 +154,8 @@ describe("a run that uses it", () => {
       "worker.mjs": `${WORKER}for (let round = 0; round < 3; round += 1) { Atomics.add(words, 1, 1); Atomics.notify(words, 0, 1); }`,
     };
     const seeds = seedsTo(6);
-    const [once, again] = [await runsOf(context, files, { seeds }), await runsOf(context, files, { seeds: [...seeds].reverse() })];
+    const [once, again] = [await runsOf(context, files, { seeds }),
+      await runsOf(context, files, { seeds: [...seeds].reverse() })];
     const partsOf = ({ ending, trace, detail }) => ({ ending, trace, detail });
     assert.deepEqual(once.map(partsOf), again.reverse().map(partsOf));
     assert.ok(new Set(once.map(({ trace }) => trace)).size > 3);

@@ -16,7 +16,8 @@ import { locks } from "./programs/wasm/locks.mjs";
 const { get, i32, load, store, atomic, loop, again, add } = code;
 
 /** @param {Uint8Array} bytes @returns {string} code that makes them */
-const shown = (bytes) => `Uint8Array.from(atob("${Buffer.from(bytes).toString("base64")}"), (byte) => byte.charCodeAt(0))`;
+const shown = (bytes) =>
+  `Uint8Array.from(atob("${Buffer.from(bytes).toString("base64")}"), (byte) => byte.charCodeAt(0))`;
 
 const MAIN = `import { Worker } from "node:worker_threads";
 const workerOf = (workerData) => new Worker(new URL("./worker.mjs", import.meta.url), { workerData });
@@ -33,7 +34,8 @@ const { exports } = new WebAssembly.Instance(module, { env: { memory } });
 const VARIANTS = [["i", 4], ["l", 8], ["i", 1], ["i", 2], ["l", 1], ["l", 2], ["l", 4]];
 const NAMES = ["load", "store", "add", "sub", "and", "or", "xor", "xchg", "cmpxchg"];
 const PLAIN_LOADS = [
-  ["i", 4], ["l", 8], ["f", 4], ["d", 8], ["i", 1], ["i", 1], ["i", 2], ["i", 2], ["l", 1], ["l", 1], ["l", 2], ["l", 2],
+  ["i", 4], ["l", 8], ["f", 4], ["d", 8], ["i", 1], ["i", 1], ["i", 2], ["i", 2], ["l", 1], ["l", 1], ["l", 2],
+  ["l", 2],
   ["l", 4], ["l", 4],
 ];
 const PLAIN_STORES = [["i", 4], ["l", 8], ["f", 4], ["d", 8], ["i", 1], ["i", 2], ["l", 1], ["l", 2], ["l", 4]];
@@ -75,7 +77,8 @@ const others = () => [
   body: [...get(0), ...get(1), 0xfd, 18, ...lanes(number, ...(number === 11 ? [] : [0]))],
 }))).concat([
   { name: "fill", type: "ii>", size: 8, isAtomic: false, body: [...get(0), ...get(1), ...i32(7), 0xfc, 11, 0] },
-  { name: "copy", type: "ii>", size: 8, isAtomic: false, body: [...get(0), ...get(1), ...i32(63), 0x71, ...i32(9), 0xfc, 10, 0, 0] },
+  { name: "copy", type: "ii>", size: 8, isAtomic: false,
+    body: [...get(0), ...get(1), ...i32(63), 0x71, ...i32(9), 0xfc, 10, 0, 0] },
 ]);
 
 const EACH = [...atomicOnes(), ...plainOnes(), ...others()];
@@ -384,7 +387,8 @@ describe("findings", () => {
   });
 
   it("show where a thread spins", async (context) => {
-    const bytes = moduleOf([{ name: "spin", type: "i>", body: loop(...get(0), ...atomic(ATOMIC.LOAD), 0x45, ...again(0)) }]);
+    const bytes = moduleOf([{ name: "spin", type: "i>",
+      body: loop(...get(0), ...atomic(ATOMIC.LOAD), 0x45, ...again(0)) }]);
     const outcomes = await runsOf(context, {
       "main.mjs": `${MAIN}workerOf({ memory, module: new WebAssembly.Module(${shown(bytes)}) });`,
       "worker.mjs": `${WORKER}exports.spin(64);`,
@@ -406,7 +410,8 @@ describe("--wasm-accesses", () => {
 
 describe("modules of WebAssembly", () => {
   it("without shared memory stay the engine's", async (context) => {
-    const bytes = moduleOf([{ name: "count", type: "i>", body: [...get(0), ...get(0), ...load(4), ...i32(1), ...add, ...store(4)] }], { isShared: false });
+    const bytes = moduleOf([{ name: "count", type: "i>",
+      body: [...get(0), ...get(0), ...load(4), ...i32(1), ...add, ...store(4)] }], { isShared: false });
     assert.equal(hasSharedMemory(bytes), false);
     const outcomes = await runsOf(context, {
       "main.mjs": `const memory = new WebAssembly.Memory({ initial: 1, maximum: 1 });

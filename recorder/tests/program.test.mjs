@@ -309,7 +309,8 @@ test("a picture that sabsim doesn't make is reported", withShell, async (context
   assert.equal((await commandHere(cases("waitsForEver", ...unchecked, "--check", "0"))).status, 1);
   const { status, stdout } = await commandHere(cases("waitsForEver", ...unchecked, "--sabsim", half));
   assert.equal(status, 1, stdout);
-  assert.match(stdout, /^every run was replayed and judged by the simulator \(native program\): it agrees with the recorder$/m);
+  assert.match(stdout,
+    /^every run was replayed and judged by the simulator \(native program\): it agrees with the recorder$/m);
   const left = "\nnot kept: seed-1.svg: sabsim ended with status 4: no pictures\n" +
     "not kept: seed-1.html: what sabsim prints about the run is no JSON\n";
   assert.ok(stdout.endsWith(left), stdout);

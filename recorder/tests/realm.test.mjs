@@ -218,7 +218,8 @@ describe("a patched language", () => {
   const FUNCTIONS = ["top", "agent"].flatMap((when) => ["throws", "lies"].map((how) => ["functions", when, how]));
   /** How the module's agents end, in the order of its cases, and what is said about it. */
   const ENDS = {
-    finished: "", deadlock: "waits at byte 20", failed: "threw Error: as it must be", refused: "the value 9007199254740992",
+    finished: "", deadlock: "waits at byte 20", failed: "threw Error: as it must be",
+    refused: "the value 9007199254740992",
     later: "goes on later, by setImmediate",
   };
 
@@ -299,7 +300,8 @@ test("messages to the thread that started the worker change nothing", async (con
     [["", posts], /^agent 0 calls parentPort\.postMessage at agents\.mjs:5:18, but nobody takes its messages: /],
     // The first one stands for all.
     [[posts, ""], /^agent 0 calls parentPort\.postMessage at agents\.mjs:3:16, but nobody .+\nagent 1 calls .+$/],
-    [["parentPort.on('message', () => {});", ""], /^agent 0 listens for messages, by parentPort\.on at agents\.mjs:3:16, /],
+    [["parentPort.on('message', () => {});", ""],
+      /^agent 0 listens for messages, by parentPort\.on at agents\.mjs:3:16, /],
   ];
   const failing = await madeOfEach(named, ([[top, body]]) => recordText(context, text(top, body), options));
   failing.forEach(({ ending, detail, state, calls, progress }, at) => {

@@ -55,7 +55,8 @@ const fileWith = (result) => ({ passed: 0, failed: 0, leftOut: [], failing: [], 
 
 const SEVEN = [fileWith({ passed: 5, leftOut: ["no sabsim", "no browser", "no sabsim"] }), fileWith({ passed: 2 })];
 const LEFT_OUT = "left out: 2 tests (no sabsim), 1 test (no browser)";
-const SECOND = [{ name: "jobs.test.mjs", failing: ["one is killed", "all, at last"] }, { name: "a.test.mjs", failing: [] }];
+const SECOND = [{ name: "jobs.test.mjs", failing: ["one is killed", "all, at last"] },
+  { name: "a.test.mjs", failing: [] }];
 const SECOND_LINE =
   "passed only the second time: jobs.test.mjs (one is killed), jobs.test.mjs (all, at last), a.test.mjs";
 

@@ -61,7 +61,8 @@ test("a run in which all agents return has finished", async () => {
 test("a run in which no agent calls Atomics is no pass, and its script has no calls", async () => {
   const outcome = await recordCase("nothing", { sabsim: CHECKER });
   assert.equal(outcome.ending, "failed");
-  assert.match(outcome.detail, /^no agent has made a call of Atomics, or another access that is seen, on the recorded buffers/);
+  assert.match(outcome.detail,
+    /^no agent has made a call of Atomics, or another access that is seen, on the recorded buffers/);
   assert.deepEqual(JSON.parse(outcome.script).agents.map((agent) => agent.calls), [[], []]);
 });
 

@@ -264,7 +264,8 @@ test("the summary's lines about a shortened run", () => {
     [`${start} 400 runs, the most that are made`]);
   assert.deepEqual(linesOf({ shortened: { ...about, runs: 0, unchanged: "it met a limit" } }),
     ["not shortened: it met a limit"]);
-  const needs = (onlyIf) => linesOf({ shortest: { ...failing, onlyIf }, shortened: about }, "only if 5 s pass").slice(1);
+  const needs = (onlyIf) =>
+    linesOf({ shortest: { ...failing, onlyIf }, shortened: about }, "only if 5 s pass").slice(1);
   assert.deepEqual([needs("only if 5 s pass"), needs("only if 1 ms passes"), needs(undefined)],
     [[], ["  only if 1 ms passes"], ["  no timed wait ends early in it"]]);
 });

@@ -46,7 +46,8 @@ const agentsOf = (/** @type {ReturnType<typeof begun>} */ order) => order.map(({
 
 describe("agents of a module begin", () => {
   it("in turn and before all calls in three of four seeds and in pilots, and else in an order that the seed draws", () => {
-    const others = seeds.filter((seed) => agentsOf(begun(seed)) !== "0123" || begun(seed).some(({ draws }) => draws > 0));
+    const others = seeds.filter((seed) => agentsOf(begun(seed)) !== "0123"
+      || begun(seed).some(({ draws }) => draws > 0));
     assert.ok(others.length > 28 && others.length <= SEEDS / 4, `${others.length}`);
     assert.ok(others.every((seed) => seed % 4 === 2));
     assert.ok(new Set(others.map((seed) => agentsOf(begun(seed)))).size > 12);

@@ -306,7 +306,8 @@ function earlyRuns() {
   return [
     raced(1, [one], "01", { onlyIf }), raced(2, [one], "01", { onlyIf }), raced(3, [both], "03", { onlyIf }),
     raced(4, [both], "03", { onlyIf }), raced(5, [other], "02"), raced(6, [both], "03"), outcome(7, { shown: ["07"] }),
-    ...[8, 9].map((seed) => thrown(seed, { message: ["agent 0 threw 1"], sources: [] }, "failed", { onlyIf, shown: ["08"] })),
+    ...[8, 9].map((seed) =>
+      thrown(seed, { message: ["agent 0 threw 1"], sources: [] }, "failed", { onlyIf, shown: ["08"] })),
     thrown(10, { message: ["agent 0 threw no"], sources: [] }, "failed", { shown: ["09"] }),
   ];
 }

@@ -181,7 +181,8 @@ test("the failing test of a race marks its two accesses among the last acts, wit
   assert.ok(lines.some((line) => line.endsWith("and their lines; > marks two accesses that nothing orders:")));
   // The reporter shows a failure twice.
   const [read, write, ...more] = new Set(lines.filter((line) => line.startsWith("> ")));
-  assert.match(read, /^> - 1 \d+ read +reads slots\[0\], which is 10, without Atomics, at ring-frees-first\.mjs:43:17$/);
+  assert.match(read,
+    /^> - 1 \d+ read +reads slots\[0\], which is 10, without Atomics, at ring-frees-first\.mjs:43:17$/);
   assert.match(write, /^> \d+ 0 \d+ write +writes slots\[0\], without Atomics: .*, at ring-frees-first\.mjs:31:32$/);
   assert.deepEqual(more, []);
   const load = /^\d+ \d \d+ act .* load\(TAIL, 0\) .*, at ring-frees-first\.mjs:\d+:\d+$/;

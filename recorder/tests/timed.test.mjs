@@ -216,7 +216,8 @@ describe("joined, kept and stopped", { concurrency: 2 }, () => {
 
   it("a test of agents fails by such a run, or by an early one if there is no other", async () => {
     const failed = async (args, seeds) => {
-      const options = { ...FEW_WORKERS, module: both.module, args, seeds, shorten: false, out: join(folder, `${args}`) };
+      const options = { ...FEW_WORKERS, module: both.module, args, seeds, shorten: false,
+        out: join(folder, `${args}`) };
       return assertAgents(options).then(() => assert.fail("none failed"), ({ message }) => message);
     };
     const message = await failed(["both"], "1..100");
@@ -244,7 +245,8 @@ describe("joined, kept and stopped", { concurrency: 2 }, () => {
   });
 
   it("the command line keeps the first one, by one job and by two", async () => {
-    const words = [both.module, "--seeds", "1..100", "--no-shorten", "--format", "json", "--agents", "2", "--everywhere"];
+    const words = [both.module, "--seeds", "1..100", "--no-shorten", "--format", "json", "--agents", "2",
+      "--everywhere"];
     const summaries = await Promise.all([1, 2].map(async (jobs) => {
       const out = join(folder, `jobs-${jobs}`);
       const more = ["--jobs", `${jobs}`, "--out", out, "--", "both"];

@@ -62,7 +62,8 @@ it("the line of the code that goes on is in the message, and failures are counte
     const [, what, at] = /^(.*), ([\d:]*)$/.exec(said);
     const place = at === "" ? [] : [`agents.mjs:${at}`];
     const message = `agent 0 ${what}, but an agent must be synchronous`;
-    assert.deepEqual([ending, detail], ["failed", [message, ...place.map((each) => `    at ${each}`)].join("\n")], agent);
+    assert.deepEqual([ending, detail], ["failed", [message, ...place.map((each) => `    at ${each}`)].join("\n")],
+      agent);
     assert.deepEqual(failure, { message: [message], sources: place });
   }
 });

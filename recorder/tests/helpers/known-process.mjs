@@ -36,7 +36,8 @@ import { lasting } from "./recorded.mjs";
 
 /** @param {Checked} outcome @returns {Made} */
 const madeOf = ({ seed, ending, races, bytes, checked, scriptHolds, noScript }) =>
-  ({ seed, ending, races: races.map(({ lines }) => lines), isWhole: bytes !== undefined, checked, scriptHolds, noScript });
+  ({ seed, ending, races: races.map(({ lines }) => lines), isWhole: bytes !== undefined, checked, scriptHolds,
+    noScript });
 
 /** @param {Checked} outcome @param {Judgement} judgement @param {Aside} aside @returns {Judged} */
 const judgedOf = (outcome, judgement, { stray }) => ({ outcome, judgement: lasting(judgement), stray });
