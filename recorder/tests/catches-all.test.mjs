@@ -52,7 +52,8 @@ test("if an agent goes on without a call, the trace isn't kept, and the summary 
   const out = temporaryFolder(context);
   const { status, stdout: output } = await commandHere(wordsOf(`${FAILING}`, "--out", out, "--", "stay"));
   assert.equal(status, 1);
-  const why = "agent 1 didn't come to an end after the run, so the run wasn't made once more to learn its lines of code";
+  const why = "agent 1 didn't come to an end after the run, "
+    + "so the run wasn't made once more to learn its lines of code";
   const lines = output.split("\n").filter((line) => line.startsWith("not kept: "));
   assert.deepEqual(lines, [`not kept: seed-${FAILING}.trace.jsonl: ${why}`]);
   assert.ok(!existsSync(join(out, `seed-${FAILING}.trace.jsonl`)));

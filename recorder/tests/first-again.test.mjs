@@ -34,7 +34,8 @@ const SAID = {
 };
 
 const textOf = (way, seed = 1) =>
-  `seed ${seed} was run once more at the end, and ${SAID[way]}: the module keeps something in its own variables: try --fresh`;
+  `seed ${seed} was run once more at the end, and ${SAID[way]}: `
+  + "the module keeps something in its own variables: try --fresh";
 
 /** @param {import("node:test").TestContext} context */
 function moduleIn(context) {
@@ -59,7 +60,8 @@ async function summaryOf(context, way, words) {
 
 describe("a module that keeps something from run to run", SIDE_BY_SIDE, () => {
   for (const [way, status] of [["ending", 1], ["bytes", 0], ["acts", 0]]) {
-    for (const words of [["--seeds", "1..3"], ["--seeds", "1..40", "--jobs", "2"], ["--seeds", "1..3", "--check", "0"]]) {
+    const asked = [["--seeds", "1..3"], ["--seeds", "1..40", "--jobs", "2"], ["--seeds", "1..3", "--check", "0"]];
+    for (const words of asked) {
       test(`is noticed by its ${way}: ${words.join(" ")}`, async (context) => {
         const { status: is, summary } = await summaryOf(context, way, words);
         assert.equal(is, status);

@@ -36,7 +36,7 @@ const PROGRAM = `
   writeFileSync(new URL("ran", import.meta.url), "");
 `;
 
-test("a program in place of a module of agents is refused before it runs, and it is said what such a module is", async (context) => {
+test("a program given as a module of agents is refused before it runs, with what such a module is", async (context) => {
   const file = fileWith(context, "program.mjs", PROGRAM);
   const why = `${file} is no module of agents, since it has no default export. If it is a program, give it as `
     + "`program` (--program). An agent is a function: export default function agent({ buffers, agent }) { .. }";

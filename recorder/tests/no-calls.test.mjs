@@ -60,7 +60,8 @@ describe("agents without a call of Atomics", { concurrency: 4 }, () => {
     assert.equal(status, 1);
     const lines = stdout.split("\n");
     assert.equal(lines[0], "2 of 2 runs failed: 2 race");
-    assert.ok(lines.includes("not shortened: it has no call of Atomics that could be left out, or come at another time"));
+    const why = "it has no call of Atomics that could be left out, or come at another time";
+    assert.ok(lines.includes(`not shortened: ${why}`));
     assert.ok(!stdout.includes("nothing was tried"), stdout);
   });
 });

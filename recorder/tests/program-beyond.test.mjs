@@ -9,7 +9,8 @@ import { describe, it } from "node:test";
 import { RECORD } from "./helpers/common.mjs";
 import { programOf, runsOf } from "./helpers/whole-programs.mjs";
 
-const BEYOND = "a thread made more than 1000 calls, which no script can have: sabsim judges only the trace of such a run";
+const BEYOND = "a thread made more than 1000 calls, which no script can have: "
+  + "sabsim judges only the trace of such a run";
 
 const MISSED = "it has more than 16,384 messages, the most that can be told apart: unordered accesses may be missed";
 
@@ -65,7 +66,8 @@ describe("more than 1,000 calls of a thread", { concurrency: 3 }, () => {
     const spins = `${ADDS}\nwhile (Atomics.load(words, 1) === 0);`;
     const [outcome] = await runsOf(context, filesOf(spins, ""));
     assert.equal(outcome.ending, "bound");
-    assert.match(outcome.detail, /^agent 1 \(worker\.mjs, started at main\.mjs:3:1\) spins at worker\.mjs:3:16: it has made 2000 calls, and goes on/);
+    assert.match(outcome.detail, new RegExp("^agent 1 \\(worker\\.mjs, started at main\\.mjs:3:1\\) spins at "
+      + "worker\\.mjs:3:16: it has made 2000 calls, and goes on"));
   });
 
   it("are no spin while another thread goes on", async (context) => {
@@ -144,8 +146,8 @@ describe("more buffers than a script can have, and a larger one", { concurrency:
     const act = `large[${LARGE} - 1] = process.argv[2];\n${WAKES}`;
     const files = { ...sharing(act, "") };
     files["main.mjs"] = files["main.mjs"].replace("workerData:", "argv: process.argv.slice(2), workerData:");
-    const [[one],
-      [other]] = await Promise.all([runsOf(context, files, { args: ["1"] }), runsOf(context, files, { args: ["2"] })]);
+    const runsWith = (/** @type {string} */ word) => runsOf(context, files, { args: [word] });
+    const [[one], [other]] = await Promise.all([runsWith("1"), runsWith("2")]);
     assert.notEqual(one.state.hash, other.state.hash);
   });
 

@@ -98,7 +98,8 @@ describe("a wait of waitAsync in a script", () => {
   });
 
   it("has a helper of its own if another one is pending, and else that one's", async (context) => {
-    const { outcome, calls, schedule } = await onlyRun(context, `const [one, two] = [0, 1].map((index) => Atomics.waitAsync(words, index, 0).value);
+    const { outcome, calls, schedule } = await onlyRun(context, `
+      const [one, two] = [0, 1].map((index) => Atomics.waitAsync(words, index, 0).value);
       Atomics.notify(words, 1);
       await two;
       const three = Atomics.waitAsync(words, 2, 0).value;
@@ -152,7 +153,8 @@ describe("a wait of waitAsync in a script", () => {
   it("is the thread's own if it returns at once", async (context) => {
     const { calls, schedule, outcome } = await onlyRun(context, `const found = [
         Atomics.waitAsync(words, 0, 5), Atomics.waitAsync(words, 1, 0, 0), Atomics.waitAsync(words, 2, 0, -1)];
-      if (found.map(({ async, value }) => async + value).join() !== "falsenot-equal,falsetimed-out,falsetimed-out") throw found;`);
+      const said = found.map(({ async, value }) => async + value).join();
+      if (said !== "falsenot-equal,falsetimed-out,falsetimed-out") throw found;`);
     assert.deepEqual(calls, [[MESSAGE, wait(0, 5), wait(1, 0, 0), wait(2, 0, -1)]]);
     assert.deepEqual(schedule, [...times(0, 6), 0, 0, { timeout: 0 }, 0, 0, 0, { timeout: 0 }, 0]);
     assert.deepEqual(outcome.answers, [["0", "not-equal", "timed-out", "timed-out"]]);
@@ -183,7 +185,7 @@ describe("a wait of waitAsync in a script", () => {
   });
 });
 
-it("a run with helpers is judged by its trace: in the script nothing orders a thread's accesses with its helper's wait", async (context) => {
+it("a run with helpers is judged by its trace: no script orders a thread's accesses with them", async (context) => {
   const { outcome } = await onlyRun(context, `const longs = new BigInt64Array(words.buffer);
     const { value } = Atomics.waitAsync(words, 0, 0);
     Atomics.store(longs, 0, 5n);
@@ -223,7 +225,7 @@ describe("a notify in a script", () => {
     }
   });
 
-  it("would wake helpers of a thread that has ended: then there is no script, and sabsim judges the trace", async (context) => {
+  it("would wake helpers of a thread that has ended: then no script, sabsim judges the trace", async (context) => {
     const files = (/** @type {string} */ then) => ({
       "main.mjs": `import { Worker } from "node:worker_threads";
         const words = new Int32Array(new SharedArrayBuffer(16));
@@ -250,11 +252,13 @@ describe("how many helpers there can be", () => {
     assert.equal(calls.length, 16);
     const [outcome] = await runsOf(context, { "main.mjs": `${SHARED}${waits(16)}` });
     assert.deepEqual([outcome.ending, outcome.checked, outcome.script], ["finished", false, undefined]);
-    assert.match(outcome.noScript ?? "", /^it has more than 16 threads and waits of Atomics\.waitAsync that are pending at once, which no script can have:/);
+    assert.match(outcome.noScript ?? "", new RegExp("^it has more than 16 threads and waits of Atomics\\.waitAsync "
+      + "that are pending at once, which no script can have:"));
   });
 
   it("with at most 1,000 calls each, as the threads with what they hand over", async (context) => {
-    const rounds = (/** @type {number} */ count, how = "", notifies = "") => `${how === "" ? "" : "setTimeout(() => {}, 1e6);"}
+    const rounds = (/** @type {number} */ count, how = "", notifies = "") => `
+      ${how === "" ? "" : "setTimeout(() => {}, 1e6);"}
       for (let round = 0; round < ${count}; round += 1) {
         const { value } = Atomics.waitAsync(words, 0, 0${how});
         ${notifies}
@@ -327,7 +331,8 @@ throw new Error("mine");`,
     const report = readReport(output);
     // What the page makes of any schedule, of the one that was recorded.
     const again = new Run(changedData(data, JSON.parse(outcome.script ?? ""), report));
-    const stepsOf = ({ steps }) => data.threads?.map((_, own) => steps.filter(({ agent, what }) => agent === own && what !== "task")
+    const stepsOf = ({ steps }) => data.threads?.map((_, own) => steps
+      .filter(({ agent, what }) => agent === own && what !== "task")
       .map(({ text, place }) => `${text}, at ${data.places[place]}`));
     assert.deepEqual(stepsOf(again), stepsOf(run));
     const [first] = stepsOf(run) ?? [];

@@ -25,7 +25,7 @@ const part = ({ seed, ending, fails, detail, moves, calls, ordinary, progress, s
   checked }) =>
   ({ seed, ending, fails, detail, moves, calls, ordinary, progress, state, script, report, trace, races, checked });
 
-test("`explore` makes the runs of the command line, with any number of jobs, and `record` each of them alone", async (context) => {
+test("`explore` makes the runs of the command line, by any number of jobs, `record` each alone", async (context) => {
   const found = join(temporaryFolder(context), "found");
   const words = ["--program", TOO_SOON, "--seeds", "1..6", "--format", "json", "--no-shorten", "--out", found];
   const { stdout } = await commandHere(words);
@@ -81,7 +81,8 @@ test("a program that is stuck fails, unless `stuck` lets it pass", async () => {
 
 test("just one of module and program is given, and each has its own options", async () => {
   const module = agentsPath("cases");
-  const both = /^`module` and `program` can't both be given: `module` is one of agents, and `program` starts its threads itself$/;
+  const both = new RegExp("^`module` and `program` can't both be given: "
+    + "`module` is one of agents, and `program` starts its threads itself$");
   assert.throws(() => explore({ module, program: TOO_SOON }), refused(both));
   await assert.rejects(record({ module, program: TOO_SOON }), refused(both));
   const none = /^`module` is missing, or `program` in its place: it must be a path or a URL$/;
@@ -145,7 +146,9 @@ test("`testProgram` fails with the finding, shortened and kept, and passes other
   `);
   assert.equal(status, 1);
   assert.match(output, /^not ok 1 - hands over$/m);
-  assert.match(output, /^ +seed \d+: race(; the (?:run|\d+ runs) before it passed)?\n +agent 1 \(too-soon-worker\.mjs, started at too-soon\.mjs:7:1\) writes Uint8_b0_at4\[4\] \(too-soon\.mjs:4\) at too-soon-worker\.mjs:7:12/m);
+  assert.match(output, new RegExp("^ +seed \\d+: race(; the (?:run|\\d+ runs) before it passed)?\\n"
+    + " +agent 1 \\(too-soon-worker\\.mjs, started at too-soon\\.mjs:7:1\\) writes Uint8_b0_at4\\[4\\] "
+    + "\\(too-soon\\.mjs:4\\) at too-soon-worker\\.mjs:7:12", "m"));
   assert.match(output, /^ +> .* write +writes .*, at too-soon-worker\.mjs:7:12$/m);
   const names = readdirSync(join(folder, "found"));
   for (const ending of ["json", "trace.jsonl", "explained", "html"]) {

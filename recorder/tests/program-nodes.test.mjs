@@ -55,9 +55,9 @@ test("a node that lacks something of its inside refuses programs by name, and ru
   const { status, stdout, stderr } = ranBy(["--program", file("main.mjs")], nodeWords);
   assert.equal(status, 2, stderr);
   assert.equal(stdout, "");
-  assert.equal(stderr, `record: whole programs don't run on node ${process.versions.node}, which lacks deserializeError of `
-    + "internal/error_serdes, decorateErrorStack of internal/util, process._getActiveHandles. They were tried on node "
-    + "20.20 and 24.22. Modules of agents run on this node, too\n");
+  assert.equal(stderr, `record: whole programs don't run on node ${process.versions.node}, which lacks `
+    + "deserializeError of internal/error_serdes, decorateErrorStack of internal/util, "
+    + "process._getActiveHandles. They were tried on node 20.20 and 24.22. Modules of agents run on this node, too\n");
   const ofAgents = ranBy([file("agents.mjs")], nodeWords);
   assert.equal(ofAgents.status, 0, ofAgents.stderr);
 });

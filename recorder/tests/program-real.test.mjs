@@ -291,7 +291,7 @@ describe("a run that can't be repeated", () => {
     assert.match(second.trace, /"source":"main\.mjs:5:1"/);
   });
 
-  it("is named by the summary, with what was used, and replays of it say why they differ", withShell, async (context) => {
+  it("is named by the summary, with what was used, and replays say why they differ", withShell, async (context) => {
     const main = counting(context, 0);
     const out = temporaryFolder(context);
     const { status, stdout } = await commandThere(["--program", main, "--seeds", "1..3", "--jobs", "1", "--out", out]);

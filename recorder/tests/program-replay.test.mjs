@@ -96,7 +96,7 @@ test("a kept run of a program is made again from its file alone: the same script
   assert.match(command.script, new RegExp(`${name}\\.program\\.json'?$`));
 });
 
-test("a run without a script is made again, too, and options of the command line go before the kept ones", async (context) => {
+test("a run without a script is made again, and options of the command line go before kept ones", async (context) => {
   const { file, folder } = await kept(programOf(context, {
     "main.mjs": `import { Worker } from "node:worker_threads";
       const words = new Int32Array(new SharedArrayBuffer(8));
@@ -134,7 +134,8 @@ test("a run that waits by waitAsync is made again, and what differs is named as 
   assert.equal(readFileSync(join(folder, "again", `${name}.replayed.json`), "utf8"), script);
   writeFileSync(main, readFileSync(main, "utf8").replace("words, 0, 0", "words, round, 0"));
   assert.match((await commandHere(["--replay", file])).stderr,
-    /: the script has agent 0's call (\d), \["wait", "Int32_b0", 0, 0\] next, and now comes agent 0's call \1, \["wait", "Int32_b0", 1, 0\]$/m);
+    new RegExp(': the script has agent 0\'s call (\\d), \\["wait", "Int32_b0", 0, 0\\] next, '
+      + 'and now comes agent 0\'s call \\1, \\["wait", "Int32_b0", 1, 0\\]$', "m"));
 });
 
 test("if the code does other things, the first of these is named", async () => {
@@ -142,11 +143,14 @@ test("if the code does other things, the first of these is named", async () => {
   const files = { main, worker: join(dirname(main), "worker.mjs") };
   const changed = [
     ["main", MAIN.replace("Atomics.load(words, 0)", "Atomics.load(words, 1)"),
-      /: the script has agent 0's call \d+, \["load", "Int32_b0", 0\] next, and now comes agent 0's call \d+, \["load", "Int32_b0", 1\]$/],
+      new RegExp(': the script has agent 0\'s call \\d+, \\["load", "Int32_b0", 0\\] next, '
+        + 'and now comes agent 0\'s call \\d+, \\["load", "Int32_b0", 1\\]$')],
     ["main", MAIN.replace("if (", "Atomics.add(words, 1, 2);\n if ("),
-      /: the script has agent 0's call \d+, \["load", .*\] next, and now comes agent 0's call \d+, \["add", "Int32_b0", 1, 2\]$/],
+      new RegExp(': the script has agent 0\'s call \\d+, \\["load", .*\\] next, '
+        + 'and now comes agent 0\'s call \\d+, \\["add", "Int32_b0", 1, 2\\]$')],
     ["worker", WORKER.replace('parentPort.postMessage("ready");', ""),
-      /: the script has agent 1's call \d+, \["notify", .*\] next, and now comes agent 1's call \d+, \["store", "Int32_b0", 0, 7\]$/],
+      new RegExp(': the script has agent 1\'s call \\d+, \\["notify", .*\\] next, '
+        + 'and now comes agent 1\'s call \\d+, \\["store", "Int32_b0", 0, 7\\]$')],
     // It makes no other call, and comes less far.
     ["worker", WORKER.replace("setTimeout(done, 5)", 'parentPort.once("message", done)'),
       /: agent \d moved with draw \d+ of the kept run, and now it has nothing to do, or waits$/],
@@ -180,7 +184,8 @@ test("an edited row makes another run of the program, or it is said which draw i
   }
   const { status, stderr } = await replayedBy([[0, 50], [1, 1]]);
   assert.equal(status, 3);
-  assert.match(stderr, /^record: the code no longer does the same: agent 0 moved with draw \d+ of the kept run, and now it has nothing to do, or waits; agent 1 could move\n$/);
+  assert.match(stderr, new RegExp("^record: the code no longer does the same: agent 0 moved with draw \\d+ of the kept "
+    + "run, and now it has nothing to do, or waits; agent 1 could move\\n$"));
 });
 
 test("a file that is no kept run of a program is refused, and so is a program that isn't there", (context) => {
@@ -217,7 +222,8 @@ test("a file that is no kept run of a program is refused, and so is a program th
 test("a row that is too long to be known whole isn't kept, and it is said so", (context) => {
   const keeper = new Keeper(temporaryFolder(context));
   const options = /** @type {any} */ ({ isProgram: true, module: "file:///main.mjs", args: [] });
-  const kept = (/** @type {number} */ draws) => keepProgram(keeper, /** @type {any} */ ({ seed: 7, row: Array(draws).fill(0) }), options);
+  const kept = (/** @type {number} */ draws) =>
+    keepProgram(keeper, /** @type {any} */ ({ seed: 7, row: Array(draws).fill(0) }), options);
   assert.deepEqual(kept(MOST_DRAWS), [`not kept: seed-7.program.json: the run has ${MOST_DRAWS} draws or more`]);
   assert.deepEqual([kept(MOST_DRAWS - 1), keeper.names], [[], ["seed-7.program.json"]]);
 });

@@ -19,8 +19,11 @@ import { runsOf } from "./helpers/whole-programs.mjs";
 const { WAITERS } = FLAG;
 const SEEDS = 400;
 
+const USUAL = { seed: 1, strategy: "uniform", agents: 3, isProgram: true, isMixed: true, timeouts: 0.05 };
+
 /** A board of a program, or of a module's agents, all of which ask for a call. @param {object} [rules] */
-function asking({ seed = 1, strategy = "uniform", agents = 3, isProgram = true, isMixed = true, timeouts = 0.05 } = {}) {
+function asking(rules = {}) {
+  const { seed, strategy, agents, isProgram, isMixed, timeouts } = { ...USUAL, ...rules };
   const way = waysOf(strategy, true);
   // Of several ways a run takes one by its seed, also if they are alike.
   const ways = isMixed ? [...way, ...way] : way;
@@ -56,7 +59,7 @@ describe("what conflicts", () => {
     assert.equal(conflicts(board, 0, 1), false);
   });
 
-  it("a message conflicts with a task of the thread that gets it, whether that asks, waits for a time or was woken", () => {
+  it("a message conflicts with a task of the thread that gets it, if that asks, waits for a time or was woken", () => {
     const board = asking();
     ask(board, 0, loopPlace(2));
     board.asksForTask(2);
@@ -69,7 +72,7 @@ describe("what conflicts", () => {
     assert.equal(conflicts(board, 1, 2), false);
   });
 
-  it("a message to all channels of a name conflicts with a task of each thread, a message to one and to channels", () => {
+  it("a message to all channels of a name conflicts with a task of each thread, and one to one and to channels", () => {
     const board = asking();
     /** @type {any[]} */
     const made = [];

@@ -111,7 +111,8 @@ const LEFT = {
 /** How a worker ends. */
 const BY = {
   "process.exit": "process.exit(3)",
-  "what nobody catches, in a task of its own": "(setImmediate(() => { throw new Error('wrong'); }), Atomics.wait(words, 0, 0))",
+  "what nobody catches, in a task of its own":
+    "(setImmediate(() => { throw new Error('wrong'); }), Atomics.wait(words, 0, 0))",
   "a wait for good": "Atomics.wait(words, 0, 0)",
 };
 

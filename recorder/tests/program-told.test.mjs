@@ -25,7 +25,8 @@ describe("a thread that has ended by an error", () => {
   it("is named with its error and line, in a deadlock's detail and among the tasks", async (context) => {
     const { ending, detail, tasks, messages } = await runOf(context, DIES);
     assert.equal(ending, "deadlock");
-    assert.match(detail, /^agent 1 \(w\.mjs, started at main\.mjs:3:5\) ended: threw Error: the reason, at w\.mjs:2:\d+\nagent 0 waits at/);
+    assert.match(detail, new RegExp("^agent 1 \\(w\\.mjs, started at main\\.mjs:3:5\\) ended: "
+      + "threw Error: the reason, at w\\.mjs:2:\\d+\\nagent 0 waits at"));
     assert.ok(tasks.some(({ agent, text, source }) => agent === 1 && text === "throws Error: the reason"
       && /^w\.mjs:2:\d+$/.test(source)));
     assert.deepEqual(messages.map(([, text]) => text), ["online", "error, Error: the reason", "exit with code 1"]);
@@ -64,7 +65,8 @@ describe("messages", () => {
     const { messages } = await runOf(context, {
       "main.mjs": `const { port1, port2 } = new MessageChannel();
         const deep = { a: { b: { c: 1 } } };
-        for (const value of ["a".repeat(60), [1, 2n, null, undefined, true, "six", 7], deep, new Map(), new RangeError("far")]) {
+        const far = new RangeError("far");
+        for (const value of ["a".repeat(60), [1, 2n, null, undefined, true, "six", 7], deep, new Map(), far]) {
           port1.postMessage(value);
         }
         port2.on("message", () => {});
@@ -97,7 +99,8 @@ describe("a message that can't be read", () => {
   it("is emitted as messageerror", async (context) => {
     const main = SENDS.replace("process.argv[2]", '"messageerror"');
     const beside = "[new Int32Array(new SharedArrayBuffer(4)), list]";
-    const all = "(() => { const all = []; for (let one = list; one !== null; one = one.next) all.push(one); return all; })()";
+    const all = "(() => { const all = []; for (let one = list; one !== null; one = one.next) all.push(one); "
+      + "return all; })()";
     for (const sent of ["list", beside, all]) {
       const worker = LIST.replace("postMessage(list)", `postMessage(${sent})`);
       assert.equal((await runOf(context, { "main.mjs": main, "w.mjs": worker })).ending, "finished", sent);
@@ -173,7 +176,8 @@ describe("an exit", () => {
   it("with code 13 is shortened to one with the same line", async (context) => {
     const program = programOf(context, {
       "main.mjs": `import { Worker } from "node:worker_threads";
-        const workers = [0, 1].map(() => new Worker("require('worker_threads').parentPort.postMessage(1)", { eval: true }));
+        const code = "require('worker_threads').parentPort.postMessage(1)";
+        const workers = [0, 1].map(() => new Worker(code, { eval: true }));
         const said = (worker) => new Promise((done) => worker.on("message", done));
         await said(workers[0]);
         await said(workers[1]);`,

@@ -309,7 +309,8 @@ const SCENARIOS = {
       (done) => crypto.generateKey("hmac", { length: 64 }, done));
     await noted((name, error, prime) => log(name, error, prime.byteLength), "generatePrime",
       (done) => crypto.generatePrime(16, done));
-    const [, publicKey, privateKey] = await noted((name, error, one, two) => log(name, error, one.type, two.type), "generateKeyPair",
+    const ofPair = (name, error, one, two) => log(name, error, one.type, two.type);
+    const [, publicKey, privateKey] = await noted(ofPair, "generateKeyPair",
       (done) => crypto.generateKeyPair("ed25519", {}, done));
     const [, signature] = await noted((name, error, signed) => log(name, error, signed.length), "sign",
       (done) => crypto.sign(null, Buffer.from("x"), privateKey, done));
@@ -325,12 +326,12 @@ const SCENARIOS = {
     log(Object.keys(await WebAssembly.instantiate(bytes)),
       (await WebAssembly.compile(bytes)) instanceof WebAssembly.Module);
     log((await WebAssembly.instantiate(new WebAssembly.Module(bytes))) instanceof WebAssembly.Instance);
-    for (const act of [() => WebAssembly.compile(new Uint8Array([1, 2])),
+    const acts = [() => WebAssembly.compile(new Uint8Array([1, 2])),
       () => WebAssembly.instantiate(new Uint8Array([1, 2])), () => WebAssembly.compile(5),
       () => WebAssembly.instantiate(importing, {}), () => WebAssembly.instantiate(importing, { m: { f: 1 } }),
-        () => WebAssembly.instantiate(importing),
-      () => WebAssembly.instantiate(importing, { m: { f() {} } }).then((made) => Object.keys(made))]) await settled(log,
-      "wasm", act);
+      () => WebAssembly.instantiate(importing),
+      () => WebAssembly.instantiate(importing, { m: { f() {} } }).then((made) => Object.keys(made))];
+    for (const act of acts) await settled(log, "wasm", act);
   },
   "AsyncLocalStorage holds, and callbacks come later": async (at, log) => {
     const storage = new AsyncLocalStorage();

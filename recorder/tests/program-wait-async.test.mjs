@@ -50,7 +50,9 @@ describe("the line of waiters", () => {
           if (Atomics.notify(words, 0) !== 1) throw new Error("a notify counts promises of a thread that has ended");
           await own.value;
         });`,
-      "worker.mjs": `${WORKER}Atomics.waitAsync(words, 0, 0); Atomics.waitAsync(words, 0, 0, 1e6); parentPort.postMessage(0);
+      "worker.mjs": `${WORKER}Atomics.waitAsync(words, 0, 0);
+        Atomics.waitAsync(words, 0, 0, 1e6);
+        parentPort.postMessage(0);
         parentPort.on("message", () => {});`,
     }, { seeds: seedsTo(3) });
     assert.deepEqual(endingsOf(outcomes), ["finished: "]);
@@ -141,7 +143,8 @@ describe("a run that uses it", () => {
     });
     const words = [RECORD, "--program", path, "--seeds", "1..12", "--jobs", "1", "--bounds", "allow"];
     const { stdout } = await execute(process.execPath, words).catch((error) => error);
-    const [, counted] = /^(\d+) runs have no script, and weren't replayed: it has more than 16 threads and waits of /m.exec(stdout) ?? [];
+    const LEFT = /^(\d+) runs have no script, and weren't replayed: it has more than 16 threads and waits of /m;
+    const [, counted] = LEFT.exec(stdout) ?? [];
     assert.ok(Number(counted) > 1 && Number(counted) < 12, stdout);
     assert.match(stdout,
       new RegExp(`^${12 - Number(counted)} of 12 runs were replayed and judged by the simulator`, "m"));
@@ -151,7 +154,10 @@ describe("a run that uses it", () => {
     const files = {
       "main.mjs": `${MAIN}started(); started();
         for (let round = 0; round < 3; round += 1) await Atomics.waitAsync(words, 0, 0, 20).value;`,
-      "worker.mjs": `${WORKER}for (let round = 0; round < 3; round += 1) { Atomics.add(words, 1, 1); Atomics.notify(words, 0, 1); }`,
+      "worker.mjs": `${WORKER}for (let round = 0; round < 3; round += 1) {
+        Atomics.add(words, 1, 1);
+        Atomics.notify(words, 0, 1);
+      }`,
     };
     const seeds = seedsTo(6);
     const [once, again] = [await runsOf(context, files, { seeds }),

@@ -61,7 +61,8 @@ const plainOnes = () => [
   body: [...get(0), ...(kind === "store" ? get(1) : []), number, Math.log2(Number(size)), 8 * OFFSET],
 }));
 
-const lanes = (/** @type {number} */ number, /** @type {number[]} */ ...more) => [0xfd, ...(number > 127 ? [number, 1] : [number]), 0, 8 * OFFSET, ...more];
+const lanes = (/** @type {number} */ number, /** @type {number[]} */ ...more) =>
+  [0xfd, ...(number > 127 ? [number, 1] : [number]), 0, 8 * OFFSET, ...more];
 
 /** @returns {Each[]} those on vectors, whose results are made numbers, and those on many bytes */
 const others = () => [
@@ -125,11 +126,14 @@ function addressFor({ size, isAtomic }, draw) {
   return kind < 4 || !isAtomic ? (draw() >>> 5) % 32 : ((draw() >>> 5) % (32 / size)) * size;
 }
 
+/** Those of a part of a word. */
+const PARTS = VARIANTS.filter(([value, size]) => size !== (value === "i" ? 4 : 8));
+
 /**
  * Exchanges of a part of a word: what is expected has the lower bits that are there, and others above them or none.
  * @returns {(string | number)[][]}
  */
-const partsExchanged = () => VARIANTS.filter(([value, size]) => size !== (value === "i" ? 4 : 8)).flatMap(([value, size]) => {
+const partsExchanged = () => PARTS.flatMap(([value, size]) => {
   const shown = (/** @type {bigint} */ number) => (value === "i" ? Number(number) : String(number));
   const variant = `${value}${size}`;
   return [1n << (8n * BigInt(size)), 0n].flatMap((above) => [
@@ -225,7 +229,8 @@ describe("wait and notify", () => {
         const { exports: { wait32, wait64 } } = new WebAssembly.Instance(module, { env });
         const worker = workerOf({ memory, module });
         const begun = performance.now();
-        const found = [wait32(16, 1, -1n), wait64(16, 1n << 40n, -1n), wait32(16, 0, 0n), wait32(16, 0, 7_000_000_000n)];
+        const found = [[wait32, 1, -1n], [wait64, 1n << 40n, -1n], [wait32, 0, 0n], [wait32, 0, 7_000_000_000n]]
+          .map(([wait, value, time]) => wait(16, value, time));
         const passed = performance.now() - begun;
         if (found.join() !== "1,1,2,2") throw new Error("it slept with " + found);
         if (passed < 7000 || passed > 7001) throw new Error("it took " + passed);`,
@@ -267,9 +272,12 @@ describe("a module's memory, data and start", () => {
     const outcomes = await runsOf(context, {
       "main.mjs": `${MAIN}const { instance, module } = await WebAssembly.instantiate(${shown(bytes)});
         const { exports } = instance;
-        if (Object.keys(exports).join() !== "begin,read,memory" || !Object.isFrozen(exports)) throw new Error("it exports " + Object.keys(exports));
-        if (WebAssembly.Module.exports(module).length !== 3 || !(module instanceof WebAssembly.Module)) throw new Error("not as it was");
-        if (!(instance instanceof WebAssembly.Instance) || instance.constructor !== WebAssembly.Instance) throw new Error("no instance");
+        const names = Object.keys(exports).join();
+        if (names !== "begin,read,memory" || !Object.isFrozen(exports)) throw new Error("it exports " + names);
+        const isAsItWas = WebAssembly.Module.exports(module).length === 3 && module instanceof WebAssembly.Module;
+        if (!isAsItWas) throw new Error("not as it was");
+        const { Instance } = WebAssembly;
+        if (!(instance instanceof Instance) || instance.constructor !== Instance) throw new Error("no instance");
         if (exports.read(64) !== 5 || exports.read(32) !== 0x64636261) throw new Error("it has " + exports.read(32));
         const worker = workerOf(exports.memory);
         await ended(worker);
@@ -308,9 +316,15 @@ new Int32Array(workerData.buffer)[8] = 9;`,
         if (exports.grow(0) !== 1 || exports.grow(9) !== -1 || memory.grow(0) !== 1) throw new Error("not 1");
         const worker = new Worker(new URL("./worker.mjs", import.meta.url), { workerData: { memory, module } });
         while (exports.look(0) === 0) Atomics.wait(new Int32Array(memory.buffer), 0, 0, 5);
-        if (exports.size() !== 2 || exports.look(65540) !== 8 || memory.buffer.byteLength !== 131072) throw new Error("it has " + exports.size());
+        const hasGrown = exports.size() === 2 && exports.look(65540) === 8 && memory.buffer.byteLength === 131072;
+        if (!hasGrown) throw new Error("it has " + exports.size());
         if (exports.grow(1) !== 2 || exports.grow(1) !== -1) throw new Error("it grew");
-        try { memory.grow(1); throw new Error("it grew"); } catch (error) { if (!(error instanceof RangeError)) throw error; }`,
+        try {
+          memory.grow(1);
+          throw new Error("it grew");
+        } catch (error) {
+          if (!(error instanceof RangeError)) throw error;
+        }`,
       "worker.mjs": `${WORKER}if (exports.grow(1) !== 1) throw new Error("not 1");
         exports.put(65540, 8);
         exports.put(0, 1);`,
@@ -403,8 +417,9 @@ describe("--wasm-accesses", () => {
     const words = ["agents/naive-mutex.mjs", "--wasm-accesses", "relaxed"];
     const cwd = fileURLToPath(new URL("./", import.meta.url));
     const { status, stderr } = spawnSync(process.execPath, [RECORD, ...words], { cwd, encoding: "utf8" });
-    assert.deepEqual([status, stderr], [2, "record: --wasm-accesses needs --program: the shared memory of WebAssembly is "
-      + "recorded in programs alone\n"]);
+    const why = "record: --wasm-accesses needs --program: the shared memory of WebAssembly is recorded in programs "
+      + "alone\n";
+    assert.deepEqual([status, stderr], [2, why]);
   });
 });
 
@@ -430,7 +445,8 @@ describe("modules of WebAssembly", () => {
     const outcomes = await runsOf(context, {
       "main.mjs": `${MAIN}const bytes = ${shown(bytes)};\nnew WebAssembly.Module(bytes);`,
     });
-    assert.deepEqual(endingsOf(outcomes), ["failed: agent 0 compiled a module of WebAssembly that the recorder can't translate: "
-      + "it has data at a place that isn't constant, at main.mjs:7:1"]);
+    const why = "failed: agent 0 compiled a module of WebAssembly that the recorder can't translate: "
+      + "it has data at a place that isn't constant, at main.mjs:7:1";
+    assert.deepEqual(endingsOf(outcomes), [why]);
   });
 });

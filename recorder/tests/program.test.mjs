@@ -192,8 +192,11 @@ test("help names each option that there is", () => {
   const refused = (word) => why(word).startsWith("there is no option");
   const named = [...USAGE.matchAll(/^ {2}(?:-\w, )?(--[a-z-]+)/gm)].map(([, word]) => word);
   assert.deepEqual(named.filter(refused), []);
-  for (const option of ["strategy", "everywhere", "until-covered", "ordinary", "races", "bounds", "unrecorded", "clock", "timeouts", "fail-fast", "out", "jobs", "buffers",
-    "check", "help", "version"]) {
+  const options = [
+    "strategy", "everywhere", "until-covered", "ordinary", "races", "bounds", "unrecorded", "clock", "timeouts",
+    "fail-fast", "out", "jobs", "buffers", "check", "help", "version",
+  ];
+  for (const option of options) {
     assert.ok(named.includes(`--${option}`), option);
   }
   assert.ok(USAGE.split("\n").every((line) => line.length <= 120));
@@ -245,7 +248,7 @@ test("help is on standard output, with status 0", () => {
   assert.match(stdout, /^usage: node recorder\/record\.mjs MODULE /);
 });
 
-test("if standard output fails, the status is 3, and a line on standard error says so", withDevices, async (context) => {
+test("if standard output fails, the status is 3, and standard error says so", withDevices, async (context) => {
   const full = openSync("/dev/full", "w");
   context.after(() => closeSync(full));
   const stdio = ["ignore", full, "pipe"];
@@ -275,7 +278,8 @@ test("if standard output has no reader, the status is 3, and the failing run is 
 
 test("if the chosen native program isn't there, the status is 3; with --check 0 it isn't needed", () => {
   const inEnvironment = { env: WITHOUT_SABSIM };
-  for (const [words, options] of [[["--sabsim", NOWHERE], {}], [[], inEnvironment], [["--check", "7"], inEnvironment]]) {
+  const asked = [[["--sabsim", NOWHERE], {}], [[], inEnvironment], [["--check", "7"], inEnvironment]];
+  for (const [words, options] of asked) {
     const { status, stdout, stderr } = run(cases("nothing", ...words), options);
     assert.deepEqual([status, stdout, stderr], [3, "", `record: there is no program sabsim at ${NOWHERE}\n`]);
   }

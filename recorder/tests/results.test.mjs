@@ -38,7 +38,8 @@ test("tests that pass, fail and are left out are counted one by one, in suites t
 });
 
 test("a file without a test, or that ends early, has failed", (context) => {
-  const failing = ["", 'test("one", () => process.exit(0));', "throw new Error('at once');", "syntax error", 'test("one", () => process.exit(3));',
+  const failing = ["", 'test("one", () => process.exit(0));', "throw new Error('at once');", "syntax error",
+    'test("one", () => process.exit(3));',
     'test("one", () => {}); setTimeout(() => process.exit(1), 300); test("two", () => new Promise(() => {}));'];
   for (const code of failing) {
     const { failed, problems } = resultOf(context, code);

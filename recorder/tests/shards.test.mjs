@@ -245,7 +245,7 @@ test("the JSON summary reports a job that died, in its member `problems`", withS
   assert.ok(runs < 9, stdout);
 });
 
-test("a shard whose job dies in its first run has a JSON summary, which is joined to the others", withSignals, async (context) => {
+test("a shard whose job dies in its first run has a JSON summary for merging", withSignals, async (context) => {
   const module = agentsOf(temporaryFolder(context), `
     Atomics.add(new Int32Array(buffers[0]), 0, 1);
     if (process.env.RECORDER_TEST === "dies") process.kill(process.pid, "SIGKILL");

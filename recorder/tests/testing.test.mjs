@@ -111,7 +111,8 @@ test("a failing test shows seed, ending, its explained end, and where its files 
   assert.notEqual(from, -1, output);
   assert.deepEqual(lines.slice(from + 1, from + 4), [
     '  agent 0 waits at byte 4 of block 0: its call 19, ["wait", "Int32", 1, 0], at agents.mjs:12:60', "",
-    "Its last acts, as sabsim explains them (the move, the agent, how many of its calls had returned), and their lines:",
+    "Its last acts, as sabsim explains them (the move, the agent, how many of its calls had returned), "
+      + "and their lines:",
   ]);
   const end = lines.indexOf("", from + 4);
   assert.deepEqual(lines.slice(end - shown.length, end), shown.map((line) => `  ${line}`));

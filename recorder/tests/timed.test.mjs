@@ -146,7 +146,8 @@ describe("runs with timed waits", { concurrency: 2 }, () => {
       assert.deepEqual(endingsOf(outcomes), ["finished"]);
       const count = outcomes.filter(({ onlyByTime = [] }) => onlyByTime.length > 0).length;
       assert.ok(count > 0 && count < 50, `${count} runs`);
-      const line = `agent ${agent} went on at ${placeOf(text)} only because its 500 ms were over, in ${count} of 50 runs`;
+      const line = `agent ${agent} went on at ${placeOf(text)} only because its 500 ms were over, `
+        + `in ${count} of 50 runs`;
       assert.deepEqual(hiddenOf(outcomes), [line]);
     }
     const asleep = await outcomesOf("sleeps", 10);

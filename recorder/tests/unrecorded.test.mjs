@@ -156,7 +156,7 @@ describe("recorded memory in another thread is refused, whatever is done with or
   }
 });
 
-test("a test of agents fails at once where an agent would wait on memory of its own, and shows no acts", async (context) => {
+test("a test of agents fails at once where an agent would wait on its own memory, without acts", async (context) => {
   const out = temporaryFolder(context);
   const options = { module: MODULE, agents: 1, buffers: [16], args: ["waits"], seeds: 3, seconds: 600, out };
   const start = Date.now();
@@ -188,7 +188,8 @@ test("`init` and `check` of a module can't give recorded memory to a Worker eith
 
 /** @type {(what: string, line: number) => RegExp} */
 const abroad = (what, line) =>
-  new RegExp(`^agent 0 .* another thread, by ${what} at unrecorded\\.mjs:${line}:\\d+: nobody sees what that thread does; `);
+  new RegExp(`^agent 0 .* another thread, by ${what} at unrecorded\\.mjs:${line}:\\d+: `
+    + "nobody sees what that thread does; ");
 
 /** @type {(what: string, way: string, off?: number) => RegExp} */
 const untaken = (what, way, off = 0) =>

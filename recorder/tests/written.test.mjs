@@ -105,7 +105,8 @@ test("a test that fails, and --replay, have the values of the code", async (cont
   const module = join(folder, "ring.mjs");
   writeFileSync(module, readFileSync(RING, "utf8"));
   const out = join(folder, "found");
-  await assert.rejects(assertAgents({ module, ...SMALL, seeds: "1..40", strategy: "uniform", out, jobs: 1 }), ({ message }) => {
+  const given = { module, ...SMALL, seeds: "1..40", strategy: "uniform", out, jobs: 1 };
+  await assert.rejects(assertAgents(given), ({ message }) => {
     const [, acts] = message.split("Its last acts");
     assert.match(acts, /^[ >]+\d+ 0 \d+ write +writes samples\[[01]\], .+ from [\d.]+ to \d\.25, at .+$/m);
     assert.doesNotMatch(message, /ordinary_|\d{12}n/);
@@ -181,7 +182,7 @@ test("what an ordinary read has read is in no trace: sabsim's judge takes no suc
   assert.deepEqual(accesses.made.map(([event]) => event), ordinary.map(({ event }) => event));
 });
 
-test("the headline of a page and its timeline name an element in the same way, with names and without", async (context) => {
+test("the headline of a page and its timeline name an element alike, with names and without", async (context) => {
   const code = readFileSync(RING, "utf8");
   const nameless = join(temporaryFolder(context), "ring.mjs");
   writeFileSync(nameless, code.replace(/, names: .*\} \};/, " };"));
@@ -324,8 +325,9 @@ test("a kept page says its module, options and versions, and its command makes t
   assert.equal(made.status, 1, made.stderr);
   const name = readdirSync(join(folder, "found")).find((each) => each.endsWith(".html"));
   // The explained report has bits there. A line beside the kept files says so.
-  assert.match(made.stdout, new RegExp("\\nin seed-(\\d+)\\.explained and seed-\\1\\.svg a float that was written without " +
-    "Atomics is the whole number with the same bits\\n$"));
+  const said = "\\nin seed-(\\d+)\\.explained and seed-\\1\\.svg a float that was written without "
+    + "Atomics is the whole number with the same bits\\n$";
+  assert.match(made.stdout, new RegExp(said));
   const { about, command, seed } = dataOf(join(folder, "found", name));
   assert.deepEqual([about.module, about.options], ["src/ring.mjs", "--strategy uniform --timeouts 0.5"]);
   const { version } = JSON.parse(readFileSync(new URL("../../package.json", import.meta.url), "utf8"));

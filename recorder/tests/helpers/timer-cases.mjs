@@ -248,7 +248,7 @@ cases["what the recorder does later is no immediate or timer of the run"] = asyn
   assert.deepEqual(counts(), [0, false, Infinity]);
 };
 
-cases["of timers that are due at the same time, the list of the duration that was asked for first comes first"] = () => {
+cases["of timers that are due at the same time, the list of the duration asked for first comes first"] = () => {
   const loop = new Loop();
   const ran = [];
   own.setTimeout(() => ran.push("10 at 0"), 10);
