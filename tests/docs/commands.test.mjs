@@ -62,6 +62,7 @@ const COMMANDS = [
   ["node recorder/sabsim.mjs judge --trace found/seed-3.trace.jsonl", { status: 5 }],
   ["node --test recorder/tests/nearest.test.mjs", { status: 0 }],
   ["SABSIM=crates/sabsim/out/sabsim node --test recorder/tests/traces.test.mjs", { status: 0, ...built }],
+  ["node --test tests/docs/lines.test.mjs", { status: 0 }],
   ["cd crates/sab_refusal && rt check", PROVES],
   ["cd crates/sab_refusal && rt check --only ReadFault::number", PROVES],
   ["tools/edits sab_refusal", PROVES],
