@@ -359,7 +359,7 @@ test("code of a worker with eval: true has its globals, and starts anew each tim
     import(${JSON.stringify(url)}).then((m) => console.log(m.e));
     console.log(new Error("x").stack.split("\\n")[1]);`;
   const [runs] = await ownRuns([code]);
-  const expected = ["1 b object true [worker eval] . true", "    at [worker eval]:4:17", "1"];
+  const expected = ["1 b object true [worker eval] . true", "    at [worker eval]:5:17", "1"];
   for (const run of runs) assert.deepEqual(run, expected);
 });
 
