@@ -10,7 +10,6 @@ import { fileURLToPath } from "node:url";
 import { merged, partsOf } from "../lib/command/merging.mjs";
 import { optionsOf } from "../lib/command/options.mjs";
 import { Refused } from "../lib/options/refused.mjs";
-import { Coverage } from "../lib/seeds/coverage.mjs";
 import { shardOf, united, without } from "../lib/seeds/ranges.mjs";
 import { commandHere } from "./helpers/command-here.mjs";
 import { RECORD, agentsOf, agentsPath, temporaryFolder } from "./helpers/common.mjs";
@@ -286,14 +285,6 @@ test("GNU parallel runs the shards, as docs/RECORDER.md shows it", withParallel,
   assert.equal(status, 1, stderr);
   const words = [RECORD, pathOf("recorder/examples/mutex-naive.agents.mjs"), "--seeds", "1..200"];
   assert.equal(stdout, spawnSync(process.execPath, words, { encoding: "utf8" }).stdout);
-});
-
-test("joined summaries join what the shards covered, and add up the accesses of unknown lines", () => {
-  const coverageOf = (pairs, unplaced, covered) => ({ pairs, last: 3, row: 500, unplaced, covered });
-  const one = Coverage.joined(undefined, coverageOf(["a > b"], 0, true));
-  assert.deepEqual(one.data(), { pairs: ["a > b"], last: null, row: null, unplaced: 0, covered: true });
-  const both = Coverage.joined(one, coverageOf(["b > a", "a > b"], 7, false));
-  assert.deepEqual(both.data(), { pairs: ["a > b", "b > a"], last: null, row: null, unplaced: 7, covered: false });
 });
 
 test("each part of a file is named by its line", (context) => {

@@ -275,7 +275,6 @@ test("the object of a summary has all that its text has, and what the text leave
     },
     sabsim: { asked: true, versions: ["module 123"], checked: 1, judges: true },
     scripts: { parts: 0, none: { listed: [{ why: "it is too long", runs: 1, first: 4 }], others: 0 } },
-    coverage: null,
     calls: 17,
     accesses: 21,
     unseen: [],

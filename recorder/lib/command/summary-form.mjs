@@ -98,9 +98,6 @@ const MEMBERS = object({
   states: object({ failing: states, passing: states }),
   sabsim: object({ asked: flag, versions: texts, checked: whole, judges: flag }),
   scripts: object({ parts: whole, none: listed({ why: text }) }),
-  coverage: orNull(object({
-    pairs: texts, last: orNull(whole), row: orNull(whole), unplaced: whole, covered: flag,
-  })),
   calls: whole,
   accesses: orNull(whole),
   unseen: texts,

@@ -117,8 +117,6 @@ export const OPTIONS = Object.freeze({
   fresh: { kind: FLAG, of: OF_MANY, ifNone: false, isShared: true,
     help: ["", "starts new workers for each seed"] },
   failFast: { kind: FLAG, of: OF_MANY, ifNone: false, isShared: true, help: ["", "ends at the first failing run"] },
-  untilCovered: { kind: FLAG, of: COMMAND, ifNone: false, isShared: true, help: ["", "ends when 500 seeds in a row "
-    + "have shown no new pair of lines that different agents ran one after the other at a place"] },
   checkEvery: { kind: whole(0, Number.MAX_SAFE_INTEGER), of: OF_MANY, ifNone: 1, isShared: true, word: "check",
     help: ["N", "the simulator checks every run that fails, and one in N of the others; 0: none at all"] },
   init: { kind: FUNCTION, of: LIBRARY },

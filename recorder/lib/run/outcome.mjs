@@ -52,13 +52,6 @@
  */
 
 /**
- * @typedef {object} Covering what an outcome has besides, if coverage is looked for
- * @property {string[]} [meetings] pairs of lines that came one after the other at a place, by different agents; those
- * that this group's runs before haven't shown
- * @property {number} [unplaced] of how many accesses the line isn't known
- */
-
-/**
  * @typedef {object} Wanting
  * @property {number} seed
  * @property {boolean} whole whether a run that finishes has answers, script and report too

@@ -43,7 +43,6 @@ import { unseenText } from "./unseen.mjs";
  * @property {number} seconds for how long an agent may make no call
  * @property {boolean} fresh
  * @property {boolean} trace
- * @property {boolean} [wantsMeetings]
  * @property {boolean} [isBrief] whether outcomes of runs that pass have no bytes and answers
  * @property {"watch" | "store" | "refuse"} ordinary
  * @property {"fail" | "allow"} races
