@@ -66,7 +66,7 @@ export interface FirstFailing {
   onlyIf: string | null;
   /** Why it has no script; null: it has one. */
   noScript: string | null;
-  /** Of a deadlock or a bound: where each agent is that hasn't ended. */
+  /** Of a deadlock or a limit that was met: where each agent is that hasn't ended. */
   standing: Standing[];
 }
 
@@ -102,7 +102,7 @@ export interface FinalState {
 }
 
 export interface Summary {
-  /** The number of this form: 3. */
+  /** The number of this form: 4. */
   summary: number;
   asked: Asked;
   /** The seeds that this summary is of. */

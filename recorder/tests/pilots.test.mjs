@@ -78,13 +78,13 @@ test("an agent that waits for what pilots couldn't see doesn't spin for ever", (
   assert.equal(status, 0, stdout);
 });
 
-test("pilots that meet a bound, that fail or that don't end let the runs be made all the same", async () => {
+test("pilots that meet a limit, that fail or that don't end let the runs be made all the same", async () => {
   const withPilots = { everywhere: false };
   const spins = await recordCase("spins", withPilots);
-  assert.deepEqual([spins.ending, /has made 1000 calls/.test(spins.detail)], ["bound", true]);
+  assert.deepEqual([spins.ending, /has made 1000 calls/.test(spins.detail)], ["limit", true]);
   const endless = await recordCase("loops", { ...withPilots, seconds: 1 });
   const silent = "agent 1 has made no call for 1 s: it is at cases.mjs:40:5";
-  assert.deepEqual([endless.ending, endless.detail], ["bound", silent]);
+  assert.deepEqual([endless.ending, endless.detail], ["limit", silent]);
   const init = () => {
     throw new Error("no");
   };
@@ -104,7 +104,7 @@ export default function agent({ agent }) {
 }
 `);
   const { ending } = await record({ module, sabsim: false, seconds: 1, everywhere: false });
-  assert.equal(ending, "bound");
+  assert.equal(ending, "limit");
   assert.equal(readFileSync(begun, "utf8"), "..", "in a pilot, and in the run");
 });
 

@@ -181,7 +181,7 @@ test("merge.mjs refuses files that aren't summaries, or don't fit together, with
     [[write("text", "15 of 200 runs failed\n")], /^merge: line 1 of .*text is no summary .*: it is no JSON\n/],
     [[write("number", "5")], /it isn't what `record\.mjs --format json` writes\n/],
     [[write("null", "null")], /it isn't what `record\.mjs --format json` writes\n/],
-    [[changed("form", { summary: 99 })], /it is of form 99, and this recorder writes and reads form 3\n/],
+    [[changed("form", { summary: 99 })], /it is of form 99, and this recorder writes and reads form 4\n/],
     [[changed("runs", { runs: "5" })], /its member runs is missing, or isn't what it must be\n/],
     [[changed("endings", { endings: { failing: [{ ending: "race", runs: 1 }], passing: [] } })],
       /its member endings\.failing\[0\]\.first is missing/],
@@ -289,6 +289,6 @@ test("GNU parallel runs the shards, as docs/RECORDER.md shows it", withParallel,
 
 test("each part of a file is named by its line", (context) => {
   const folder = temporaryFolder(context);
-  writeFileSync(join(folder, "two"), '{"summary":3}\n{"summary":4}\n');
+  writeFileSync(join(folder, "two"), '{"summary":4}\n{"summary":5}\n');
   assert.throws(() => partsOf(join(folder, "two")), /^Error: line 1 of .*two is no summary .*: its member asked is /);
 });

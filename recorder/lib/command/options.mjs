@@ -68,7 +68,7 @@ const SEEDS_OF_ALL = Object.freeze({ first: 1, last: 300 });
 
 /** For words that are no options any more: what they are, or what there is in their place. */
 const INSTEAD = new Map([
-  ["switch", "use --strategy switch:P"], ["v", "is -V meant?"],
+  ["switch", "use --strategy switch:P"], ["v", "is -V meant?"], ["bounds", "use --limits"],
   ["until-covered", "for a module of agents --all tries every schedule"],
 ]);
 

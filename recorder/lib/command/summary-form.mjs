@@ -7,7 +7,7 @@
  */
 
 /** The number of this form: another form has another number. */
-export const FORM = 3;
+export const FORM = 4;
 
 /** @typedef {(value: unknown, place: string) => string | undefined} Check it returns where a value isn't right */
 

@@ -92,7 +92,7 @@ export const OPTIONS = Object.freeze({
     ["HOW", "unordered accesses: two agents access a byte, at least one writes it, they don't both use Atomics on just "
     + "the same bytes, and nothing orders them. fail: a run that has some fails, with the ending race. allow: they are "
     + "only reported"]),
-  bounds: word(["fail", "allow"],
+  limits: word(["fail", "allow"],
     ["HOW", "a run that meets a limit, as one that spins. fail: it fails. allow: it is only reported"]),
   unrecorded: word(["fail", "allow"],
     ["HOW", "shared memory that isn't recorded, as a SharedArrayBuffer that the code makes itself. fail: a run in which "

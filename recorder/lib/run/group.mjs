@@ -52,7 +52,7 @@ import { TextMaker } from "./taken.mjs";
  * @property {boolean} fresh
  * @property {"watch" | "store" | "refuse"} [ordinary] what is done with ordinary reads and writes
  * @property {"fail" | "allow"} [races] whether a run that finishes and has unordered accesses fails
- * @property {"fail" | "allow"} [bounds] whether a run that meets a bound fails
+ * @property {"fail" | "allow"} [limits] whether a run that meets a limit fails
  * @property {"fail" | "allow"} [unrecorded] whether a run fails in which agents use shared memory that isn't recorded
  * @property {"run" | "real"} [clock] which time agents get
  * @property {boolean} [trace] whether each run has its trace
@@ -295,14 +295,14 @@ export class Group {
    */
   refereeOptions({ hasInit, hasCheck }) {
     const { init, check, module, seconds, fresh, trace, isBrief, ordinary } = this.options;
-    const { races, bounds, unrecorded } = this.options;
+    const { races, limits, unrecorded } = this.options;
     /** @type {(own: OfBuffers | undefined, isTheirs: boolean) => "library" | "module" | undefined} */
     const whose = (own, isTheirs) => {
       if (own !== undefined) return "library";
       return isTheirs ? "module" : undefined;
     };
     const asked = { init: whose(init, hasInit), check: whose(check, hasCheck) };
-    return { module, seconds, fresh, trace, isBrief, ordinary, races, bounds, unrecorded, ...asked };
+    return { module, seconds, fresh, trace, isBrief, ordinary, races, limits, unrecorded, ...asked };
   }
 
   /**

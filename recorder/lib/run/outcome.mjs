@@ -1,6 +1,6 @@
 // What is asked of one run, and its outcome: only types.
 
-/** @typedef {"finished" | "deadlock" | "stuck" | "failed" | "check" | "race" | "bound"} Ending */
+/** @typedef {"finished" | "deadlock" | "stuck" | "failed" | "check" | "race" | "limit"} Ending */
 
 /**
  * @typedef {object} Outcome of one run
