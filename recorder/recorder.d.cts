@@ -70,7 +70,7 @@ export interface RunOptions {
    */
   races?: "fail" | "allow";
   /** Whether a run that meets a limit fails; else "fail". */
-  bounds?: "fail" | "allow";
+  limits?: "fail" | "allow";
   /** The path of the native program, which checks runs in place of the module. False: runs aren't checked. */
   sabsim?: string | boolean;
   /** Whether the outcome has its trace. */
@@ -154,7 +154,7 @@ export type RecordOptions = RunOptions & OneRun & (OfModule | OfProgram);
 export type ExploreOptions = RunOptions & ManyRuns & (OfModule | OfProgram);
 
 /** How a run ended; `race`: it finished, `check` found nothing, and it has unordered accesses. */
-export type Ending = "finished" | "deadlock" | "stuck" | "failed" | "check" | "race" | "bound";
+export type Ending = "finished" | "deadlock" | "stuck" | "failed" | "check" | "race" | "limit";
 
 /** The outcome of a run. */
 export interface Outcome {
@@ -199,8 +199,8 @@ export interface Outcome {
    */
   failure?: { message: string[]; sources: string[] };
   /**
-   * Where each agent is that hasn't ended, if the run ended as `deadlock` or as `bound`: the one that has met
-   * the bound first, then those that wait, in order of arrival.
+   * Where each agent is that hasn't ended, if the run ended as `deadlock` or as `limit`: the one that has met
+   * the limit first, then those that wait, in order of arrival.
    */
   standing?: Standing[];
   /** Each event as an object of JSON, a line each. The first line may say that accesses are missing (`unseen`). */
@@ -260,7 +260,7 @@ export interface MemoryWindow {
 /** Where an agent is that hasn't ended. */
 export interface Standing {
   agent: number;
-  /** It waits for a notify, asks for a call, has met a bound by doing the same again and again, or in another way. */
+  /** It waits for a notify, asks for a call, has met a limit by doing the same again and again, or in another way. */
   does: "waits" | "asks" | "spins" | "runs";
   /** In which of its calls it waits, or for which it asks, counted from 0; null: it is in none. */
   call: number | null;

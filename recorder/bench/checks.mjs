@@ -42,7 +42,7 @@ const median = (list) => [...list].sort((one, other) => one - other)[Math.floor(
 class Course {
   /** @param {string} module its path @param {number} checkEvery @param {number} jobs */
   constructor(module, checkEvery, jobs) {
-    const options = { ...checkedOptions({ module, bounds: "allow" }, () => undefined), fresh: false, isBrief: true };
+    const options = { ...checkedOptions({ module, limits: "allow" }, () => undefined), fresh: false, isBrief: true };
     this.ahead = jobs * BATCH;
     const many = { first: 1, last: Number.MAX_SAFE_INTEGER, jobs, checkEvery, ahead: this.ahead };
     this.runs = new Runs({ ...options, ...many });

@@ -53,7 +53,7 @@ const once = (kinds) => [...new Set(kinds)].sort();
 /** @param {import("../lib/seeds/job.mjs").Checked} outcome of a real run @returns {string[]} what it finds */
 function kindsOf({ detail, ending, races }) {
   const threw = ending === "failed" && /^agent \d+ threw /.test(detail);
-  const kind = ending === "bound" ? "no way out" : ending;
+  const kind = ending === "limit" ? "no way out" : ending;
   const own = ending === "finished" || ending === "race" ? [] : [threw ? "threw" : kind];
   return races.length > 0 ? [...own, "race"] : own;
 }

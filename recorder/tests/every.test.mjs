@@ -283,7 +283,7 @@ test("an agent that catches everything is broken off", async (context) => {
 test("options that don't go with it are refused by name", async () => {
   const module = join(EXAMPLES, "mutex-naive.agents.mjs");
   for (const words of [
-    ["--until-covered"], ["--shard", "1/2"], ["--replay", "x.json"], ["--clock", "real"], ["--ordinary", "store"],
+    ["--shard", "1/2"], ["--replay", "x.json"], ["--clock", "real"], ["--ordinary", "store"],
     ["--ordinary", "refuse"], ["--races", "allow"], ["--unrecorded", "allow"], ["--timeouts", "0"],
   ]) {
     const done = await recorded(module, "--all", ...words);

@@ -133,11 +133,11 @@ test("the two endings are in words for people", () => {
   const run = { seed: 5, state: { hash: "a" }, acts: "b" };
   const thrown = { ...run, ending: "failed", detail: "agent 1 threw Error: no" };
   const stopped = { ...run, ending: "failed", detail: "agent 1 made no call for 10 s" };
-  const bound = { ...run, ending: "bound", detail: "the run has made 100 moves" };
+  const limited = { ...run, ending: "limit", detail: "the run has made 100 moves" };
   const check = { ...run, ending: "check", detail: "check returned false" };
   const pairs = [
-    [thrown, check, "threw, then check failed"], [stopped, bound, "stopped, then limit met"],
-    [bound, thrown, "limit met, then threw"],
+    [thrown, check, "threw, then check failed"], [stopped, limited, "stopped, then limit met"],
+    [limited, thrown, "limit met, then threw"],
   ];
   for (const [first, again, said] of pairs) {
     const found = differenceBetween(first, again);
@@ -156,7 +156,7 @@ test("joined summaries keep the difference of the lowest seed", (context) => {
     const asked = { module: "m.mjs", digest: "", seeds: [{ first: 1, last: 9 }], shard: null, options };
     const file = join(folder, `${seed}.json`);
     const seeds = [{ first: seed, last: seed + 1 }];
-    writeFileSync(file, JSON.stringify({ summary: 3, asked, seeds, ...summary.data() }));
+    writeFileSync(file, JSON.stringify({ summary: 4, asked, seeds, ...summary.data() }));
     return file;
   });
   assert.equal(merged(parts.flatMap(partsOf)).remembers.seed, 4);

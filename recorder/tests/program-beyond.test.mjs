@@ -65,7 +65,7 @@ describe("more than 1,000 calls of a thread", { concurrency: 3 }, () => {
   it("are a spin if they are the same again and again", async (context) => {
     const spins = `${ADDS}\nwhile (Atomics.load(words, 1) === 0);`;
     const [outcome] = await runsOf(context, filesOf(spins, ""));
-    assert.equal(outcome.ending, "bound");
+    assert.equal(outcome.ending, "limit");
     assert.match(outcome.detail, new RegExp("^agent 1 \\(worker\\.mjs, started at main\\.mjs:3:1\\) spins at "
       + "worker\\.mjs:3:16: it has made 2000 calls, and goes on"));
   });
@@ -93,7 +93,7 @@ describe("more than 1,000 calls of a thread", { concurrency: 3 }, () => {
     const files = filesOf("while (Atomics.load(words, 1) === 0);", "");
     const main = `${files["main.mjs"]}\nwhile (Atomics.load(words, 0) === 0);`;
     for (const outcome of await runsOf(context, { ...files, "main.mjs": main }, { seeds: [1, 2, 3] })) {
-      assert.equal(outcome.ending, "bound");
+      assert.equal(outcome.ending, "limit");
       assert.match(outcome.detail,
         /^agent \d (\(.*\) )?spins at (main\.mjs:6:16|worker\.mjs:2:16): it has made [23]000 calls/);
     }
@@ -193,7 +193,7 @@ if (Math.random() < 0.5) {
     files["main.mjs"] = files["main.mjs"].replace(/^const woken.*$/m, "");
     // The spin is found by the number of reads, so the limit of time has to be out of the way.
     const [{ ending, detail }] = await runsOf(context, files, { options: { seconds: 3_600 } });
-    assert.equal(ending, "bound");
+    assert.equal(ending, "limit");
     assert.match(detail, /spins at main\.mjs:7:19: it reads the same bytes again and again/);
   });
 

@@ -208,6 +208,9 @@ test("a file that is no kept run of a program is refused, and so is a program th
   }
   // The numbers from 16 on are those of agents to which real answers come.
   assert.deepEqual(keptProgram(JSON.stringify({ ...right, row: [[31, 1], [0, 2]] }), file).row, [31, 0, 0]);
+  // An earlier version called the option `bounds`.
+  const before = keptProgram(JSON.stringify({ ...right, options: { bounds: "allow" } }), file);
+  assert.deepEqual(before.options, { limits: "allow" });
   const { script } = keptProgram(JSON.stringify({ ...right, script: { file: "seed-1.json", row: "another" } }), file);
   assert.equal(script, undefined);
   writeFileSync(file, JSON.stringify(right));

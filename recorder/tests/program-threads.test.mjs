@@ -199,7 +199,7 @@ describe("a thread is replaced", { concurrency: 3 }, () => {
 
   it("if its code makes no call", async (context) => {
     const files = { ...EXITS, "worker.mjs": "for (;;);" };
-    assert.deepEqual(await replacedIn(context, files, { ending: "bound", seconds: 1 }), [1]);
+    assert.deepEqual(await replacedIn(context, files, { ending: "limit", seconds: 1 }), [1]);
   });
 
   it("before a run that wants fresh threads, also if it takes no part", async (context) => {

@@ -183,7 +183,7 @@ new Worker(new URL("./worker.mjs", import.meta.url), { workerData: grows });
 while (grows.byteLength < 16);`,
       "worker.mjs": 'import { workerData } from "node:worker_threads";\nAtomics.load(new Int32Array(workerData), 0);',
     });
-    assert.equal(ending, "bound");
+    assert.equal(ending, "limit");
     assert.match(detail, /spins at main\.mjs:4:14/);
   });
 

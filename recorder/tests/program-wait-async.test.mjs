@@ -141,7 +141,7 @@ describe("a run that uses it", () => {
         await Promise.all(all);`,
       "worker.mjs": `${WORKER}while (Atomics.load(words, 1) === 0); Atomics.notify(words, 0);`,
     });
-    const words = [RECORD, "--program", path, "--seeds", "1..12", "--jobs", "1", "--bounds", "allow"];
+    const words = [RECORD, "--program", path, "--seeds", "1..12", "--jobs", "1", "--limits", "allow"];
     const { stdout } = await execute(process.execPath, words).catch((error) => error);
     const LEFT = /^(\d+) runs have no script, and weren't replayed: it has more than 16 threads and waits of /m;
     const [, counted] = LEFT.exec(stdout) ?? [];

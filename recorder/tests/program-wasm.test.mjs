@@ -407,7 +407,7 @@ describe("findings", () => {
       "main.mjs": `${MAIN}workerOf({ memory, module: new WebAssembly.Module(${shown(bytes)}) });`,
       "worker.mjs": `${WORKER}exports.spin(64);`,
     });
-    assert.equal(outcomes[0].ending, "bound");
+    assert.equal(outcomes[0].ending, "limit");
     assert.match(outcomes[0].detail, /spins at wasm:spin:1:\d+/);
   });
 });

@@ -114,14 +114,14 @@ test("an agent that returns a promise fails the run", async () => {
 
 test("an agent that spins for ever meets the limit of calls, or of moves", async () => {
   const calls = await recordCase("spins", { sabsim: CHECKER });
-  assert.equal(calls.ending, "bound");
+  assert.equal(calls.ending, "limit");
   const [spin, other] = calls.detail.split("\n");
   assert.match(spin, /^agent [01] spins at cases\.mjs:35:\d+: it has made 1000 calls, and goes on$/);
   assert.match(other, /^agent [01] asks for its call \d+, at cases\.mjs:35:\d+$/);
   assert.equal(Math.max(...calls.progress.map((agent) => agent.calls)), 1_000);
   const moves = await recordCase("spins", { sabsim: CHECKER, maxMoves: 100 });
   const [limit, ...agents] = moves.detail.split("\n");
-  assert.deepEqual([moves.ending, limit, moves.moves], ["bound", "more than 100 moves would be made", 99]);
+  assert.deepEqual([moves.ending, limit, moves.moves], ["limit", "more than 100 moves would be made", 99]);
   assert.deepEqual(agents.map((line) => line.replace(/call \d+/, "call N")), [
     "agent 0 asks for its call N, at cases.mjs:35:20", "agent 1 asks for its call N, at cases.mjs:35:20",
   ]);
@@ -130,13 +130,13 @@ test("an agent that spins for ever meets the limit of calls, or of moves", async
 test("an agent that makes no call meets the limit of seconds", async () => {
   const outcome = await recordCase("loops", { sabsim: CHECKER, seconds: 1.5 });
   const detail = "agent 1 has made no call for 1.5 s: it is at cases.mjs:40:5";
-  assert.deepEqual([outcome.ending, outcome.detail], ["bound", detail]);
+  assert.deepEqual([outcome.ending, outcome.detail], ["limit", detail]);
 });
 
-test("more typed arrays than a script can have are a bound", async () => {
+test("more typed arrays than a script can have are a limit", async () => {
   const outcome = await recordCase("manyViews", { sabsim: CHECKER, agents: 1, buffers: [70] });
   const detail = "more than 64 different typed arrays were used: agent 0 is at cases.mjs:76:54";
-  assert.deepEqual([outcome.ending, outcome.detail], ["bound", detail]);
+  assert.deepEqual([outcome.ending, outcome.detail], ["limit", detail]);
   assert.equal(JSON.parse(outcome.script).views.length, 64);
 });
 
@@ -152,10 +152,10 @@ const runsOfSixteen = () => {
   return bySixteen;
 };
 
-test("a script that would be too long is a bound", async () => {
+test("a script that would be too long is a limit", async () => {
   const [, outcome] = await runsOfSixteen();
   const [limit] = outcome.detail.split("\n");
-  assert.equal(outcome.ending, "bound");
+  assert.equal(outcome.ending, "limit");
   assert.match(limit, /^the script would be longer than 1048576 bytes: agent \d+ is at cases\.mjs:81:\d+$/);
   assert.ok(outcome.script.length > 900_000 && outcome.script.length <= 1_048_576, `${outcome.script.length} bytes`);
 });

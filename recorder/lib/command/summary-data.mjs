@@ -50,7 +50,6 @@
  * @property {Record<"failing" | "passing", FailingListed<State & { hash: string }>>} states
  * @property {CheckedBy} sabsim
  * @property {{ parts: number, none: Listed<{ why: string }> }} scripts
- * @property {import("../seeds/coverage.mjs").Covered | null} coverage null: it wasn't looked for
  * @property {number} calls
  * @property {number | null} accesses null: they weren't seen
  * @property {string[]} unseen

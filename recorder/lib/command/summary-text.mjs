@@ -25,7 +25,7 @@ export function summaryText(summary) {
     lines.push(...hiddenLines(summary), ...unrecordedLines(summary), ...realLines(summary));
     lines.push(...rememberingLines(summary));
     lines.push(...stateLines(summary));
-    lines.push(...coverageLines(summary), ...checkLines(summary), ...scriptLines(summary), accessLine(summary));
+    lines.push(...checkLines(summary), ...scriptLines(summary), accessLine(summary));
     lines.push(...unseen, ...untriedNodes.map(untriedText));
   }
   if (kept !== null) lines.push(`kept in ${kept.folder}: ${kept.files.join(", ")}`, ...kept.notes ?? []);
@@ -138,19 +138,6 @@ function stateLines(summary) {
   const many = countedOf(failed.length + passed.length, "final state", others);
   const what = [...failed, ...passed].some(({ named }) => named !== null) ? "the values" : "the bytes";
   return [`${many}: how it ended, and ${what}`, ...lines.map(indented), ...othersLines(others)];
-}
-
-/** @param {SummaryData} summary */
-function coverageLines({ coverage }) {
-  if (coverage === null) return [];
-  const { pairs, last, row, unplaced, covered } = coverage;
-  const seen = `${counted(pairs.length, "pair")} of lines that different agents ran one after the other at a place`;
-  const newest = last === null ? "" : `the last new one in seed ${last}, `;
-  const since = row === null ? "" : `none in ${counted(row, "seed")} since: `;
-  const enough = indented(`${newest}${since}${covered ? "" : "not "}covered`);
-  if (unplaced === 0) return [seen, enough];
-  const accesses = counted(unplaced, "access", "accesses");
-  return [seen, indented(`of ${accesses} the line isn't known, so pairs may be missing`), enough];
 }
 
 /** The forms of the simulator, by the first word of a version. */

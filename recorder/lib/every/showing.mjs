@@ -62,7 +62,7 @@ function isShownBy({ kind, text, goesOn }, { ending, detail, races, stray }) {
   switch (kind) {
     case "deadlock": return ending === "deadlock";
     case "race": return races.length > 0;
-    case "no way out": return ending === "bound";
+    case "no way out": return ending === "limit";
     case "check": return ending === "check";
     default: return ending === "failed" && plain(detail).includes(plain(text));
   }

@@ -24,7 +24,7 @@ import { moduleUrlOf } from "./module-url.mjs";
  * @property {number} [maxMoves] at most 100,000
  * @property {number} [seconds] for how long an agent may make no call
  * @property {"fail" | "allow"} [races] whether a run with unordered accesses fails; else "fail"
- * @property {"fail" | "allow"} [bounds] whether a run that meets a bound fails; else "fail"
+ * @property {"fail" | "allow"} [limits] whether a run that meets a limit fails; else "fail"
  * @property {string | boolean} [sabsim] the path of the native program, which then checks in place of the module;
  * false: runs aren't checked
  * @property {boolean} [trace] whether the outcome has its trace
@@ -88,6 +88,9 @@ import { moduleUrlOf } from "./module-url.mjs";
 /** @typedef {TrialRuns & OfModule} TrialOptions */
 /** @typedef {TrialRuns & OfProgram} ProgramTrialOptions */
 
+/** What there is in place of options that earlier versions had. */
+const INSTEAD = new Map([["switch", 'use `strategy: "switch:P"`'], ["bounds", "use `limits`"]]);
+
 /**
  * @param {unknown} options
  * @param {import("../options/table.mjs").Taker} taker
@@ -101,7 +104,7 @@ function checkedBy(options, taker, callersFolder) {
   for (const [name, value] of Object.entries(options)) {
     const kind = rows.get(name)?.kind;
     if (kind === undefined) {
-      const instead = name === "switch" ? 'use `strategy: "switch:P"`' : meant(name, [...rows.keys()]);
+      const instead = INSTEAD.get(name) ?? meant(name, [...rows.keys()]);
       throw new Refused(`there is no option \`${name}\`: ${instead}`);
     }
     if (value !== undefined) checked[name] = kind.value(value, `\`${name}\``);

@@ -8,7 +8,7 @@ const NOT_YET = "it isn't there for programs yet";
 /** Options that are about agents and their buffers, or that programs can't have yet; and why. */
 const WITHOUT = Object.freeze({
   agents: AGENTS_ONLY, buffers: AGENTS_ONLY, noBlock: AGENTS_ONLY, unrecorded: AGENTS_ONLY, init: AGENTS_ONLY,
-  check: AGENTS_ONLY, ordinary: NOT_YET, clock: NOT_YET, untilCovered: NOT_YET,
+  check: AGENTS_ONLY, ordinary: NOT_YET, clock: NOT_YET,
 });
 
 /** Options that are about programs alone; and why. */

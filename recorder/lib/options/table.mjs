@@ -94,7 +94,7 @@ export const OPTIONS = Object.freeze({
     ["HOW", "unordered accesses: two agents access a byte, at least one writes it, they don't both use Atomics on just "
     + "the same bytes, and nothing orders them. fail: a run that has some fails, with the ending race. allow: they are "
     + "only reported"]),
-  bounds: word(["fail", "allow"],
+  limits: word(["fail", "allow"],
     ["HOW", "a run that meets a limit, as one that spins. fail: it fails. allow: it is only reported"]),
   unrecorded: word(["fail", "allow"],
     ["HOW", "shared memory that isn't recorded, as a SharedArrayBuffer that the code makes itself. fail: a run in "
@@ -119,8 +119,6 @@ export const OPTIONS = Object.freeze({
   fresh: { kind: FLAG, of: OF_MANY, ifNone: false, isShared: true,
     help: ["", "starts new workers for each seed"] },
   failFast: { kind: FLAG, of: OF_MANY, ifNone: false, isShared: true, help: ["", "ends at the first failing run"] },
-  untilCovered: { kind: FLAG, of: COMMAND, ifNone: false, isShared: true, help: ["", "ends when 500 seeds in a row "
-    + "have shown no new pair of lines that different agents ran one after the other at a place"] },
   checkEvery: { kind: whole(0, Number.MAX_SAFE_INTEGER), of: OF_MANY, ifNone: 1, isShared: true, word: "check",
     help: ["N", "the simulator checks every run that fails, and one in N of the others; 0: none at all"] },
   init: { kind: FUNCTION, of: LIBRARY },

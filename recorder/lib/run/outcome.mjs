@@ -1,6 +1,6 @@
 // What is asked of one run, and its outcome: only types.
 
-/** @typedef {"finished" | "deadlock" | "stuck" | "failed" | "check" | "race" | "bound"} Ending */
+/** @typedef {"finished" | "deadlock" | "stuck" | "failed" | "check" | "race" | "limit"} Ending */
 
 /**
  * @typedef {object} Outcome of one run
@@ -49,13 +49,6 @@
  * @property {number} agent
  * @property {string} text what its event loop begins, in words
  * @property {string | null} source where that was made: file, line and column
- */
-
-/**
- * @typedef {object} Covering what an outcome has besides, if coverage is looked for
- * @property {string[]} [meetings] pairs of lines that came one after the other at a place, by different agents; those
- * that this group's runs before haven't shown
- * @property {number} [unplaced] of how many accesses the line isn't known
  */
 
 /**

@@ -43,11 +43,10 @@ import { unseenText } from "./unseen.mjs";
  * @property {number} seconds for how long an agent may make no call
  * @property {boolean} fresh
  * @property {boolean} trace
- * @property {boolean} [wantsMeetings]
  * @property {boolean} [isBrief] whether outcomes of runs that pass have no bytes and answers
  * @property {"watch" | "store" | "refuse"} ordinary
  * @property {"fail" | "allow"} races
- * @property {"fail" | "allow"} bounds
+ * @property {"fail" | "allow"} limits
  * @property {"fail" | "allow"} unrecorded
  * @property {"library" | "module" | undefined} init whose it is, if there is one
  * @property {"library" | "module" | undefined} check whose it is, if there is one
@@ -126,15 +125,15 @@ export class RunMaker {
     if (this.program !== undefined) this.agents = this.program.learn();
     const stray = board.row.strayed();
     const bytes = memory.hex();
-    const isBound = result.ending === "bound";
-    const waiting = isBound || result.ending === "deadlock" ? board.line.waiting() : [];
-    const asking = isBound ? this.agents.filter((agent) => board.line.asks(agent)) : [];
-    const met = isBound ? board.end.met() : undefined;
+    const isAtLimit = result.ending === "limit";
+    const waiting = isAtLimit || result.ending === "deadlock" ? board.line.waiting() : [];
+    const asking = isAtLimit ? this.agents.filter((agent) => board.line.asks(agent)) : [];
+    const met = isAtLimit ? board.end.met() : undefined;
     const gone = this.#sentHome();
     const endless = gone.filter((agent) => !board.turn.isParked(agent));
     const racy = options.ordinary === "watch" && isRacy(this.log, plan.agents, plan.buffers.length);
     const isWhole = this.program !== undefined;
-    const named = isBound || isWhole ? sourceNames.withNames(this.#placed(result.detail)) : this.#named(result.detail);
+    const named = isAtLimit || isWhole ? sourceNames.withNames(this.#placed(result.detail)) : this.#named(result.detail);
     const told = [named, ...this.#standstillLines(result.ending)].filter((line) => line !== "");
     const detail = stray === undefined ? told.join("\n") : strayText(stray, named);
     const notes = this.agents.flatMap((agent) => this.notes[agent].read().map((note) => ({ ...note, agent })));

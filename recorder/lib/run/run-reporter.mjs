@@ -52,7 +52,7 @@ export class RunReporter {
     const draws = row.own();
     const unrecorded = unrecordedIn(found.unseen, this.sourceNames.placeName);
     const real = realIn(found.real ?? [], this.sourceNames.placeName);
-    const isAllowed = (ending === "bound" && options.bounds === "allow")
+    const isAllowed = (ending === "limit" && options.limits === "allow")
       || (ending === "stuck" && options.stuck === "allow");
     const fails = ending !== "finished" && !isAllowed;
     const early = deadlines.early();
@@ -259,7 +259,7 @@ export class RunReporter {
     const waits = waitsOf(waiting, transcript, sourceOf);
     const stands = [...waits.map(waitText), ...askingLines(asking, transcript, sourceOf)];
     outcome.detail = [detail, ...stands].filter((line) => line !== "").join("\n");
-    if (ending === "deadlock" || ending === "bound") {
+    if (ending === "deadlock" || ending === "limit") {
       outcome.standing = standingsOf({ met, waits, asking }, transcript, sourceOf);
     }
     if (!fails || ending === "race") return;
