@@ -182,7 +182,8 @@ test("the shortest run is made again once, or up to three times if it gets real 
 
 test("a run that met a limit, or whose worker died, isn't shortened", async (context) => {
   const limited = await shorten(undefined, { seed: 1, ending: "limit", detail: "agent 0 spins", calls: 1_000 });
-  assert.deepEqual([limited.shortest, limited.shortened.runs, limited.shortened.unchanged], [undefined, 0, "it met a limit"]);
+  assert.deepEqual([limited.shortest, limited.shortened.runs, limited.shortened.unchanged],
+    [undefined, 0, "it met a limit"]);
   const group = await groupOf(context, MODULE, { args: ["dies"] });
   const { shortest, shortened } = await shorten(group, await firstFailing(group));
   assert.deepEqual([shortest, shortened.unchanged], [undefined, "an agent's worker died"]);

@@ -133,7 +133,8 @@ export class RunMaker {
     const endless = gone.filter((agent) => !board.turn.isParked(agent));
     const racy = options.ordinary === "watch" && isRacy(this.log, plan.agents, plan.buffers.length);
     const isWhole = this.program !== undefined;
-    const named = isAtLimit || isWhole ? sourceNames.withNames(this.#placed(result.detail)) : this.#named(result.detail);
+    const isPlaced = isAtLimit || isWhole;
+    const named = isPlaced ? sourceNames.withNames(this.#placed(result.detail)) : this.#named(result.detail);
     const told = [named, ...this.#standstillLines(result.ending)].filter((line) => line !== "");
     const detail = stray === undefined ? told.join("\n") : strayText(stray, named);
     const notes = this.agents.flatMap((agent) => this.notes[agent].read().map((note) => ({ ...note, agent })));
