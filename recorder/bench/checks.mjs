@@ -45,7 +45,8 @@ class Course {
     const options = { ...checkedOptions({ module, limits: "allow" }, () => undefined), fresh: false, isBrief: true };
     this.ahead = jobs * BATCH;
     const many = { first: 1, last: Number.MAX_SAFE_INTEGER, jobs, checkEvery, ahead: this.ahead };
-    this.runs = new Runs({ ...options, ...many });
+    const all = /** @type {import("../lib/seeds/runs.mjs").RunsOptions} */ ({ ...options, ...many });
+    this.runs = new Runs(all);
     this.outcomes = this.runs.outcomes();
     /** @type {number[]} the milliseconds that each turn took */
     this.taken = [];
@@ -78,7 +79,7 @@ export async function measured(module, jobs, { turns, each, warm = WARM }) {
   try {
     for (const course of courses) await course.take(warm);
     for (let turn = 0; turn < turns; turn += 1) {
-      for (const course of turn % 2 === 0 ? courses : courses.toReversed()) await course.turn(each);
+      for (const course of turn % 2 === 0 ? courses : [...courses].reverse()) await course.turn(each);
     }
     const [unchecked, checked] = courses.map(({ taken }) => (1_000 * each) / median(taken));
     return { unchecked, checked };
@@ -116,6 +117,6 @@ if (isMain(import.meta.url)) {
     },
   }).values;
   const amount = { turns: Number(turns), each: Number(each) };
-  const paths = modules.split(",").map((path) => resolve(path));
+  const paths = modules.split(",").map((/** @type {string} */ path) => resolve(path));
   await printTable(paths, jobs.split(",").map(Number), amount, (line) => process.stdout.write(`${line}\n`));
 }

@@ -102,6 +102,7 @@ function rowOf(path) {
 /** Prints the table. */
 function table() {
   console.log(TITLE);
+  /** @type {number[]} */
   const closed = [];
   for (const path of Object.keys(TRIAL).filter((name) => name.includes(values.only))) {
     const { cells, isClosed, seconds } = rowOf(path);

@@ -27,7 +27,7 @@ function askedFor(words, known) {
   const { seeds = `${SEEDS}`, jobs = "1", only = "" } = values;
   const [most, side] = [Number(seeds), Number(jobs)];
   if (!(most > 0) || !(side > 0)) throw new Error("--seeds and --jobs must be numbers above 0");
-  const names = only.split(",");
+  const names = /** @type {string} */ (only).split(",");
   const all = known.filter(({ right, notYet }) => right && notYet === undefined);
   return { seeds: most, jobs: side, programs: all.filter(({ name }) => names.some((each) => name.startsWith(each))) };
 }

@@ -174,10 +174,10 @@ describe("an exit", () => {
   });
 
   it("with code 13 is shortened to one with the same line", async (context) => {
+    const code = "require('worker_threads').parentPort.postMessage(1)";
     const program = programOf(context, {
       "main.mjs": `import { Worker } from "node:worker_threads";
-        const code = "require('worker_threads').parentPort.postMessage(1)";
-        const workers = [0, 1].map(() => new Worker(code, { eval: true }));
+        const workers = [0, 1].map(() => new Worker("${code}", { eval: true }));
         const said = (worker) => new Promise((done) => worker.on("message", done));
         await said(workers[0]);
         await said(workers[1]);`,
