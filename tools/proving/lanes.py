@@ -61,8 +61,8 @@ class Lanes:
 
     def drop_hopeless(self):
         """Drops what waits for a task that ended badly, or was dropped."""
-        waits = lambda below: self.ended.get(below, below in self.left or self.is_running(below))
-        is_hopeless = lambda it: not all(map(waits, it.waits_for))
+        may_end_well = lambda below: self.ended.get(below, below in self.left or self.is_running(below))
+        is_hopeless = lambda it: not all(map(may_end_well, it.waits_for))
         while any(map(is_hopeless, self.left)):
             self.left = [it for it in self.left if not is_hopeless(it)]
 
