@@ -53,7 +53,7 @@ const once = (kinds) => [...new Set(kinds)].sort();
 /** @param {import("../lib/seeds/job.mjs").Checked} outcome of a real run @returns {string[]} what it finds */
 function kindsOf({ detail, ending, races }) {
   const threw = ending === "failed" && /^agent \d+ threw /.test(detail);
-  const kind = ending === "bound" ? "no way out" : ending;
+  const kind = ending === "limit" ? "no way out" : ending;
   const own = ending === "finished" || ending === "race" ? [] : [threw ? "threw" : kind];
   return races.length > 0 ? [...own, "race"] : own;
 }
@@ -102,6 +102,7 @@ function rowOf(path) {
 /** Prints the table. */
 function table() {
   console.log(TITLE);
+  /** @type {number[]} */
   const closed = [];
   for (const path of Object.keys(TRIAL).filter((name) => name.includes(values.only))) {
     const { cells, isClosed, seconds } = rowOf(path);

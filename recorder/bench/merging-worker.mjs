@@ -32,7 +32,8 @@ function both(url) {
     return isUnmergedToo ? { merged, unmerged: learned(code, true) } : { merged };
   } catch (problem) {
     asker.refused = undefined;
-    return { problem: `${problem.constructor.name}: ${problem.message}` };
+    const { constructor, message } = /** @type {Error} */ (problem);
+    return { problem: `${constructor.name}: ${message}` };
   }
 }
 

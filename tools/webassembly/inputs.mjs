@@ -126,7 +126,8 @@ export const COMMAND_LINES = [
   ["replay", "--help"], ["race", "--help"], ["judge", "--help"], ["check", "--help"], ["search", "--help"],
   ["replay", FILE], ["replay", "-"], ["replay", "--", FILE], ["replay", FILE, FILE], ["replay", "--format=json", FILE],
   ["replay", ""], ["replay", NOWHERE], ["replay", "/nowhere/with\nline"], ["replay", "\u00e9t\u00e9.json"],
-  ["replay", "--nothing"], ["replay", "--format"], ["replay", "--format", "nothing"], ["replay", "--format", "\u{1f600}"],
+  ["replay", "--nothing"], ["replay", "--format"], ["replay", "--format", "nothing"],
+  ["replay", "--format", "\u{1f600}"],
   ["replay", "--finish", "--finish"], ["replay", "--acts=1"],
   ["check", FILE], ["check", NOWHERE], ["check", "--explain"],
   ["judge", FILE], ["judge", "--format", "svg"], ["judge", "--trace", FILE], ["judge", "--trace", NOWHERE],
@@ -136,6 +137,7 @@ export const COMMAND_LINES = [
   ["search", AUTOMATA], ["search", "--states", AUTOMATA], ["search", "--format", "json", "--states", AUTOMATA],
   ["search", "--timeouts", "last", AUTOMATA], ["search", "--timeouts", "never", "--format", "json", AUTOMATA],
   ["search", "--limit", "3", AUTOMATA], ["search", "--limit", "4294967295", searched("mutex-of-3-agents")],
-  ["search", FILE], ["search", "--explain", FILE], ["search", NOWHERE], ["search"], ["search", "--limit", "0", AUTOMATA],
+  ["search", FILE], ["search", "--explain", FILE], ["search", NOWHERE], ["search"],
+  ["search", "--limit", "0", AUTOMATA],
   ["search", "--timeouts", "late", AUTOMATA], ["search", "--finish"],
 ];

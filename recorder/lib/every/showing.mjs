@@ -43,8 +43,8 @@ export async function shown(findings, options) {
 }
 
 /**
- * Behind a race, real runs may differ from a search that makes all accesses of a segment at once. So if a race is shown,
- * nothing else has to be. The first race has none before it, so it has to be shown.
+ * Behind a race, real runs may differ from a search that makes all accesses of a segment at once. So if a race is
+ * shown, nothing else has to be. The first race has none before it, so it has to be shown.
  * @param {Shown[]} found
  * @returns {Shown | undefined} the first that has to be shown and isn't
  */
@@ -62,7 +62,7 @@ function isShownBy({ kind, text, goesOn }, { ending, detail, races, stray }) {
   switch (kind) {
     case "deadlock": return ending === "deadlock";
     case "race": return races.length > 0;
-    case "no way out": return ending === "bound";
+    case "no way out": return ending === "limit";
     case "check": return ending === "check";
     default: return ending === "failed" && plain(detail).includes(plain(text));
   }

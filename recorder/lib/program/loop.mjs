@@ -47,7 +47,9 @@ export class Loop {
   /** Whether the thread looks for real answers before it begins a task: it hasn't done so in vain since it rested. */
   #mayLook = true;
 
-  /** Whether the real loop has turned since the thread did something: node may do more then, as http2 when it begins. */
+  /**
+   * Whether the real loop has turned since the thread did something: node may do more then, as http2 when it begins.
+   */
   #hasAwaited = false;
 
   /** Whether an answer is held back that has come. */
@@ -93,8 +95,8 @@ export class Loop {
   }
 
   /**
-   * Begins when the real loop turns. The thread's module is evaluated then, so that nothing real comes before its loop is
-   * there to take it.
+   * Begins when the real loop turns. The thread's module is evaluated then, so that nothing real comes before its loop
+   * is there to take it.
    * @param {() => void} evaluate begins to evaluate the module
    */
   begin(evaluate) {

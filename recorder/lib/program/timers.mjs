@@ -1,6 +1,6 @@
 // Timers and immediates of a thread whose time is the run's: node's own, over lower functions of the run. So those that
-// node itself starts, as for sockets, go by the run's time, too. Nothing runs by itself: the loop of the thread asks what
-// is due, and runs one callback after the other.
+// node itself starts, as for sockets, go by the run's time, too. Nothing runs by itself: the loop of the thread asks
+// what is due, and runs one callback after the other.
 
 import process from "node:process";
 import { apply, likeEngine, weakGet, weakSet } from "../primordials.mjs";

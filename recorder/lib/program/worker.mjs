@@ -84,7 +84,7 @@ const placeNames = new SourceNames(origin);
 
 /**
  * What the thread is; nothing before it knows which one.
- * @type {{ player: Player | undefined, buffers: Buffers | undefined, moves: Moves | undefined, start: Start | undefined }}
+ * @type {Partial<{ player: Player, buffers: Buffers, moves: Moves, start: Start }>}
  */
 const self = { player: undefined, buffers: undefined, moves: undefined, start: undefined };
 
@@ -133,7 +133,8 @@ const watching = {
   },
   isCalledByAgents,
   // There is no other way to watch a program.
-  refuse: (why) => refuse(`did something that the recorder can't record: ${why.replace(": --ordinary store lets it pass", "")}`),
+  refuse: (why) =>
+    refuse(`did something that the recorder can't record: ${why.replace(": --ordinary store lets it pass", "")}`),
 };
 
 /** Memory that no other thread can reach concerns no other thread: a program sleeps by a wait there. */
@@ -186,9 +187,7 @@ function playerOf(agent) {
 }
 
 /** @returns {Promise<any>} the next message, which mustn't have come yet */
-const nextMessage = () => new Promise((done) => {
-  port.once("message", done);
-});
+const nextMessage = () => new Promise((done) => port.once("message", done));
 
 /**
  * What the thread has of a run.
@@ -212,7 +211,8 @@ function partsOf(player, blocks, mesh) {
   const notes = new TaskNotes(shared.tasks);
   /** @type {import("./ends.mjs").Leaving["note"]} */
   const note = (text, place) => late.loop?.note(text, place);
-  const ports = new Ports({ agent, table, moves, buffers, mesh, here, refuse, later, note, noted: notingOf(board, notes) });
+  const noted = notingOf(board, notes);
+  const ports = new Ports({ agent, table, moves, buffers, mesh, here, refuse, later, note, noted });
   const isShown = () => board.words[WORD.IS_SILENT] === 0 && isPlaying();
   const spawned = new Children(new Pids(shared.pids[agent]), isShown);
   const real = new RealWork(new Notes(shared.notes[agent]), spawned, here);

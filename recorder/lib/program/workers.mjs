@@ -56,8 +56,8 @@ function typeError(message, code) {
 /** @param {unknown} file @param {any} options @returns {string} a URL, or the code that is to be evaluated */
 function urlOf(file, options) {
   if (options.eval) {
-    if (typeof file !== "string") throw typeError("options.eval must be false when 'filename' is not a string", "ERR_INVALID_ARG_VALUE");
-    return file;
+    if (typeof file === "string") return file;
+    throw typeError("options.eval must be false when 'filename' is not a string", "ERR_INVALID_ARG_VALUE");
   }
   if (file instanceof URL) {
     if (/^(?:file|data):/.test(file.href)) return file.href;
@@ -68,7 +68,8 @@ function urlOf(file, options) {
   }
   if (isAbsolute(file) || /^\.\.?[\\/]/.test(file)) return pathToFileURL(resolve(file)).href;
   throw typeError(`The worker script or module filename must be an absolute path or a relative path starting with `
-    + `'./' or '../'.${/^(?:file:|data:)/.test(file) ? " Wrap URLs with `new URL`." : ""} Received "${file}"`, "ERR_WORKER_PATH");
+    + `'./' or '../'.${/^(?:file:|data:)/.test(file) ? " Wrap URLs with `new URL`." : ""} Received "${file}"`,
+  "ERR_WORKER_PATH");
 }
 
 /** @param {any} options @returns {string} what `threadName` is */
@@ -115,7 +116,8 @@ function limitsOf({ resourceLimits }) {
   const limits = { ...LIMITS };
   LIMITED.forEach((name) => {
     const given = resourceLimits?.[name];
-    if (typeof given === "number") limits[name] = name === "maxOldGenerationSizeMb" ? Math.max(given, LEAST_OLD) : given;
+    if (typeof given !== "number") return;
+    limits[name] = name === "maxOldGenerationSizeMb" ? Math.max(given, LEAST_OLD) : given;
   });
   return limits;
 }
@@ -196,7 +198,9 @@ class Worker extends EventEmitter {
     nextTick(() => emit("worker", this));
   }
 
-  /** @param {boolean} isListening whether the program listens to its messages from now on; if not, they wait, as in node */
+  /**
+   * @param {boolean} isListening whether the program listens to its messages from now on; if not, they wait, as in node
+   */
   #listens(isListening) {
     if (!this.#isAlive) return;
     const { ports } = world();

@@ -1,5 +1,5 @@
-// Timers of whole programs: each scenario runs by node's own timers in a thread of its own, and by those of a run here, and
-// has to go alike. The functions `cases` are run by `program-timers.test.mjs`.
+// Timers of whole programs: each scenario runs by node's own timers in a thread of its own, and by those of a run here,
+// and has to go alike. The functions `cases` are run by `program-timers.test.mjs`.
 
 import assert from "node:assert/strict";
 import { AsyncLocalStorage } from "node:async_hooks";
@@ -248,7 +248,7 @@ cases["what the recorder does later is no immediate or timer of the run"] = asyn
   assert.deepEqual(counts(), [0, false, Infinity]);
 };
 
-cases["of timers that are due at the same time, the list of the duration that was asked for first comes first"] = () => {
+cases["of timers that are due at the same time, the list of the duration asked for first comes first"] = () => {
   const loop = new Loop();
   const ran = [];
   own.setTimeout(() => ran.push("10 at 0"), 10);
