@@ -237,9 +237,10 @@ describe("threads that are kept", () => {
       "main.mjs": `${MAIN}import { once } from "node:events";
         import { count } from "./count.mjs";
         import { createRequire } from "node:module";
-        import { getDefaultAutoSelectFamilyAttemptTimeout as time, setDefaultAutoSelectFamilyAttemptTimeout } from "node:net";
-        if (time() > 1_000) throw new Error("sockets aren't as node has them");
-        setDefaultAutoSelectFamilyAttemptTimeout(10 * time());
+        import net from "node:net";
+        const time = net.getDefaultAutoSelectFamilyAttemptTimeout();
+        if (time > 1_000) throw new Error("sockets aren't as node has them");
+        net.setDefaultAutoSelectFamilyAttemptTimeout(10 * time);
         const { counted } = createRequire(import.meta.url)("./counted.cjs");
         if (count() !== 1 || counted() !== 1) throw new Error("a module is still there");
         const isNew = process.listenerCount("mine") === 0 && !process.env.LEFT && !process.exitCode;

@@ -1,5 +1,5 @@
-// Results of zlib in whole programs are tasks: with a text and a place, and drawn among others. That they are as in node
-// show the programs of `programs/order`.
+// Results of zlib in whole programs are tasks: with a text and a place, and drawn among others. The programs of
+// `programs/order` show that they are as in node.
 
 import assert from "node:assert/strict";
 import { test } from "node:test";

@@ -2,9 +2,9 @@
 //
 // usage: node tests/published/fetch.mjs [NAME ..]
 //
-// Debian's packages come by apt-get. Its sources need lines for `deb-src` in apt's own list, for bookworm, trixie, forky
-// and sid. What is larger than 100 MB is fetched only if it is named. TypeScript needs tsc. What can't be fetched is
-// reported, and the status is 1 then.
+// Debian's packages come by apt-get. Its sources need lines for `deb-src` in apt's own list, for bookworm, trixie,
+// forky and sid. What is larger than 100 MB is fetched only if it is named. TypeScript needs tsc. What can't be fetched
+// is reported, and the status is 1 then.
 
 import { NotFetched, fetchSource } from "./fetching.mjs";
 import { productsOf } from "./table.mjs";

@@ -1,4 +1,4 @@
-// An immediate that doesn't keep the thread runs with others of its round, and never if no other thing keeps the thread.
+// An immediate that doesn't keep the thread runs with others of its round, and never if nothing else keeps the thread.
 setImmediate(() => {
   console.log("immediate");
   setImmediate(() => console.log("in the next round")).unref();

@@ -17,9 +17,11 @@ for (const [pack, unpack] of pairs.filter(([name]) => name in zlib)) {
     for await (const part of source) packed.push(part);
   });
   const unpacking = new zlib[unpack]();
-  const pieces = Buffer.concat(packed).toString("latin1").match(/[^]{1,777}/g).map((each) => Buffer.from(each, "latin1"));
+  const texts = Buffer.concat(packed).toString("latin1").match(/[^]{1,777}/g);
+  const pieces = texts.map((each) => Buffer.from(each, "latin1"));
   console.log(pack, packed.map(({ length }) => length).join(), packing.bytesWritten, pieces.length);
-  console.log((await buffer(Readable.from(pieces).pipe(unpacking))).equals(Buffer.concat([large, Buffer.from("text")])));
+  const unpacked = await buffer(Readable.from(pieces).pipe(unpacking));
+  console.log(unpacked.equals(Buffer.concat([large, Buffer.from("text")])));
 }
 
 // What was written is there as soon as it is flushed.
@@ -105,4 +107,5 @@ made.on("data", (part) => console.log(part.length, storage.getStore())).end();
 await once(made, "end");
 const packing = new Blob(["text ".repeat(1_000)]).stream().pipeThrough(new CompressionStream("gzip"));
 console.log((await text(packing.pipeThrough(new DecompressionStream("gzip")))).length);
-console.log(await text(new Blob(["bad"]).stream().pipeThrough(new DecompressionStream("deflate"))).catch(({ name, code }) => [name, code]));
+const bad = new Blob(["bad"]).stream().pipeThrough(new DecompressionStream("deflate"));
+console.log(await text(bad).catch(({ name, code }) => [name, code]));
