@@ -54,10 +54,10 @@ export function firstNotShown(found) {
 }
 
 /** @param {string} text @returns {string} without its numbers */
-const plain = (text) => text.replace(/-?\d+/g, "#");
+export const plain = (text) => text.replace(/-?\d+/g, "#");
 
 /** @param {Finding} finding @param {Outcome} outcome @returns {boolean} whether the run fails in that way */
-function isShownBy({ kind, text, goesOn }, { ending, detail, races, stray }) {
+export function isShownBy({ kind, text, goesOn }, { ending, detail, races, stray }) {
   if (stray !== undefined && !goesOn) return false;
   switch (kind) {
     case "deadlock": return ending === "deadlock";

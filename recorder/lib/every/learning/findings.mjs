@@ -1,10 +1,11 @@
 // What is found in the states of agents, and how each is shown: by the schedule with the fewest changes of agents.
 // Things that have the same message, without its numbers, are one finding.
 
-import { leftOpen, foundBy } from "../../agent/answer.mjs";
 import { DOES } from "../search/nodes.mjs";
 import { endingHere } from "../search/result.mjs";
 import { shortestTo } from "../search/shortest.mjs";
+import { problemOf } from "./problem.mjs";
+import { PART } from "./progress.mjs";
 
 /** @typedef {import("../search/nodes.mjs").Node} Node */
 /** @typedef {import("../search/search.mjs").Search} Search */
@@ -83,7 +84,7 @@ export class Findings {
 
   /** Calls `check` once for each different list of bytes at the end. */
   #check() {
-    const { learned: { exports: { check }, plan, bases, wanted: { args } }, search: { world } } = this;
+    const { learned: { asker, exports: { check }, plan, bases, wanted: { args } }, search: { world } } = this;
     if (check === undefined) return;
     for (const memory of this.kinds.finals.keys()) {
       const from = memory * world.memories.width;
@@ -93,7 +94,8 @@ export class Findings {
         new Uint8Array(buffer).set(bytes.subarray(from + bases[block], from + bases[block] + length));
         return buffer;
       });
-      const problem = problemOf(() => check(buffers, { agents: plan.agents, args: [...args] }));
+      const call = () => check(buffers, { agents: plan.agents, args: [...args] });
+      const problem = asker.watched(PART.CHECK, () => problemOf(call));
       if (problem !== undefined) this.problems.set(memory, problem);
     }
   }
@@ -163,15 +165,5 @@ export class Findings {
       else world.act(agent);
       return isOfCall;
     });
-  }
-}
-
-/** @param {() => unknown} check @returns {string | undefined} what it finds */
-function problemOf(check) {
-  try {
-    const answer = check();
-    return leftOpen(answer, "it") ?? foundBy(answer);
-  } catch (thrown) {
-    return `threw ${thrown instanceof Error ? String(thrown) : JSON.stringify(thrown)}`;
   }
 }
