@@ -25,7 +25,7 @@ export interface OfEvery {
 
 /** Something that was found in every schedule. */
 export interface FoundBySchedule {
-  kind: "deadlock" | "threw" | "check" | "race" | "no way out" | "bound" | "failed";
+  kind: "deadlock" | "threw" | "check" | "race" | "no way out" | "limit" | "failed";
   /** What was thrown, what `check` found, which lines race, or how a real run ended; empty if the kind says all. */
   text: string;
   /** In how many states it is; 0: only real runs have shown it. */

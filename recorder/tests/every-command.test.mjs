@@ -7,6 +7,7 @@ import { test } from "node:test";
 import { pathToFileURL } from "node:url";
 import { EverySession } from "../lib/command/every.mjs";
 import { optionsOf } from "../lib/command/options.mjs";
+import { withStreams } from "./helpers/command-here.mjs";
 import { commandThere, temporaryFolder } from "./helpers/common.mjs";
 
 const COUNTS = `export const setup = { agents: 2, buffers: [4] };
@@ -32,39 +33,25 @@ function moduleOf(context, text) {
 /**
  * What a search writes.
  * @param {import("node:test").TestContext} context
- * @param {{ isTerminal: boolean, after: number }} how whether standard error is a terminal; when progress is shown
+ * @param {{ isTerminal: boolean, after: number }} how whether it writes to a terminal; when progress is shown
  */
-async function written(context, { isTerminal, after }) {
-  const { stderr, stdout } = process;
+function written(context, { isTerminal, after }) {
   const module = moduleOf(context, COUNTS);
-  const texts = { problems: "", out: "" };
-  context.mock.method(stderr, "write", (/** @type {string} */ text) => void (texts.problems += text));
-  const wasTerminal = stderr.isTTY;
-  stderr.isTTY = isTerminal;
-  const session = new EverySession(optionsOf([module, "--all", "--seeds", "1..2", "--format", "json"]), pathToFileURL(module).href, after);
-  const write = context.mock.method(stdout, "write", (/** @type {string} */ text, /** @type {() => void} */ done) => {
-    texts.out += text;
-    done?.();
-    return true;
-  });
-  try {
-    await session.run();
-  } finally {
-    write.mock.restore();
-    stderr.isTTY = wasTerminal;
-    context.mock.reset();
-  }
-  return texts;
+  const options = /** @type {any} */ (optionsOf([module, "--all", "--seeds", "1..2", "--format", "json"]));
+  return withStreams(async () => {
+    const { failed } = await new EverySession(options, pathToFileURL(module).href, after).run();
+    return failed ? 1 : 0;
+  }, isTerminal);
 }
 
 test("a line of progress is on a terminal's standard error, after a while, and is taken away", async (context) => {
   const shown = await written(context, { isTerminal: true, after: 0 });
-  assert.match(shown.problems, /^(?:\r\x1b\[K\d+ states?, [012] of 2 real runs)+\r\x1b\[K$/);
-  assert.equal(JSON.parse(shown.out).closed, true);
+  assert.match(shown.stderr, /^(?:\r\x1b\[K\d+ states?, [012] of 2 real runs)+\r\x1b\[K$/);
+  assert.equal(JSON.parse(shown.stdout).closed, true);
   const early = await written(context, { isTerminal: true, after: 2 ** 30 });
-  assert.equal(early.problems, "\r\x1b[K");
+  assert.equal(early.stderr, "\r\x1b[K");
   const elsewhere = await written(context, { isTerminal: false, after: 0 });
-  assert.equal(elsewhere.problems, "");
+  assert.equal(elsewhere.stderr, "");
 });
 
 test("twenty kinds are shown and kept, and the others are counted", async (context) => {

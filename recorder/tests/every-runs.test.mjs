@@ -84,11 +84,11 @@ export default ({ buffers }) => void (new Int32Array(buffers[0])[0] += 1);
   assert.deepEqual(found, [[true, 2, 2], [false, 1, 1]]);
 });
 
-test("runs that meet a bound, or in which nothing was tried, are listed", async (context) => {
-  const bound = await recorded(moduleOf(context, COUNTS), "--all", "--seeds", "1..3", "--max-moves", "2");
-  assert.equal(bound.status, 1, bound.stderr);
-  assert.match(bound.stdout, /: agents can meet a bound\n {2}bound, in 3 of 3 real runs, seed 1 the first\n {4}more than 2 moves/);
-  const allowed = await recorded(moduleOf(context, COUNTS), "--all", "--seeds", "1..3", "--max-moves", "2", "--bounds", "allow");
+test("runs that meet a limit, or in which nothing was tried, are listed", async (context) => {
+  const met = await recorded(moduleOf(context, COUNTS), "--all", "--seeds", "1..3", "--max-moves", "2");
+  assert.equal(met.status, 1, met.stderr);
+  assert.match(met.stdout, /: agents can meet a limit\n {2}limit, in 3 of 3 real runs, seed 1 the first\n {4}more than 2 moves/);
+  const allowed = await recorded(moduleOf(context, COUNTS), "--all", "--seeds", "1..3", "--max-moves", "2", "--limits", "allow");
   assert.equal(allowed.status, 0, allowed.stderr);
   const module = moduleOf(context, "export const setup = { agents: 2, buffers: [4] };\nexport default () => {};\n");
   const { found } = await everySchedule({ module, seeds: 2 });
@@ -107,7 +107,7 @@ test("a run whose trace lacks accesses isn't compared, and the summary says so",
   const data = dataOf(await new Every({ ...options, logEvents: 2 }, {}).run());
   assert.deepEqual([data.realRuns, data.notCompared], [0, 2]);
   assert.match(everyText(data), /; 0 real runs agree, and 2 couldn't be compared\n/);
-  assert.deepEqual(data.found.map(({ kind, text }) => [kind, /no data race/.test(text)]), [["bound", false]]);
+  assert.deepEqual(data.found.map(({ kind, text }) => [kind, /no data race/.test(text)]), [["limit", false]]);
 });
 
 test("code that node loads first is refused, since nobody sees what it keeps", async (context) => {

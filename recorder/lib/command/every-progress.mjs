@@ -15,7 +15,7 @@ export class EveryProgress {
   constructor(every, runs, after = SHOWN_AFTER_MILLISECONDS) {
     this.every = every;
     this.runs = runs;
-    /** @type {NodeJS.Timeout | undefined} */
+    /** @type {ReturnType<typeof setTimeout> | undefined} */
     this.timer = process.stderr.isTTY ? setTimeout(() => this.#show(), after) : undefined;
   }
 

@@ -7,7 +7,7 @@ import { FinalStates } from "../run/final-state.mjs";
 
 /**
  * @typedef {object} FoundData
- * @property {"deadlock" | "threw" | "check" | "race" | "no way out" | "bound" | "failed"} kind
+ * @property {"deadlock" | "threw" | "check" | "race" | "no way out" | "limit" | "failed"} kind
  * @property {string} text what was thrown, what `check` found, which lines race, or how a real run ended; empty if the
  * kind says all
  * @property {number} states in how many states it is; 0: only real runs have shown it

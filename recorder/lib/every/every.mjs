@@ -36,9 +36,10 @@ import { firstNotShown, shown } from "./showing.mjs";
  * @property {number} milliseconds
  */
 
-const NO_RUNS = Object.freeze({
-  realRuns: 0, made: 0, onlyRuns: /** @type {import("./only-runs.mjs").OnlyRun[]} */ ([]),
-});
+/** @typedef {Pick<Tried, "realRuns" | "made" | "onlyRuns">} OfRuns */
+
+/** @type {OfRuns} */
+const NO_RUNS = Object.freeze({ realRuns: 0, made: 0, onlyRuns: [] });
 
 const KEEPS = "Its modules keep something from run to run: with --fresh, which begins them anew, it does as learned";
 const NOT_KNOWN = "It may go by chance, by a clock, or by something that isn't shown";
@@ -155,7 +156,7 @@ export class Every {
    * Compares the real runs, those that were made first.
    * @param {Report} report
    * @param {Promise<void>} running
-   * @returns {Promise<typeof NO_RUNS>} how many are ways through the automata, and what they alone have shown
+   * @returns {Promise<OfRuns>} how many are ways through the automata, and what they alone have shown
    */
   async #agreeing({ file, findings }, running) {
     const agreement = new Agreement(programOf(file));

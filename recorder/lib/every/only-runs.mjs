@@ -10,7 +10,7 @@ import { isShownBy, plain } from "./showing.mjs";
 
 /**
  * @typedef {object} OnlyRun
- * @property {"race" | "bound" | "failed"} kind
+ * @property {"race" | "limit" | "failed"} kind
  * @property {string} text which lines race, or else the first line of the run's detail
  * @property {number} runs how many end so
  * @property {Outcome} outcome of the first one
@@ -18,7 +18,7 @@ import { isShownBy, plain } from "./showing.mjs";
 
 /** The endings of runs that show a finding. */
 const ENDINGS = Object.freeze({
-  deadlock: "deadlock", threw: "failed", check: "check", race: "race", "no way out": "bound",
+  deadlock: "deadlock", threw: "failed", check: "check", race: "race", "no way out": "limit",
 });
 
 /** What a search that is closed finds of each run, by its ending, in words. */
@@ -49,7 +49,7 @@ export class OnlyRuns {
     if (!outcome.fails || this.findings.some((finding) => isOf(finding, outcome))) return;
     if (isWay) this.#needPossible(outcome);
     const { ending } = outcome;
-    const kind = ending === "race" || ending === "bound" ? ending : "failed";
+    const kind = ending === "race" || ending === "limit" ? ending : "failed";
     const text = textOf(outcome, isWay);
     const key = `${kind} ${kind === "race" ? text : plain(text)}`;
     const known = this.found.get(key) ?? { kind, text, runs: 0, outcome };

@@ -10,7 +10,7 @@ const MOST_LISTED = 8;
 /** What agents can do wrong, in the words of the first line. */
 const WORDS = Object.freeze({
   deadlock: "deadlock", threw: "throw", race: "race", check: "fail check", "no way out": "go on for ever",
-  bound: "meet a bound", failed: "fail in another way",
+  limit: "meet a limit", failed: "fail in another way",
 });
 
 /** @param {EveryData} data @returns {string} lines, each with its end */

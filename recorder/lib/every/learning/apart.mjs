@@ -120,7 +120,7 @@ export function beginAgain() {
 /**
  * Learns each edge once more, in the code as it is written.
  * @param {Omit<import("./again-worker.mjs").Given, "progress">} given
- * @param {{ seconds?: number, thread?: Thread }} [how] for how long an agent may make no call; one that was begun for it
+ * @param {{ seconds?: number, thread?: Thread }} how for how long an agent may make no call; one that was begun for it
  * @returns {Promise<string | undefined>} how it differs
  */
 export async function learnAgain(given, { seconds = Infinity, thread = beginAgain() } = {}) {
