@@ -56,6 +56,9 @@ export function firstNotShown(found) {
 /** @param {string} text @returns {string} without its numbers */
 export const plain = (text) => text.replace(/-?\d+/g, "#");
 
+/** @param {string} text @param {string} detail @returns {boolean} whether it says the same, except for numbers */
+const isText = (text, detail) => plain(detail).includes(plain(text));
+
 /** @param {Finding} finding @param {Outcome} outcome @returns {boolean} whether the run fails in that way */
 export function isShownBy({ kind, text, goesOn }, { ending, detail, races, stray }) {
   if (stray !== undefined && !goesOn) return false;
@@ -63,7 +66,7 @@ export function isShownBy({ kind, text, goesOn }, { ending, detail, races, stray
     case "deadlock": return ending === "deadlock";
     case "race": return races.length > 0;
     case "no way out": return ending === "limit";
-    case "check": return ending === "check";
-    default: return ending === "failed" && plain(detail).includes(plain(text));
+    case "check": return ending === "check" && isText(text, detail);
+    default: return ending === "failed" && isText(text, detail);
   }
 }

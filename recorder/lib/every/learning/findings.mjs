@@ -4,8 +4,8 @@
 import { DOES } from "../search/nodes.mjs";
 import { endingHere } from "../search/result.mjs";
 import { shortestTo } from "../search/shortest.mjs";
-import { problemOf } from "./problem.mjs";
 import { PART } from "./progress.mjs";
+import { problemOf } from "./thrown.mjs";
 
 /** @typedef {import("../search/nodes.mjs").Node} Node */
 /** @typedef {import("../search/search.mjs").Search} Search */

@@ -6,8 +6,8 @@ import { basesOf } from "../search/file.mjs";
 import { Search } from "../search/search.mjs";
 import { CantLearn } from "./asked.mjs";
 import { Learner, LooksAtNumber } from "./learner.mjs";
-import { problemOf } from "./problem.mjs";
 import { PART } from "./progress.mjs";
+import { problemOf } from "./thrown.mjs";
 
 /** @typedef {import("../search/world.mjs").Program} Program */
 /** @typedef {import("./code.mjs").Code} Code */

@@ -2,15 +2,14 @@
 // that leads to its node. Two histories are one node only if all that the agent keeps is the same.
 
 import { leftOpen } from "../../agent/answer.mjs";
-import { NOT_SHOWN, described, titleOf } from "../../agent/described.mjs";
 import { defineProperty } from "../../primordials.mjs";
-import { OWN_NAMES } from "../rewriting/naming.mjs";
 import { CantShow } from "../state/walk.mjs";
 import { DONE, DOES, isCall, nodeOf } from "../search/nodes.mjs";
 import { nodeText } from "../search/text.mjs";
 import { CantLearn, askedEnd, isSame, keyOf } from "./asked.mjs";
 import { accessed, cantText } from "./asking.mjs";
 import { PART } from "./progress.mjs";
+import { namesRewritten, thrownText } from "./thrown.mjs";
 
 /** @typedef {import("../search/nodes.mjs").Node} Node */
 /** @typedef {import("../search/nodes.mjs").Answer} Answer */
@@ -181,8 +180,8 @@ export class Learner {
   /** @param {unknown} thrown by the agent @returns {string} without its stack */
   #titleOf(thrown) {
     const title = thrownText(thrown);
-    if (!(thrown instanceof TypeError) || !OWN_NAMES.test(title)) return title;
-    throw new CantLearn(cantText(NAMES_REWRITTEN, this.lineOfError(thrown)), true);
+    if (!namesRewritten(thrown, title)) return title;
+    throw new CantLearn(cantText(NAMES_REWRITTEN, this.lineOfError(/** @type {Error} */ (thrown))), true);
   }
 
   /**
@@ -341,16 +340,3 @@ export class NotTheSame extends Error {}
 /** @param {number} at @param {Node} node @param {Asked} asked */
 const differenceText = (at, node, asked) =>
   `at step ${at} ${nodeText(node)} was learned, and now it is ${nodeText(/** @type {Node} */ (asked))}`;
-
-/** @param {unknown} thrown @returns {string} without its stack */
-function thrownText(thrown) {
-  if (!(thrown instanceof Error)) return described(thrown);
-  // The message of an `assert(x)` without a text is made of the code there, which was rewritten.
-  const { code, generatedMessage, operator } = /** @type {any} */ (thrown);
-  if (code === "ERR_ASSERTION" && generatedMessage === true && operator === "==") return `${thrown.name} [${code}]`;
-  try {
-    return titleOf(thrown);
-  } catch {
-    return NOT_SHOWN;
-  }
-}
