@@ -45,7 +45,7 @@ function spin() { runs += 1; if (runs > 1) for (;;); }
 `);
   const problem = await everySchedule({ module, seeds: 1, seconds: 1 }).catch((error) => error);
   assert.ok(problem instanceof NotAsLearned, problem);
-  assert.match(problem.message, /than was learned\. There an agent .* didn't come back within 1 s: .* keep something from run/);
+  assert.match(problem.message, /than was learned\. There an agent .* didn't come back within 1 s: .* keep something /);
 });
 
 test("a module that throws, or asks for a random number, while it is loaded is refused", async (context) => {
@@ -53,7 +53,8 @@ test("a module that throws, or asks for a random number, while it is loaded is r
     ["throw new Error('no module');\n", /agents\.mjs can't be loaded: Error: no module$/],
     ["const chance = Math.random();\n", /it asks for a random number, at agents\.mjs:1:21$/],
   ])) {
-    const problem = await everySchedule({ module: moduleOf(context, begins + COUNTS), seeds: 1 }).catch((error) => error);
+    const module = moduleOf(context, begins + COUNTS);
+    const problem = await everySchedule({ module, seeds: 1 }).catch((error) => error);
     assert.ok(problem instanceof Refused, problem);
     assert.match(problem.message, wanted);
   }
@@ -68,7 +69,8 @@ export const check = ([buffer]) => {
 };
 `;
   const { found } = await everySchedule({ module: moduleOf(context, fails), seeds: 2 });
-  assert.deepEqual(found.map(({ kind, text }) => [kind, text]), [["check", "threw TypeError: lock.missing is not a function"]]);
+  const title = "threw TypeError: lock.missing is not a function";
+  assert.deepEqual(found.map(({ kind, text }) => [kind, text]), [["check", title]]);
   const ran = (/** @type {string} */ detail) => /** @type {any} */ ({ ending: "check", detail, races: [] });
   const finding = /** @type {any} */ ({ kind: "check", text: "threw Error: 3 are left" });
   const details = ["check threw Error: 4 are left", "check threw Error: none is", "check returned false"];

@@ -27,7 +27,8 @@ export class EveryProgress {
 
   #show() {
     const { every: { outcomes, states }, runs } = this;
-    process.stderr.write(`\r\x1b[K${counted(states, "state")}, ${digits(outcomes.length)} of ${counted(runs, "real run")}`);
+    const made = `${digits(outcomes.length)} of ${counted(runs, "real run")}`;
+    process.stderr.write(`\r\x1b[K${counted(states, "state")}, ${made}`);
     this.timer = setTimeout(() => this.#show(), BETWEEN_LINES_MILLISECONDS);
   }
 }

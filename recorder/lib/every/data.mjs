@@ -58,7 +58,7 @@ export function dataOf({ report, open, realRuns, made, isProved, notProved, show
   const common = { closed, open: open ?? null, realRuns, notCompared: made - realRuns, ...proved, milliseconds };
   if (report === undefined) return { ...NOTHING, agents: 0, ...common };
   const { counts, depth = null, edges, findings, hidden, plan, result, widest } = report;
-  const found = findings.map(({ row: _row, goesOn: _goesOn, ...finding }) => {
+  const found = findings.map(({ row: _row, goesOn: _goesOn, spins: _spins, ...finding }) => {
     const { outcome } = shown.find((each) => each.finding.row === _row) ?? {};
     return { ...finding, runs: 0, seed: null, ...endOf(outcome) };
   });

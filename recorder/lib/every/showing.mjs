@@ -44,13 +44,15 @@ export async function shown(findings, options) {
 
 /**
  * Behind a race, real runs may differ from a search that makes all accesses of a segment at once. So if a race is
- * shown, nothing else has to be. The first race has none before it, so it has to be shown.
+ * shown, nothing else has to be. The first race has none before it, so it has to be shown, unless a real run goes on in
+ * a loop of reads, where a search changes agents.
  * @param {Shown[]} found
  * @returns {Shown | undefined} the first that has to be shown and isn't
  */
 export function firstNotShown(found) {
   const isRaceShown = found.some(({ finding: { kind }, isSame }) => kind === "race" && isSame);
-  return isRaceShown ? undefined : found.find(({ isSame }) => !isSame);
+  const hasToBe = (/** @type {Shown} */ { finding, outcome }) => !(finding.spins && outcome.ending === "limit");
+  return isRaceShown ? undefined : found.find((each) => !each.isSame && hasToBe(each));
 }
 
 /** @param {string} text @returns {string} without its numbers */

@@ -57,9 +57,9 @@ function findingLines(found, made) {
 }
 
 /** @param {FoundData} found by the search */
-function bySearch({ acts, changes, states }) {
+function bySearch({ acts, changes, detail, states }) {
   const by = `${counted(acts, "act")} with ${counted(changes, "change")} of agents`;
-  return `in ${counted(states, "state")}; shown by ${by}`;
+  return `in ${counted(states, "state")}; ${detail === null ? "the first one after" : "shown by"} ${by}`;
 }
 
 /** @param {FoundData} found by real runs alone @param {number} made how many there were */

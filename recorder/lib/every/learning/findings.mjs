@@ -23,6 +23,7 @@ import { problemOf } from "./thrown.mjs";
  * @property {number} acts
  * @property {boolean} isEarly whether a timed wait ends while something else can move
  * @property {boolean} goesOn whether agents go on behind the row
+ * @property {boolean} spins whether an agent stands in a loop of reads on the way, where no real run changes agents
  */
 
 /**
@@ -149,21 +150,28 @@ export class Findings {
    * @returns {Finding}
    */
   #finding({ key, kind, text, states }, { state, agents, changes, isEarly }) {
-    const row = this.#rowOf(agents);
+    const { row, spins } = this.#wayOf(agents);
     const next = this.#at(state).find((one) => one.key === key)?.next ?? [];
     const goesOn = kind === "race" || kind === "no way out";
-    return { kind, text, states, row: [...row, ...next], changes, acts: agents.length, isEarly, goesOn };
+    return { kind, text, states, row: [...row, ...next], changes, acts: agents.length, isEarly, goesOn, spins };
   }
 
-  /** @param {number[]} agents in the order of their acts @returns {number[]} those of acts that are calls */
-  #rowOf(agents) {
+  /**
+   * @param {number[]} agents in the order of their acts
+   * @returns {{ row: number[], spins: boolean }} those of acts that are calls; whether one stands in a loop of reads
+   */
+  #wayOf(agents) {
     const { world } = this.search;
     world.load(0);
-    return agents.filter((agent) => {
+    const stands = () => world.nodes.some(({ isAlone }) => isAlone);
+    let spins = stands();
+    const row = agents.filter((agent) => {
       const isOfCall = world.nodes[agent].does < DOES.READ;
       if (world.waits(agent)) world.timeOut(agent);
       else world.act(agent);
+      spins ||= stands();
       return isOfCall;
     });
+    return { row, spins };
   }
 }
