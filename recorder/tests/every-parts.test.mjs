@@ -48,9 +48,10 @@ function spin() { runs += 1; if (runs > 1) for (;;); }
   assert.match(problem.message, /than was learned\. There an agent .* didn't come back within 1 s: .* keep something /);
 });
 
-test("a module that throws, or asks for a random number, while it is loaded is refused", async (context) => {
+test("a module that throws, adds to the language's own objects or asks for chance while it is loaded is refused", async (context) => {
   for (const [begins, wanted] of /** @type {[string, RegExp][]} */ ([
-    ["throw new Error('no module');\n", /agents\.mjs can't be loaded: Error: no module$/],
+    ["throw new Error('no module');\n", /^--all can't load agents\.mjs: Error: no module$/],
+    ["Math.more = 1;\n", /^--all can't load agents\.mjs: TypeError: Cannot add property more, /],
     ["const chance = Math.random();\n", /it asks for a random number, at agents\.mjs:1:21$/],
   ])) {
     const module = moduleOf(context, begins + COUNTS);

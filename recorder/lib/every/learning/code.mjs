@@ -1,6 +1,7 @@
 // The agents' code, rewritten so that its state can be shown, and begun anew whenever its modules keep something else
 // than at first.
 
+import { basename } from "node:path";
 import { described } from "../../agent/described.mjs";
 import { Refused } from "../../options/refused.mjs";
 import { Builtins } from "../state/builtins.mjs";
@@ -89,7 +90,7 @@ export class Code {
     try {
       return this.asker.watched(PART.MODULE, () => this.graph.made(this.runtime.calls));
     } catch (thrown) {
-      throw new Refused(`${this.url} can't be loaded: ${described(thrown).split("\n")[0]}`);
+      throw new Refused(`--all can't load ${basename(this.url)}: ${described(thrown).split("\n")[0]}`);
     }
   }
 
