@@ -12,6 +12,7 @@ import { everyText } from "../lib/every/text.mjs";
 import { everyOptions } from "../lib/library/every-schedule.mjs";
 import { simulatorAt } from "../lib/simulator/chosen.mjs";
 import { NotAsLearned, everySchedule, record } from "../recorder.mjs";
+import { assertAgents } from "../testing.mjs";
 import { RECORD, commandThere, temporaryFolder } from "./helpers/common.mjs";
 
 /** The exchange of one agent and the read of another are unordered, and no state has a conflict. */
@@ -95,9 +96,8 @@ test("runs that meet a limit, or in which nothing was tried, are listed", async 
   const allowed = await recorded(...words, "--limits", "allow");
   assert.equal(allowed.status, 0, allowed.stderr);
   const module = moduleOf(context, "export const setup = { agents: 2, buffers: [4] };\nexport default () => {};\n");
-  const { found } = await everySchedule({ module, seeds: 2 });
-  assert.deepEqual(found.map(({ kind, runs }) => [kind, runs]), [["failed", 2]]);
-  assert.match(found[0].text, /: nothing was tried$/);
+  const wanted = /: agents can fail in another way\n {2}failed, in 2 of 2 real runs, .*\n .*: nothing was tried\n/;
+  await assert.rejects(assertAgents({ module, all: true, seeds: 2 }), wanted);
 });
 
 test("a `check` that finds something else in the same bytes isn't as it was learned", async (context) => {
