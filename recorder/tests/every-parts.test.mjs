@@ -48,7 +48,7 @@ function spin() { runs += 1; if (runs > 1) for (;;); }
   assert.match(problem.message, /than was learned\. There an agent .* didn't come back within 1 s: .* keep something /);
 });
 
-test("a module that throws, adds to the language's own objects or asks for chance while it is loaded is refused", async (context) => {
+test("a module that can't be loaded is refused, and one that asks for chance while it is loaded", async (context) => {
   for (const [begins, wanted] of /** @type {[string, RegExp][]} */ ([
     ["throw new Error('no module');\n", /^--all can't load agents\.mjs: Error: no module$/],
     ["Math.more = 1;\n", /^--all can't load agents\.mjs: TypeError: Cannot add property more, /],

@@ -92,7 +92,7 @@ test("runs that meet a limit, or in which nothing was tried, are listed", async 
   const words = [moduleOf(context, COUNTS), "--all", "--seeds", "1..3", "--max-moves", "2"];
   const met = await recorded(...words);
   assert.equal(met.status, 1, met.stderr);
-  assert.match(met.stdout, /: agents can meet a limit\n {2}limit, in 3 of 3 real runs, seed 1 the first\n {4}more than/);
+  assert.match(met.stdout, /: agents can meet a limit\n {2}limit, in 3 of 3 real runs, seed 1 the first\n {4}more /);
   const allowed = await recorded(...words, "--limits", "allow");
   assert.equal(allowed.status, 0, allowed.stderr);
   const module = moduleOf(context, "export const setup = { agents: 2, buffers: [4] };\nexport default () => {};\n");
@@ -126,7 +126,7 @@ export default function agent({ buffers, agent: self }) {
   const data = await everySchedule({ module, seeds: 1, seconds: 1 });
   const kinds = data.found.map(({ kind, detail, seed }) => [kind, detail === null, seed]);
   assert.deepEqual(kinds, [["race", true, null], ["limit", false, 1]]);
-  const race = /: agents can race or meet a limit\n {2}race: .*, in \d states?; the first one after 0 acts .*\n {4}not /;
+  const race = /: agents can race or meet a limit\n {2}race: .*, in \d states?; the first one after .*\n {4}not /;
   assert.match(everyText(data), race);
 });
 
