@@ -57,7 +57,11 @@ function leastCosts({ actors, count, starts, targets, world }) {
   return known.map((all) => [...all.values()].sort(order)[0]);
 }
 
-/** @param {Search} search @param {number[]} agents that act @returns {{ costs: Costs, state: number }} where they lead */
+/**
+ * @param {Search} search
+ * @param {number[]} agents that act
+ * @returns {{ costs: Costs, state: number }} where they lead
+ */
 function followed({ world }, agents) {
   world.load(0);
   /** @type {Costs} */
