@@ -151,7 +151,7 @@ export class Loop {
     const active = underWay();
     if (isReading(active)) return STEP.READS;
     const pending = holds ? HELD : this.#pending(active);
-    if (this.#isLeft(pending)) return this.#endsNow();
+    if (!pending.isSome && this.#isLeft()) return this.#endsNow();
     if (this.#hasTask()) {
       if (!moves.offer(pending, this.#mayLook)) return STEP.IS_OVER;
     } else {
@@ -230,9 +230,8 @@ export class Loop {
     ends.beforeExit();
     this.drain();
     if (ends.isOver) return STEP.IS_OVER;
-    const pending = this.#pending(underWay());
-    const hasMore = this.#hasOwnTask() || this.#keepers().length > 0 || pending.isSome;
-    if (hasMore && !this.#isLeft(pending)) return STEP.GOES_ON;
+    const hasTask = this.#hasOwnTask() && !this.#isLeft();
+    if (hasTask || this.#keepers().length > 0 || this.#pending(underWay()).isSome) return STEP.GOES_ON;
     ends.leave();
     return STEP.IS_OVER;
   }
@@ -257,12 +256,12 @@ export class Loop {
     return this.#tasks.length > 0 || immediates > 0 || deadline <= this.#now() || ports.ready().length > 0;
   }
 
-  /** @param {import("./real-work.mjs").Pending} pending @returns {boolean} whether only unref'ed immediates are left */
-  #isLeft(pending) {
+  /** @returns {boolean} whether only unref'ed immediates are left, besides what the machine may bring */
+  #isLeft() {
     const { ports, timers: { areLeft }, waits } = this.served;
-    if (!areLeft || !this.#looks || !this.#isTurning || this.#tasks.length > 0 || pending.isSome) return false;
-    const isDue = waits.isWoken || this.#deadline() <= this.#now();
-    return !isDue && ports.ready().length === 0 && this.#keepers().length === 0;
+    if (!areLeft || !this.#looks || !this.#isTurning || this.#tasks.length > 0) return false;
+    if (waits.isWoken || this.#deadline() <= this.#now()) return false;
+    return ports.ready().length === 0 && this.#keepers().length === 0;
   }
 
   /** @returns {number} when the first timer is due, or the time of the first waitAsync is up */

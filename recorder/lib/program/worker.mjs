@@ -75,6 +75,7 @@ const { Error: EngineError } = globalThis;
  */
 
 /** @typedef {import("./thread-start.mjs").Start} Start */
+/** @typedef {import("./twin-calls.mjs").Given["later"]} Later */
 
 const { port, origin, web, isRelaxed, memory: shared, plan, rules } = /** @type {Given} */ (threads.workerData);
 const surroundings = web ? WEB : NODE;
@@ -206,8 +207,7 @@ function partsOf(player, blocks, mesh) {
   const all = new Threads(agent, board, table, moves);
   /** @type {import("./unwinding.mjs").Late} */
   const late = {};
-  /** @type {import("./twin-calls.mjs").Given["later"]} */
-  const later = (name, act, place) => late.loop?.later(name, act, place);
+  const later = /** @type {Later} */ ((name, act, place) => late.loop?.later(name, act, place));
   const notes = new TaskNotes(shared.tasks);
   /** @type {import("./ends.mjs").Leaving["note"]} */
   const note = (text, place) => late.loop?.note(text, place);
