@@ -82,6 +82,11 @@ export class Loop {
     if (this.#notes) notes.note({ event: player.table.log.length, agent, text, place });
   }
 
+  /** @param {import("./timers.mjs").Described} task that begins now */
+  #noteTask(task) {
+    if (this.#notes) this.note(`runs ${task.text}`, task.where);
+  }
+
   /** Nothing of an earlier run is left. */
   clear() {
     this.served.locks.clear();
@@ -145,7 +150,7 @@ export class Loop {
    * @returns {number} one of `STEP`
    */
   #step(holds) {
-    const { ends, moves, keepers, waits, locks } = this.served;
+    const { ends, moves } = this.served;
     this.drain();
     if (ends.isDone()) return STEP.IS_OVER;
     const active = underWay();
@@ -154,12 +159,13 @@ export class Loop {
     if (this.#hasTask()) {
       if (!moves.offer(pending, this.#mayLook)) return STEP.IS_OVER;
     } else {
-      const kept = this.#keepers().concat(moves.silentTexts(pending));
-      if (kept.length === 0) return this.#endsNow();
-      keepers.write([kept.join("; ")].concat(waits.texts(), locks.texts()).join("; it awaits "));
+      if (!pending.isSome && !this.#isKept()) return this.#endsNow();
       this.#mayLook = true;
       moves.board.vain?.rests(moves.agent, this.#places);
-      if (!moves.idle(this.#untilTimer(), pending)) return STEP.IS_OVER;
+      if (!moves.idle(this.#untilTimer(), pending)) {
+        this.#writeKeepers(pending);
+        return STEP.IS_OVER;
+      }
     }
     if (moves.looksFor > 0) return STEP.LOOKS;
     this.#act();
@@ -229,7 +235,7 @@ export class Loop {
     ends.beforeExit();
     this.drain();
     if (ends.isOver) return STEP.IS_OVER;
-    if (this.#hasOwnTask() || this.#keepers().length > 0 || this.#pending(underWay()).isSome) return STEP.GOES_ON;
+    if (this.#hasOwnTask() || this.#isKept() || this.#pending(underWay()).isSome) return STEP.GOES_ON;
     ends.leave();
     return STEP.IS_OVER;
   }
@@ -272,7 +278,29 @@ export class Loop {
     return waits.deadline === Infinity ? armed.places() : [undefined];
   };
 
-  /** @returns {string[]} what keeps the thread alive, in words */
+  /**
+   * The thread had nothing to do until the run was over. If nobody could move any more, what has kept it alive is reported.
+   * @param {import("./real-work.mjs").Pending} pending
+   */
+  #writeKeepers(pending) {
+    const { keepers, locks, moves, waits } = this.served;
+    if (!moves.board.end.isStandstill()) return;
+    const kept = this.#keepers().concat(moves.silentTexts(pending));
+    keepers.write([kept.join("; ")].concat(waits.texts(), locks.texts()).join("; it awaits "));
+  }
+
+  /** @returns {boolean} whether the thread is kept alive, except by what the machine may bring */
+  #isKept() {
+    const { ports, timers: armed, children, ends } = this.served;
+    if (armed.alive || this.#tasks.length > 0 || ports.keeping().length > 0 || ends.keepers().length > 0) return true;
+    let isKept = false;
+    children.forEach(({ refed, listens }) => {
+      isKept ||= refed || listens;
+    });
+    return isKept;
+  }
+
+  /** @returns {string[]} the same, in words */
   #keepers() {
     const { ports, timers: armed, children, ends } = this.served;
     const texts = armed.alive ? armed.keepers().map(keeperText) : [];
@@ -354,8 +382,8 @@ export class Loop {
       waits.timeOut();
     } else {
       const timer = armed.nextTimer();
-      vain?.turns(timer?.where);
-      if (timer !== undefined && vain?.isShown) this.note(`runs ${timer.text}`, timer.where);
+      vain?.turns(() => timer?.where);
+      if (timer !== undefined && vain?.isShown) this.#noteTask(timer);
       armed.runTimer();
     }
   };
@@ -364,7 +392,7 @@ export class Loop {
   #runImmediate() {
     const { timers: armed } = this.served;
     const immediate = armed.nextImmediate();
-    if (immediate !== undefined) this.note(`runs ${immediate.text}`, immediate.where);
+    if (immediate !== undefined) this.#noteTask(immediate);
     try {
       armed.runImmediate();
     } finally {

@@ -127,7 +127,7 @@ cases["a timer runs when its time is reached and not before, one at a time"] = (
 };
 
 cases["a stuck program names what keeps each thread alive, with its place"] = () => {
-  const timers2 = new Timers({ now: () => 0, here: () => "main.mjs:1:2" });
+  const timers2 = new Timers({ now: () => 0, here: () => () => "main.mjs:1:2" });
   own.setTimeout(() => {}, 7);
   own.setInterval(() => {}, 3);
   own.setTimeout(() => {}, 1).unref();
