@@ -78,8 +78,8 @@ for (const name of Object.keys(SCENARIOS)) {
     for (let time = 100; ; time *= 2) {
       const byNode = await loggedByNode(name, time);
       const here = await loggedHere(name);
-      assert.ok(byNode.length > 0, "the scenario logs nothing");
       if (time < 1_000 && !isDeepStrictEqual(here, byNode)) continue;
+      assert.ok(byNode.length > 0, "the scenario logs nothing");
       assert.deepEqual(here, byNode);
       break;
     }
