@@ -5,6 +5,7 @@
 import { WORD } from "../memory/layout.mjs";
 import { Random } from "../memory/random.mjs";
 import { runTicks, underWay } from "./internals.mjs";
+import { KeptAlive } from "./kept-alive.mjs";
 import { READING } from "./reading.mjs";
 import { never, turnLater } from "./real-loop.mjs";
 import { isForeign, pendingOf } from "./real-work.mjs";
@@ -61,6 +62,7 @@ export class Loop {
   /** @param {Served} served */
   constructor(served) {
     this.served = served;
+    this.kept = new KeptAlive(served, () => this.#tasks.length > 0);
     this.#isTurning = served.hasPhases;
     // A row of its own: so a thread does the same if only others are drawn in another order.
     this.random = new Random(new Int32Array(4));
@@ -159,11 +161,11 @@ export class Loop {
     if (this.#hasTask()) {
       if (!moves.offer(pending, this.#mayLook)) return STEP.IS_OVER;
     } else {
-      if (!pending.isSome && !this.#isKept()) return this.#endsNow();
+      if (!pending.isSome && !this.kept.isSome()) return this.#endsNow();
       this.#mayLook = true;
       moves.board.vain?.rests(moves.agent, this.#places);
       if (!moves.idle(this.#untilTimer(), pending)) {
-        this.#writeKeepers(pending);
+        this.kept.write(pending);
         return STEP.IS_OVER;
       }
     }
@@ -235,7 +237,7 @@ export class Loop {
     ends.beforeExit();
     this.drain();
     if (ends.isOver) return STEP.IS_OVER;
-    if (this.#hasOwnTask() || this.#isKept() || this.#pending(underWay()).isSome) return STEP.GOES_ON;
+    if (this.#hasOwnTask() || this.kept.isSome() || this.#pending(underWay()).isSome) return STEP.GOES_ON;
     ends.leave();
     return STEP.IS_OVER;
   }
@@ -277,39 +279,6 @@ export class Loop {
     const { timers: armed, waits } = this.served;
     return waits.deadline === Infinity ? armed.places() : [undefined];
   };
-
-  /**
-   * The thread had nothing to do until the run was over. If nobody could move any more, what has kept it alive is reported.
-   * @param {import("./real-work.mjs").Pending} pending
-   */
-  #writeKeepers(pending) {
-    const { keepers, locks, moves, waits } = this.served;
-    if (!moves.board.end.isStandstill()) return;
-    const kept = this.#keepers().concat(moves.silentTexts(pending));
-    keepers.write([kept.join("; ")].concat(waits.texts(), locks.texts()).join("; it awaits "));
-  }
-
-  /** @returns {boolean} whether the thread is kept alive, except by what the machine may bring */
-  #isKept() {
-    const { ports, timers: armed, children, ends } = this.served;
-    if (armed.alive || this.#tasks.length > 0 || ports.keeping().length > 0 || ends.keepers().length > 0) return true;
-    let isKept = false;
-    children.forEach(({ refed, listens }) => {
-      isKept ||= refed || listens;
-    });
-    return isKept;
-  }
-
-  /** @returns {string[]} the same, in words */
-  #keepers() {
-    const { ports, timers: armed, children, ends } = this.served;
-    const texts = armed.alive ? armed.keepers().map(keeperText) : [];
-    if (this.#tasks.length > 0) texts.push("a task");
-    children.forEach(({ refed, listens, where }) => {
-      if (refed || listens) texts.push(`the worker started at ${where}`);
-    });
-    return texts.concat(ports.keepers(), ends.keepers());
-  }
 
   /** Begins one of the tasks that are there. */
   #act() {
@@ -410,9 +379,6 @@ export class Loop {
     if (likelihood > 0 && this.random.fraction() < likelihood) deadlines.passEarly(agent, left);
   }
 }
-
-/** @param {import("./timers.mjs").Described} timer @returns {string} */
-const keeperText = ({ text, where }) => (where === undefined ? text : `${text} from ${where}`);
 
 /** @param {string[]} active resources of node's @returns {boolean} */
 const isReading = (active) => active.some((each) => READING.has(each));

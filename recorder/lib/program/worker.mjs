@@ -34,6 +34,7 @@ import { Buffers } from "./buffers.mjs";
 import { restoreBuiltins } from "./builtins.mjs";
 import { Children } from "./children.mjs";
 import { installGrowing } from "./growing.mjs";
+import { UNKNOWN_PLACE, here, hereLater } from "./here.mjs";
 import { installCloning, installMemory, installProcess, keepProcess, restoreProcess } from "./install.mjs";
 import { countAnew, showFrames } from "./internals.mjs";
 import { Looking } from "./looking.mjs";
@@ -94,20 +95,6 @@ const isPlaying = () => self.player !== undefined && self.player.isPlaying;
 function playing() {
   if (self.player === undefined) throw new EngineError("the thread has no part in a run yet");
   return self.player;
-}
-
-const UNKNOWN_PLACE = "a place that isn't known";
-
-/** @returns {string} where the program's code is that has called one of the functions that stand for node's */
-const here = () => sourceOfCall() ?? UNKNOWN_PLACE;
-
-/** Among so many frames above the next function is one of the program's code, as a rule. */
-const FRAMES_OF_PORTS = 8;
-
-/** @returns {() => string} the same place, found when it is asked for */
-function hereLater() {
-  const find = sourceLater(hereLater, FRAMES_OF_PORTS);
-  return () => find() ?? UNKNOWN_PLACE;
 }
 
 /** @param {string} why @param {string} [place] of the program's code @returns {never} */
