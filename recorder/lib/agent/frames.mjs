@@ -38,7 +38,7 @@ export function framesHere(from = framesHere, most = MOST_FRAMES) {
   return framesIn(stackHere(from, most));
 }
 
-/** @typedef {{ stack?: any }} Stack frames that the engine has kept: it makes what shows them when they are asked for */
+/** @typedef {{ stack?: any }} Stack frames that the engine has kept: what shows them is made when it is asked for */
 
 /** @param {Function} from as above @param {number} most @returns {Stack} */
 function stackHere(from, most) {
@@ -162,10 +162,11 @@ export const sourceHere = () => placeOf(agentsFrame(sourceHere));
 /** @returns {string | undefined} the same, of code that makes no ordinary access now: that takes half the time */
 export const sourceOfCall = () => placeOf(farFrame(sourceOfCall));
 
-/** @typedef {() => string | undefined} Later finds a place of the agent's own code when it is called: that takes most of the time */
+/** @typedef {() => string | undefined} Later finds a place of the agent's own code when it is called */
 
 /**
- * The same place, found later. As a rule the agent's frame is near the one of what its code has called.
+ * The same place, found later: that takes most of the time. As a rule the agent's frame is near the one of what its code
+ * has called.
  * @param {Function} called the frames above its own are left out
  * @param {number} [near] how many frames are looked at now
  * @returns {Later}

@@ -1,5 +1,5 @@
-// What keeps a thread of a program alive while its event loop has nothing to do. To find the words for that takes long, so
-// it is done only if a run ends because no thread can move any more.
+// What keeps a thread of a program alive while its event loop has nothing to do. To find the words for that takes long,
+// so it is done only if a run ends because no thread can move any more.
 
 export class KeptAlive {
   /**

@@ -11,7 +11,7 @@ import { member } from "./member.mjs";
 import { turns } from "./real-loop.mjs";
 
 /** @typedef {any} Item a Timeout or an Immediate */
-/** @typedef {{ text: string, readonly where: string | undefined }} Described what it is, in words, and where it was made */
+/** @typedef {{ text: string, readonly where: string | undefined }} Described it, in words, and where it was made */
 /** @typedef {import("../agent/frames.mjs").Later} Later */
 
 const { getTimerCallbacks, immediateQueue, kRefed, knownTimersById, timerListMap, timerListQueue } = nodeTimers;
