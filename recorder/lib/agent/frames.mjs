@@ -165,8 +165,8 @@ export const sourceOfCall = () => placeOf(farFrame(sourceOfCall));
 /** @typedef {() => string | undefined} Later finds a place of the agent's own code when it is called */
 
 /**
- * The same place, found later: that takes most of the time. As a rule the agent's frame is near the one of what its code
- * has called.
+ * The same place, found later: that takes most of the time. As a rule the agent's frame is near the one of what its
+ * code has called.
  * @param {Function} called the frames above its own are left out
  * @param {number} [near] how many frames are looked at now
  * @returns {Later}
