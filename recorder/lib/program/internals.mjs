@@ -171,6 +171,14 @@ export function showFrames(shown) {
   });
 }
 
+const eventTarget = inside("event_target", { kNewListener: "symbol", kRemoveListener: "symbol" });
+const { handle_onclose: onClose } = below("symbols", { handle_onclose: "symbol" });
+
+/** The names of what node calls when the listeners of a port change, and when it was closed. */
+export const portKeys = {
+  kNewListener: eventTarget.kNewListener, kRemoveListener: eventTarget.kRemoveListener, onClose,
+};
+
 /** The options that node itself was started with. */
 export const options = inside("options", { getOptionValue: "function" });
 

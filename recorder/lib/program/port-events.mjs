@@ -1,18 +1,22 @@
-// What a program's code does with ports: ports that the run doesn't know have node's own methods, and those of the run
-// have these. A listener gets a message when the run delivers it.
+// Ports of the run. Their listeners are node's own code. What node has below them is the run's: how a port begins and
+// stops to give messages, keeps its thread alive, sends, and is closed. A listener gets a message when the run delivers it.
 
 import threads from "node:worker_threads";
-import { apply, defineProperty, getOwnPropertyDescriptor, isObject, put } from "../primordials.mjs";
+import { apply, hasOwn, put } from "../primordials.mjs";
+import { portKeys } from "./internals.mjs";
 import { nodeError } from "./node-error.mjs";
 import { KIND } from "./ports.mjs";
 
-const EngineMessageEvent = MessageEvent;
-const EngineEvent = Event;
-const TYPES = Object.freeze(["message", "messageerror", "close"]);
-const TARGETS = Object.freeze(["target", "currentTarget", "srcElement"]);
+const { kNewListener, kRemoveListener, onClose } = portKeys;
+const { [kNewListener]: engineNew, [kRemoveListener]: engineRemove } = /** @type {any} */ (EventTarget.prototype);
+const { [onClose]: engineClosed } = /** @type {any} */ (threads.MessagePort.prototype);
 
-/** What node itself listens to. */
-const ALWAYS = Object.freeze(["newListener", "removeListener"]);
+/** The names of node's method that gives listeners a value, and of the ports that come with it. */
+const DISPATCH = Symbol.for("nodejs.internal.kHybridDispatch");
+const RECEIVING = Symbol.for("nodejs.internal.kCurrentlyReceivingPorts");
+
+/** Listeners of this type make a port begin, and keep its thread alive. */
+const MESSAGE = "message";
 
 /**
  * @typedef {object} Serving
@@ -21,23 +25,10 @@ const ALWAYS = Object.freeze(["newListener", "removeListener"]);
  * @property {() => void} drain runs microtasks until there are none
  */
 
-/** @param {any} event @param {any} port that it is for @returns {any} the event */
-function aimed(event, port) {
-  TARGETS.forEach((name) => defineProperty(event, name, { value: port }));
-  return event;
-}
-
-/** @param {any} port @param {string} type @param {unknown} data */
-function eventOf(port, type, data) {
-  const event = type === "close" ? new EngineEvent(type) : new EngineMessageEvent(type, { data });
-  return aimed(event, port);
-}
-
 export class PortEvents {
-  /** @param {Serving} serving */
-  constructor({ ports, uncaught }) {
+  /** @param {Pick<Serving, "ports">} serving */
+  constructor({ ports }) {
     this.ports = ports;
-    this.uncaught = uncaught;
   }
 
   /** @returns {any[]} the ports of this thread of which any may be delivered a message next */
@@ -53,100 +44,8 @@ export class PortEvents {
     scope.runInAsyncScope(() => {
       if (taker !== undefined) taker(envelope);
       else if (envelope.kind === KIND.CLOSE) this.#closed(port);
-      else this.emit(port, envelope.isUnread ? "messageerror" : "message", envelope.value);
+      else dispatch(port, envelope);
     });
-  }
-
-  /**
-   * @param {any} port
-   * @param {string} type
-   * @param {unknown} data
-   * @returns {boolean} whether there was any listener
-   */
-  emit(port, type, data) {
-    return this.#deliver(port, type, (isEvent) => {
-      if (isEvent) return [eventOf(port, type, data)];
-      return type === "close" ? [] : [data];
-    });
-  }
-
-  /**
-   * @param {any} port
-   * @param {any} event that its code dispatches by hand: all listeners get the event itself
-   */
-  dispatch(port, event) {
-    aimed(event, port);
-    this.#deliver(port, event.type, () => [event]);
-    return !event.defaultPrevented;
-  }
-
-  /**
-   * @param {any} port
-   * @param {string} type
-   * @param {(isEvent: boolean) => unknown[]} given what a listener gets
-   */
-  #deliver(port, type, given) {
-    const meta = this.ports.metaOf(port);
-    if (meta === undefined) return false;
-    const all = meta.listeners.filter((each) => each.type === type);
-    meta.listeners = meta.listeners.filter((each) => each.type !== type || !each.once);
-    this.#changed(port);
-    all.forEach(({ listener, isEvent }) => {
-      try {
-        if (typeof listener === "function") apply(listener, port, given(isEvent));
-        else listener.handleEvent(given(isEvent)[0]);
-      } catch (thrown) {
-        this.uncaught(thrown);
-      }
-    });
-    return all.length > 0;
-  }
-
-  /** @param {any} port @param {import("./ports.mjs").Meta["listeners"][number]} listener */
-  listen(port, listener) {
-    const { listeners } = this.ports.known(port);
-    const isThere = listener.isEvent
-      && listeners.some(({ type, listener: own }) => type === listener.type && own === listener.listener);
-    if (!isThere) listeners.push(listener);
-    this.#changed(port);
-    return port;
-  }
-
-  /** @param {any} port @param {string} type @param {unknown} listener */
-  unlisten(port, type, listener) {
-    const { listeners } = this.ports.known(port);
-    const at = listeners.findIndex((each) => each.type === type && each.listener === listener);
-    if (at >= 0) listeners.splice(at, 1);
-    this.#changed(port);
-    return port;
-  }
-
-  /**
-   * As in node, the port still keeps its thread alive, and its messages are lost.
-   * @param {any} port
-   * @param {string | undefined} type
-   */
-  unlistenAll(port, type) {
-    const meta = this.ports.known(port);
-    meta.listeners = type === undefined ? [] : meta.listeners.filter((each) => each.type !== type);
-    meta.listens = meta.listeners.some((each) => each.type === "message");
-    return port;
-  }
-
-  /** @param {any} port @param {string} type @param {unknown} handler as it is assigned to `onmessage` */
-  handle(port, type, handler) {
-    const { listeners } = this.ports.known(port);
-    const at = listeners.findIndex((each) => each.isHandler && each.type === type);
-    const isThere = isObject(handler);
-    if (at >= 0 && isThere) listeners[at].listener = handler;
-    else if (at >= 0) listeners.splice(at, 1);
-    else if (isThere) listeners.push({ type, listener: handler, once: false, isEvent: true, isHandler: true });
-    this.#changed(port);
-  }
-
-  /** @param {any} port @param {string} type @returns {any} what was assigned */
-  handlerOf(port, type) {
-    return this.ports.known(port).listeners.find((each) => each.isHandler && each.type === type)?.listener ?? null;
   }
 
   /** @param {any} port that the program's code closes */
@@ -154,7 +53,7 @@ export class PortEvents {
     const { ports } = this;
     if (ports.known(port).closed) return;
     ports.close(port);
-    ports.world.later("has closed a port", () => void this.emit(port, "close", undefined));
+    ports.world.later("has closed a port", () => apply(engineClosed, port, []));
   }
 
   /** @param {any} port whose other side was closed */
@@ -165,22 +64,34 @@ export class PortEvents {
     meta.closed = true;
     meta.refed = false;
     ports.world.table.close(meta.id);
-    this.emit(port, "close", undefined);
+    apply(engineClosed, port, []);
   }
 
-  /** @param {any} port whose first listener of messages starts it, and whose last one lets its thread end */
-  #changed(port) {
+  /** @param {any} port that has its first listener of messages */
+  begins(port) {
     const meta = this.ports.known(port);
-    const listens = meta.listeners.some(({ type }) => type === "message");
-    if (listens === meta.listens) return;
-    meta.listens = listens;
-    meta.refed = listens && !meta.closed;
-    if (!listens) {
-      if (!meta.closed) this.ports.stop(port);
-      return;
-    }
+    meta.listens = true;
+    meta.refed = !meta.closed;
     meta.where = this.ports.world.here();
     if (!meta.closed) this.ports.start(port);
+  }
+
+  /** @param {any} port whose last listener of messages has gone */
+  stops(port) {
+    const meta = this.ports.known(port);
+    meta.listens = false;
+    meta.refed = false;
+    if (!meta.closed) this.ports.stop(port);
+  }
+}
+
+/** @param {any} port @param {import("./ports.mjs").Envelope} envelope a message that its listeners get now */
+function dispatch(port, { value, ports, isUnread }) {
+  port[RECEIVING] = ports;
+  try {
+    port[DISPATCH](value, isUnread ? "messageerror" : MESSAGE, undefined);
+  } finally {
+    port[RECEIVING] = undefined;
   }
 }
 
@@ -195,31 +106,15 @@ const noMessage = () =>
  */
 function methodsOf(events) {
   const { ports } = events;
-  /** @param {boolean} once @param {string} type @param {any} listener @param {any} port */
-  const add = (once, type, listener, port) => events.listen(port, { type, listener, once, isEvent: false });
   /** @type {Record<string, (this: any, ...given: any[]) => any>} */
   const methods = {
     postMessage(...given) {
       if (given.length === 0) throw noMessage();
       ports.send(this, given[0], given[1], methods.postMessage);
     },
-    on(type, listener) { return add(false, type, listener, this); },
-    addListener(type, listener) { return add(false, type, listener, this); },
-    once(type, listener) { return add(true, type, listener, this); },
-    off(type, listener) { return events.unlisten(this, type, listener); },
-    removeListener(type, listener) { return events.unlisten(this, type, listener); },
-    removeAllListeners(type) { return events.unlistenAll(this, type); },
-    addEventListener(type, listener, how) {
-      if (listener) events.listen(this, { type, listener, once: how?.once === true, isEvent: true });
-    },
-    removeEventListener(type, listener) { events.unlisten(this, type, listener); },
-    dispatchEvent(event) { return events.dispatch(this, event); },
-    emit(type, value) { return events.emit(this, type, value); },
-    listenerCount(type) { return ports.known(this).listeners.filter((each) => each.type === type).length; },
-    eventNames() { return [...new Set([...ALWAYS, ...ports.known(this).listeners.map(({ type }) => type)])]; },
     start() { if (!ports.known(this).closed) ports.start(this); },
     close(done) {
-      if (typeof done === "function") add(true, "close", done, this);
+      if (typeof done === "function") this.once("close", done);
       events.close(this);
     },
     ref() {
@@ -252,28 +147,30 @@ export function serveMethods(ports, methods) {
   }
 }
 
+/**
+ * What node calls when a port's listeners change.
+ * @param {Function} engine what it calls of any target
+ * @param {number} count of the listeners of messages with which something happens
+ * @param {(port: any) => void} act
+ */
+const changing = (engine, count, act) => /** @this {any} @param {any[]} given */ function (...given) {
+  if (given[1] === MESSAGE && given[0] === count) act(this);
+  return apply(engine, this, given);
+};
+
 /** @param {PortEvents} events whose methods ports of the run get */
 export function servePorts(events) {
-  serveMethods(events.ports, methodsOf(events));
-  for (const type of TYPES) serveHandler(events, type);
-}
-
-/** @param {PortEvents} events @param {string} type */
-function serveHandler(events, type) {
   const { ports } = events;
-  const { prototype } = threads.MessagePort;
-  const found = getOwnPropertyDescriptor(prototype, `on${type}`);
-  if (found?.set === undefined) return;
-  const { get, set } = /** @type {{ get: Function, set: Function }} */ (found);
-  defineProperty(prototype, `on${type}`, {
-    ...found,
-    get() {
-      const meta = ports.metaOf(this);
-      return meta === undefined ? apply(get, this, []) : events.handlerOf(this, type);
-    },
-    set(handler) {
-      if (ports.metaOf(this) === undefined) apply(set, this, [handler]);
-      else events.handle(this, type, handler);
-    },
-  });
+  /** @param {(port: any) => void} act */
+  const ofRun = (act) => (/** @type {any} */ port) => void (ports.metaOf(port) !== undefined && act(port));
+  const begins = changing(engineNew, 1, ofRun((port) => events.begins(port)));
+  const stops = changing(engineRemove, 0, ofRun((port) => events.stops(port)));
+  ports.onAdopted = (port) => {
+    if (!hasOwn(port, kNewListener)) return;
+    port[kNewListener] = begins;
+    port[kRemoveListener] = stops;
+    // Node closes a port when another thread has left its run. The run's own listeners don't get to know.
+    put(port, onClose, () => {});
+  };
+  serveMethods(ports, methodsOf(events));
 }

@@ -40,18 +40,8 @@ const isUrgent = (kind) => kind > KIND.CLOSE;
  */
 
 /**
- * @typedef {object} Listener
- * @property {string} type of its events
- * @property {any} listener
- * @property {boolean} once
- * @property {boolean} isEvent whether it gets an event, and not the value
- * @property {boolean} [isHandler] whether it was assigned, as to `onmessage`
- */
-
-/**
  * @typedef {object} Meta what a thread knows about a port
  * @property {number} id
- * @property {Listener[]} listeners in the order in which they were added
  * @property {boolean} listens whether it has a listener of messages
  * @property {boolean} refed whether it keeps its thread alive
  * @property {boolean} closed
@@ -133,6 +123,9 @@ export class Ports {
   /** @type {WeakMap<object, Meta>} */
   #metas = new EngineWeakMap();
 
+  /** @type {(port: any) => void} is called for each port that this thread gets */
+  onAdopted = () => {};
+
   /** @type {Map<number, any>} the ports that this thread has, by their numbers */
   mine = new Map();
 
@@ -178,11 +171,12 @@ export class Ports {
    */
   adopt(port, id) {
     weakSet(this.#metas, port, {
-      id, listeners: [], listens: false, refed: false, closed: false, where: "", taker: undefined,
+      id, listens: false, refed: false, closed: false, where: "", taker: undefined,
       keeps: true, queue: undefined, scope: new Scope("MESSAGEPORT"),
     });
     this.mine.set(id, port);
     this.world.table.give(id, this.world.agent);
+    this.onAdopted(port);
   }
 
   /** @param {any} port that goes to another thread, or to this one once more */
