@@ -171,13 +171,13 @@ export function showFrames(shown) {
   });
 }
 
-const eventTarget = inside("event_target", { kNewListener: "symbol", kRemoveListener: "symbol" });
-const { handle_onclose: onClose } = below("symbols", { handle_onclose: "symbol" });
+/** The names of what node calls when a target's listeners change, and what gives a class such as `onmessage`. */
+export const { kNewListener, kRemoveListener, defineEventHandler } = inside("event_target", {
+  kNewListener: "symbol", kRemoveListener: "symbol", defineEventHandler: "function",
+});
 
-/** The names of what node calls when the listeners of a port change, and when it was closed. */
-export const portKeys = {
-  kNewListener: eventTarget.kNewListener, kRemoveListener: eventTarget.kRemoveListener, onClose,
-};
+/** The name of what node calls when it has closed a port. */
+export const onClose = below("symbols", { handle_onclose: "symbol" }).handle_onclose;
 
 /** The options that node itself was started with. */
 export const options = inside("options", { getOptionValue: "function" });

@@ -3,11 +3,10 @@
 
 import threads from "node:worker_threads";
 import { apply, hasOwn, put } from "../primordials.mjs";
-import { portKeys } from "./internals.mjs";
+import { kNewListener, kRemoveListener, onClose } from "./internals.mjs";
 import { nodeError } from "./node-error.mjs";
 import { KIND } from "./ports.mjs";
 
-const { kNewListener, kRemoveListener, onClose } = portKeys;
 const { [kNewListener]: engineNew, [kRemoveListener]: engineRemove } = /** @type {any} */ (EventTarget.prototype);
 const { [onClose]: engineClosed } = /** @type {any} */ (threads.MessagePort.prototype);
 
