@@ -2,7 +2,7 @@
 // message goes by the hidden ports of threads, to each channel of the name that exists when it is sent.
 
 import threads from "node:worker_threads";
-import { uncurried } from "../primordials.mjs";
+import { apply, uncurried } from "../primordials.mjs";
 import { defineEventHandler, kNewListener, kRemoveListener } from "./internals.mjs";
 import { TO_CHANNELS } from "./moves.mjs";
 import { nodeError } from "./node-error.mjs";
@@ -17,6 +17,7 @@ const post = uncurried(threads.MessagePort.prototype.postMessage);
 const { port1: closed } = new /** @type {any} */ (threads).MessageChannel();
 closed.close();
 const EngineTarget = EventTarget;
+const { [kNewListener]: engineNew } = /** @type {any} */ (EngineTarget.prototype);
 const EngineException = DOMException;
 const EngineEvent = MessageEvent;
 const { imul } = Math;
@@ -109,17 +110,13 @@ class BroadcastChannel extends EngineTarget {
     if (arguments.length === 0) throw missing("name");
     super();
     const { ports, moves } = world();
-    const { table, agent } = ports.world;
+    const { table, here } = ports.world;
     moves.yield();
     this.#name = `${name}`;
-    this.#where = ports.world.here();
-    this.#id = table.addPair(agent);
-    ports.adopt(this, this.#id);
-    const meta = ports.known(this);
-    meta.queue = [];
-    meta.refed = true;
-    meta.where = this.#where;
-    meta.taker = (envelope) => this[DELIVER](envelope);
+    this.#where = here();
+    const known = ports.queued(this, (envelope) => this[DELIVER](envelope));
+    Object.assign(known, { refed: true, where: this.#where });
+    this.#id = known.id;
     table.setName(this.#id, numberOf(this.#name));
     table.start(this.#id);
   }
@@ -138,13 +135,13 @@ class BroadcastChannel extends EngineTarget {
   /** @param {boolean} listens: what keeps the thread alive is named by the line that matters most to a reader */
   #listens(listens) {
     const { ports } = world();
-    const known = ports.metaOf(this);
-    if (known !== undefined) Object.assign(known, { listens, where: listens ? ports.world.here() : this.#where });
+    if (!ports.has(this)) return;
+    Object.assign(ports.known(this), { listens, where: listens ? ports.world.here() : this.#where });
   }
 
   /** @param {any[]} given by node when there is another listener: how many of its type, the type, and more */
   [kNewListener](...given) {
-    super[kNewListener](...given);
+    apply(engineNew, this, given);
     if (given[1] === "message") this.#listens(true);
   }
 

@@ -1,14 +1,16 @@
 // Ports of the run. Their listeners are node's own code. What node has below them is the run's: how a port begins and
-// stops to give messages, keeps its thread alive, sends, and is closed. A listener gets a message when the run delivers it.
+// stops to give messages, keeps its thread alive, sends, and is closed. A listener gets a message when the run delivers
+// it.
 
 import threads from "node:worker_threads";
-import { apply, hasOwn, put } from "../primordials.mjs";
+import { methodOf, replaceNeeded } from "../agent/ordinary/patch.mjs";
+import { apply, put } from "../primordials.mjs";
 import { kNewListener, kRemoveListener, onClose } from "./internals.mjs";
 import { nodeError } from "./node-error.mjs";
 import { KIND } from "./ports.mjs";
 
 const { [kNewListener]: engineNew, [kRemoveListener]: engineRemove } = /** @type {any} */ (EventTarget.prototype);
-const { [onClose]: engineClosed } = /** @type {any} */ (threads.MessagePort.prototype);
+const { [onClose]: engineClosed, removeAllListeners } = /** @type {any} */ (threads.MessagePort.prototype);
 
 /** The names of node's method that gives listeners a value, and of the ports that come with it. */
 const DISPATCH = Symbol.for("nodejs.internal.kHybridDispatch");
@@ -25,7 +27,7 @@ const MESSAGE = "message";
  */
 
 export class PortEvents {
-  /** @param {Pick<Serving, "ports">} serving */
+  /** @param {Serving} serving */
   constructor({ ports }) {
     this.ports = ports;
   }
@@ -35,16 +37,31 @@ export class PortEvents {
     return this.ports.ready();
   }
 
-  /** @param {any} port that has a message: its listeners get it */
+  /** @param {any} port that has a message: what takes it, or its listeners, get it */
   deliver(port) {
-    const { taker, scope } = this.ports.known(port);
+    const { scope, taker } = this.ports.known(port);
     const envelope = this.ports.take(port);
     if (envelope === undefined) return;
     scope.runInAsyncScope(() => {
       if (taker !== undefined) taker(envelope);
       else if (envelope.kind === KIND.CLOSE) this.#closed(port);
-      else dispatch(port, envelope);
+      else this.give(port, envelope);
     });
+  }
+
+  /** @param {any} port @param {import("./ports.mjs").Envelope} envelope a message that its listeners get now */
+  give(port, { value, ports, isUnread }) {
+    port[RECEIVING] = ports;
+    try {
+      port[DISPATCH](value, isUnread ? "messageerror" : MESSAGE, undefined);
+    } finally {
+      port[RECEIVING] = undefined;
+    }
+  }
+
+  /** @param {any} port that is closed: its listeners learn that now */
+  giveClose(port) {
+    apply(engineClosed, port, []);
   }
 
   /** @param {any} port that the program's code closes */
@@ -52,45 +69,35 @@ export class PortEvents {
     const { ports } = this;
     if (ports.known(port).closed) return;
     ports.close(port);
-    ports.world.later("has closed a port", () => apply(engineClosed, port, []));
+    ports.world.later("has closed a port", () => this.giveClose(port));
   }
 
   /** @param {any} port whose other side was closed */
   #closed(port) {
     const { ports } = this;
-    const meta = ports.known(port);
-    if (meta.closed) return;
-    meta.closed = true;
-    meta.refed = false;
-    ports.world.table.close(meta.id);
-    apply(engineClosed, port, []);
+    const known = ports.known(port);
+    if (known.closed) return;
+    known.closed = true;
+    known.refed = false;
+    ports.world.table.close(known.id);
+    this.giveClose(port);
   }
 
   /** @param {any} port that has its first listener of messages */
   begins(port) {
-    const meta = this.ports.known(port);
-    meta.listens = true;
-    meta.refed = !meta.closed;
-    meta.where = this.ports.world.here();
-    if (!meta.closed) this.ports.start(port);
+    const known = this.ports.known(port);
+    known.listens = true;
+    known.refed = !known.closed;
+    known.where = this.ports.world.here();
+    if (!known.closed) this.ports.start(port);
   }
 
   /** @param {any} port whose last listener of messages has gone */
   stops(port) {
-    const meta = this.ports.known(port);
-    meta.listens = false;
-    meta.refed = false;
-    if (!meta.closed) this.ports.stop(port);
-  }
-}
-
-/** @param {any} port @param {import("./ports.mjs").Envelope} envelope a message that its listeners get now */
-function dispatch(port, { value, ports, isUnread }) {
-  port[RECEIVING] = ports;
-  try {
-    port[DISPATCH](value, isUnread ? "messageerror" : MESSAGE, undefined);
-  } finally {
-    port[RECEIVING] = undefined;
+    const known = this.ports.known(port);
+    known.listens = false;
+    known.refed = false;
+    if (!known.closed) this.ports.stop(port);
   }
 }
 
@@ -111,15 +118,20 @@ function methodsOf(events) {
       if (given.length === 0) throw noMessage();
       ports.send(this, given[0], given[1], methods.postMessage);
     },
+    removeAllListeners(...given) {
+      // As in node, the port still keeps its thread alive, and its messages are lost.
+      if (given[0] === undefined || given[0] === MESSAGE) ports.known(this).listens = false;
+      return apply(removeAllListeners, this, given);
+    },
     start() { if (!ports.known(this).closed) ports.start(this); },
     close(done) {
       if (typeof done === "function") this.once("close", done);
       events.close(this);
     },
     ref() {
-      const meta = ports.known(this);
-      meta.refed = !meta.closed;
-      if (meta.where === "") meta.where = ports.world.here();
+      const known = ports.known(this);
+      known.refed = !known.closed;
+      if (known.where === "") known.where = ports.world.here();
     },
     unref() { ports.known(this).refed = false; },
     hasRef() { return ports.known(this).refed; },
@@ -133,39 +145,24 @@ function methodsOf(events) {
  * @param {Record<string, Function>} methods
  */
 export function serveMethods(ports, methods) {
-  const { prototype } = threads.MessagePort;
   for (const [name, method] of Object.entries(methods)) {
-    const engine = /** @type {any} */ (prototype)[name];
-    const { [name]: served } = {
-      /** @param {any[]} given */
-      [name](...given) {
-        return apply(ports.metaOf(this) === undefined ? engine : method, this, given);
-      },
-    };
-    put(prototype, name, served);
+    replaceNeeded(threads.MessagePort.prototype, name, (engine) =>
+      methodOf((port, given) => apply(ports.has(port) ? method : engine, port, given)));
   }
 }
-
-/**
- * What node calls when a port's listeners change.
- * @param {Function} engine what it calls of any target
- * @param {number} count of the listeners of messages with which something happens
- * @param {(port: any) => void} act
- */
-const changing = (engine, count, act) => /** @this {any} @param {any[]} given */ function (...given) {
-  if (given[1] === MESSAGE && given[0] === count) act(this);
-  return apply(engine, this, given);
-};
 
 /** @param {PortEvents} events whose methods ports of the run get */
 export function servePorts(events) {
   const { ports } = events;
-  /** @param {(port: any) => void} act */
-  const ofRun = (act) => (/** @type {any} */ port) => void (ports.metaOf(port) !== undefined && act(port));
-  const begins = changing(engineNew, 1, ofRun((port) => events.begins(port)));
-  const stops = changing(engineRemove, 0, ofRun((port) => events.stops(port)));
+  // Node calls what this makes with a count and a type of listeners.
+  /** @type {(engine: Function, count: number, act: (port: any) => void) => Function} */
+  const changing = (engine, count, act) => /** @this {any} @param {any[]} given */ function (...given) {
+    if (given[1] === MESSAGE && given[0] === count && ports.has(this)) act(this);
+    return apply(engine, this, given);
+  };
+  const begins = changing(engineNew, 1, (port) => events.begins(port));
+  const stops = changing(engineRemove, 0, (port) => events.stops(port));
   ports.onAdopted = (port) => {
-    if (!hasOwn(port, kNewListener)) return;
     port[kNewListener] = begins;
     port[kRemoveListener] = stops;
     // Node closes a port when another thread has left its run. The run's own listeners don't get to know.

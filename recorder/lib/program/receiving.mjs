@@ -11,7 +11,7 @@ const receive = threads.receiveMessageOnPort;
  * @param {import("./moves.mjs").Moves} moves
  */
 export const receiverOf = (ports, moves) => (/** @type {any} */ given) => {
-  if (ports.metaOf(given) === undefined) return receive(given);
+  if (!ports.has(given)) return receive(given);
   moves.yield();
   const envelope = ports.take(given);
   if (envelope === undefined) return undefined;

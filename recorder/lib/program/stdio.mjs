@@ -43,13 +43,12 @@ export const isAnyPiped = ({ stdin, stdout, stderr }) => stdin || stdout || stde
  */
 function serve(ports, port, streamOf) {
   port[kWaitingStreams] = 0;
-  ports.known(port).taker = ({ kind, value, isUnread }) => {
+  ports.serve(port, ({ kind, value, isUnread }) => {
     if (kind !== KIND.MESSAGE || isUnread) return;
     const served = streamOf(value.stream);
     if (value.type === messageTypes.STDIO_WANTS_MORE_DATA) served[kStdioWantsMoreDataCallback]();
     else value.chunks.forEach((/** @type {any} */ { chunk, encoding }) => served.push(chunk, encoding));
-  };
-  ports.start(port);
+  });
 }
 
 /** What a thread prints that isn't asked for by its option: it comes by no message. */
@@ -124,10 +123,10 @@ export class WorkersStdio {
     this.#hasEnded = true;
     const { ports, port } = this;
     if (port !== undefined) {
-      const meta = ports.known(port);
-      for (let left = ports.take(port); left !== undefined; left = ports.take(port)) meta.taker?.(left);
-      meta.refed = false;
-      meta.closed = true;
+      const known = ports.known(port);
+      for (let left = ports.take(port); left !== undefined; left = ports.take(port)) known.taker?.(left);
+      known.refed = false;
+      known.closed = true;
     }
     // The program may have replaced the iterators of arrays.
     PRINTED.forEach((name) => {

@@ -3,8 +3,8 @@
 
 import threads from "node:worker_threads";
 import { deleteProperty, getPrototypeOf } from "../../primordials.mjs";
+import { QueuedPort } from "../known-ports.mjs";
 import { PortEvents, serveMethods } from "../port-events.mjs";
-import { KIND } from "../ports.mjs";
 import { hide } from "./hidden.mjs";
 import { Targets, methodsOf, putHandler } from "./targets.mjs";
 
@@ -41,28 +41,22 @@ export class WebPortEvents extends PortEvents {
   ready() {
     const { ports } = this;
     const ready = super.ready();
-    const channels = ready.filter((port) => ports.known(port).queue !== undefined);
+    const isChannel = (/** @type {any} */ port) => ports.known(port) instanceof QueuedPort;
+    const channels = ready.filter(isChannel);
     if (channels.length < 2) return ready;
     ports.world.mesh.take();
-    const numberOf = (/** @type {any} */ channel) => ports.known(channel).queue?.[0]?.number ?? Infinity;
+    const numberOf = (/** @type {any} */ channel) => ports.queueOf(ports.known(channel).id)[0]?.number ?? Infinity;
     const first = channels.reduce((one, other) => (numberOf(other) < numberOf(one) ? other : one));
-    return ready.filter((port) => port === first || !channels.includes(port));
+    return ready.filter((port) => port === first || !isChannel(port));
   }
 
-  /** @param {any} port that has a message: its listeners get it */
-  deliver(port) {
-    const { ports, targets } = this;
-    const meta = ports.known(port);
-    const envelope = ports.take(port);
-    if (envelope === undefined) return;
-    if (meta.taker !== undefined) meta.taker(envelope);
-    else if (envelope.kind !== KIND.CLOSE) targets.dispatch(port, messageOf(envelope));
-    else if (!meta.closed) {
-      // Browsers have no event for it yet, though the standard has one.
-      meta.closed = true;
-      ports.world.table.close(meta.id);
-    }
+  /** @param {any} port @param {import("../ports.mjs").Envelope} envelope */
+  give(port, envelope) {
+    this.targets.dispatch(port, messageOf(envelope));
   }
+
+  /** Browsers have no event for it yet, though the standard has one. */
+  giveClose() {}
 }
 
 /**
