@@ -14,6 +14,7 @@ import { received, sent } from "./values.mjs";
 
 /** @type {{ new (): { port1: any, port2: any } }} */
 const EngineChannel = /** @type {any} */ (threads.MessageChannel);
+const receive = threads.receiveMessageOnPort;
 const { WeakMap: EngineWeakMap } = globalThis;
 const post = uncurried(threads.MessagePort.prototype.postMessage);
 
@@ -338,3 +339,20 @@ export function channelClass(ports) {
   put(MessageChannel.prototype, Symbol.toStringTag, "MessageChannel");
   return MessageChannel;
 }
+
+/**
+ * `receiveMessageOnPort` of a program: it takes what has come by a port of the run.
+ * @param {Ports} ports
+ */
+export const receiverOf = (ports) => (/** @type {any} */ given) => {
+  if (!ports.has(given)) return receive(given);
+  ports.world.moves.yield();
+  const envelope = ports.take(given);
+  if (envelope === undefined) return undefined;
+  if (envelope.kind === KIND.CLOSE) {
+    ports.close(given);
+    return undefined;
+  }
+  if (envelope.isUnread) throw envelope.value;
+  return { message: envelope.value };
+};

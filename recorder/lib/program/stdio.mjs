@@ -4,6 +4,7 @@
 
 import process from "node:process";
 import stream from "node:stream";
+import { isCalledByAgents } from "../agent/frames.mjs";
 import { defineProperty } from "../primordials.mjs";
 import {
   ReadableWorkerStdio, WritableWorkerStdio, kIncrementsPortRef, kStdioWantsMoreDataCallback, kWaitingStreams,
@@ -168,8 +169,19 @@ let input;
 /** @type {(() => any) | undefined} makes it; undefined: it isn't simulated */
 let makeInput;
 
-/** @returns {any} the thread's standard input; undefined: it isn't simulated */
-export const standardInput = () => (input ??= makeInput?.());
+/**
+ * Gives a program its standard input. If it isn't simulated, it ends the run by its name and line.
+ * @param {(why: string) => never} refuse
+ */
+export function installInput(refuse) {
+  // Node itself, and what lists the members of its modules, gets none.
+  const get = () => {
+    if (!isCalledByAgents(get)) return undefined;
+    input ??= makeInput?.();
+    return input ?? refuse("read process.stdin, which isn't simulated");
+  };
+  defineProperty(process, "stdin", { configurable: true, get });
+}
 
 /** @returns {any} an input that has ended */
 function noInput() {

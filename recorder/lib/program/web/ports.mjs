@@ -2,11 +2,12 @@
 // listeners, but by `start` or by what is assigned to `onmessage`.
 
 import threads from "node:worker_threads";
-import { deleteProperty, getPrototypeOf } from "../../primordials.mjs";
+import { deleteProperty, getPrototypeOf, put } from "../../primordials.mjs";
+import { DELIVER, broadcastClass } from "../broadcast.mjs";
 import { QueuedPort } from "../known-ports.mjs";
 import { PortEvents, serveMethods } from "../port-events.mjs";
 import { hide } from "./hidden.mjs";
-import { Targets, methodsOf, putHandler } from "./targets.mjs";
+import { Targets, methodsOf, putHandler, putMethods } from "./targets.mjs";
 
 const EngineMessageEvent = MessageEvent;
 
@@ -84,4 +85,24 @@ export function serveWebPorts({ ports, targets }) {
   serveMethods(ports, methods);
   putHandler(prototype, "message", targets, start);
   putHandler(prototype, "messageerror", targets);
+}
+
+/**
+ * The BroadcastChannel of the run, with the interface of the DOM.
+ * @param {import("../broadcast.mjs").Casting} casting
+ * @param {Targets} targets
+ * @returns {Function} the class by which the program makes such channels
+ */
+export function webBroadcastClass(casting, targets) {
+  const Channel = /** @type {any} */ (broadcastClass(casting));
+  class BroadcastChannel extends Channel {
+    /** @param {import("../ports.mjs").Envelope} envelope */
+    [DELIVER](envelope) {
+      targets.dispatch(this, messageOf(envelope));
+    }
+  }
+  putMethods(BroadcastChannel.prototype, targets);
+  for (const type of ["message", "messageerror"]) putHandler(BroadcastChannel.prototype, type, targets);
+  for (const name of ["ref", "unref"]) put(BroadcastChannel.prototype, name, undefined);
+  return BroadcastChannel;
 }
