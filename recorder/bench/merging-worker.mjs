@@ -27,7 +27,7 @@ function learned(code, isUnmerged) {
 /** @param {string} url */
 function both(url) {
   try {
-    const code = loadCode(url, flaw);
+    const code = loadCode(url, asker, flaw);
     const merged = learned(code, false);
     return isUnmergedToo ? { merged, unmerged: learned(code, true) } : { merged };
   } catch (problem) {

@@ -71,6 +71,12 @@ export class End {
     return load(this.words, WORD.OVER) === 1;
   }
 
+  /** @returns {boolean} whether agents are sent home since none could move any more, though not all had ended */
+  isStandstill() {
+    const ending = ENDINGS[this.words[WORD.ENDING]];
+    return this.isOver() && (ending === "stuck" || ending === "deadlock");
+  }
+
   /** Sends home the agents of a run that has ended. */
   dismiss() {
     store(this.words, WORD.OVER, 1);

@@ -62,14 +62,14 @@ export class Vain {
 
   /**
    * The callback of a timer begins: it is in vain if there is no news until the thread rests.
-   * @param {unknown} place where the timer was made
+   * @param {() => unknown} place where the timer was made
    */
   turns(place) {
     this.words[WORD.VAIN] += 1;
     if (this.words[WORD.VAIN] < HALF) return;
     if (this.#row !== this.rows[ROW]) this.#places = new EngineSet();
     this.#row = this.rows[ROW];
-    this.#places.add(place);
+    this.#places.add(place());
   }
 
   /** Whether the turn is shown that begins now. */

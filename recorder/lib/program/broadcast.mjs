@@ -110,10 +110,10 @@ class BroadcastChannel extends EngineTarget {
     if (arguments.length === 0) throw missing("name");
     super();
     const { ports, moves } = world();
-    const { table, here } = ports.world;
+    const { table, hereLater } = ports.world;
     moves.yield();
     this.#name = `${name}`;
-    this.#where = here();
+    this.#where = hereLater();
     const known = ports.queued(this, (envelope) => this[DELIVER](envelope));
     Object.assign(known, { refed: true, where: this.#where });
     this.#id = known.id;
@@ -136,7 +136,7 @@ class BroadcastChannel extends EngineTarget {
   #listens(listens) {
     const { ports } = world();
     if (!ports.has(this)) return;
-    Object.assign(ports.known(this), { listens, where: listens ? ports.world.here() : this.#where });
+    Object.assign(ports.known(this), { listens, where: listens ? ports.world.hereLater() : this.#where });
   }
 
   /** @param {any[]} given by node when there is another listener: how many of its type, the type, and more */

@@ -19,8 +19,8 @@ export class KnownPort {
   /** Whether listeners of messages keep it so. */
   listens = false;
 
-  /** Where the first of these was added, or what else keeps it so. */
-  where = "";
+  /** @type {import("../agent/frames.mjs").Later | undefined} where the first was added, or what else keeps it so */
+  where = undefined;
 
   closed = false;
 
@@ -47,10 +47,14 @@ export class KnownPort {
     return { ...about.message, ...found.message };
   }
 
-  /** @returns {string | undefined} what keeps its thread alive, in words */
+  /** @returns {boolean} whether it keeps its thread alive */
+  get keeps() {
+    return this.refed && !this.closed;
+  }
+
+  /** @returns {string} how it does that, in words */
   get keeper() {
-    if (!this.refed || this.closed) return undefined;
-    return `a port ${this.listens ? "with a listener from" : "that is kept alive at"} ${this.where}`;
+    return `a port ${this.listens ? "with a listener from" : "that is kept alive at"} ${this.where?.() ?? ""}`;
   }
 
   /** The run is over. */

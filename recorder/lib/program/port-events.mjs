@@ -88,7 +88,7 @@ export class PortEvents {
     const known = this.ports.known(port);
     known.listens = true;
     known.refed = !known.closed;
-    known.where = this.ports.world.here();
+    known.where = this.ports.world.hereLater();
     if (!known.closed) this.ports.start(port);
   }
 
@@ -131,7 +131,7 @@ function methodsOf(events) {
     ref() {
       const known = ports.known(this);
       known.refed = !known.closed;
-      if (known.where === "") known.where = ports.world.here();
+      known.where ??= ports.world.hereLater();
     },
     unref() { ports.known(this).refed = false; },
     hasRef() { return ports.known(this).refed; },

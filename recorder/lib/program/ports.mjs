@@ -44,6 +44,7 @@ const isUrgent = (kind) => kind > KIND.CLOSE;
  * @property {import("./buffers.mjs").Buffers} buffers
  * @property {import("./mesh.mjs").Mesh} mesh
  * @property {() => string} here where the program's code is
+ * @property {() => import("../agent/frames.mjs").Later} hereLater the same
  * @property {(why: string) => never} refuse ends the run
  * @property {(name: string, act: () => void) => void} later does something as a task of its own
  * @property {(number: number, kind: number, value: unknown) => void} noted notes what is in a message that is sent
@@ -299,15 +300,20 @@ export class Ports {
     return this.world.table.waiting(this.known(port).id);
   }
 
+  /** @returns {KnownPort[]} what is known of the ports that keep this thread alive */
+  keeping() {
+    /** @type {KnownPort[]} */
+    const keeping = [];
+    mapForEach(this.mine, (/** @type {any} */ port) => {
+      const known = this.known(port);
+      if (known.keeps) keeping.push(known);
+    });
+    return keeping;
+  }
+
   /** @returns {string[]} what keeps this thread alive, in words */
   keepers() {
-    /** @type {string[]} */
-    const texts = [];
-    mapForEach(this.mine, (/** @type {any} */ port) => {
-      const { keeper } = this.known(port);
-      if (keeper !== undefined) texts.push(keeper);
-    });
-    return texts;
+    return this.keeping().map(({ keeper }) => keeper);
   }
 
   /** @param {number} id of a port @returns {number} what a message to it goes to: its thread, or the port itself */

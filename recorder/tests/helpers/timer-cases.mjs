@@ -78,8 +78,8 @@ for (const name of Object.keys(SCENARIOS)) {
     for (let time = 100; ; time *= 2) {
       const byNode = await loggedByNode(name, time);
       const here = await loggedHere(name);
-      assert.ok(byNode.length > 0, "the scenario logs nothing");
       if (time < 1_000 && !isDeepStrictEqual(here, byNode)) continue;
+      assert.ok(byNode.length > 0, "the scenario logs nothing");
       assert.deepEqual(here, byNode);
       break;
     }
@@ -127,7 +127,7 @@ cases["a timer runs when its time is reached and not before, one at a time"] = (
 };
 
 cases["a stuck program names what keeps each thread alive, with its place"] = () => {
-  const timers2 = new Timers({ now: () => 0, here: () => "main.mjs:1:2" });
+  const timers2 = new Timers({ now: () => 0, here: () => () => "main.mjs:1:2" });
   own.setTimeout(() => {}, 7);
   own.setInterval(() => {}, 3);
   own.setTimeout(() => {}, 1).unref();
