@@ -269,4 +269,16 @@ describe("threads that are kept", () => {
     assert.deepEqual(endingsOf(outcomes), ["finished: "]);
     assert.deepEqual(outcomes.map(({ state: { shown: [bytes] } }) => Number(bytes.slice(8, 10))), [1, 3, 5, 7]);
   });
+
+  it("call no listener of an earlier run's ports, which node closes then", async (context) => {
+    const outcomes = await runsOf(context, {
+      "main.mjs": `import { MessageChannel } from "node:worker_threads";
+        if (globalThis.heard) throw new Error(globalThis.heard);
+        const [one, other] = [new MessageChannel(), new MessageChannel()];
+        one.port1.on("close", () => { globalThis.heard = "one that was left open"; });
+        other.port1.on("close", () => { globalThis.heard = "one that has gone to another thread"; });
+        one.port2.postMessage(other.port1, [other.port1]);`,
+    }, { seeds: seedsTo(4) });
+    assert.deepEqual(endingsOf(outcomes), ["finished: "]);
+  });
 });

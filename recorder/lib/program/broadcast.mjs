@@ -3,6 +3,7 @@
 
 import threads from "node:worker_threads";
 import { apply, uncurried } from "../primordials.mjs";
+import { defineEventHandler, kNewListener, kRemoveListener } from "./internals.mjs";
 import { TO_CHANNELS } from "./moves.mjs";
 import { nodeError } from "./node-error.mjs";
 import { KIND } from "./ports.mjs";
@@ -16,6 +17,7 @@ const post = uncurried(threads.MessagePort.prototype.postMessage);
 const { port1: closed } = new /** @type {any} */ (threads).MessageChannel();
 closed.close();
 const EngineTarget = EventTarget;
+const { [kNewListener]: engineNew } = /** @type {any} */ (EngineTarget.prototype);
 const EngineException = DOMException;
 const EngineEvent = MessageEvent;
 const { imul } = Math;
@@ -102,25 +104,19 @@ class BroadcastChannel extends EngineTarget {
   #isClosed = false;
   /** Where it was made. */
   #where;
-  /** @type {Map<string, { handler: any }>} each is a listener since it was first assigned, as in node */
-  #handlers = new Map();
 
   /** @param {unknown} name */
   constructor(name) {
     if (arguments.length === 0) throw missing("name");
     super();
     const { ports, moves } = world();
-    const { table, agent } = ports.world;
+    const { table, hereLater } = ports.world;
     moves.yield();
     this.#name = `${name}`;
-    this.#where = ports.world.hereLater();
-    this.#id = table.addPair(agent);
-    ports.adopt(this, this.#id);
-    const meta = ports.known(this);
-    meta.queue = [];
-    meta.refed = true;
-    meta.where = this.#where;
-    meta.taker = (envelope) => this[DELIVER](envelope);
+    this.#where = hereLater();
+    const known = ports.queued(this, (envelope) => this[DELIVER](envelope));
+    Object.assign(known, { refed: true, where: this.#where });
+    this.#id = known.id;
     table.setName(this.#id, numberOf(this.#name));
     table.start(this.#id);
   }
@@ -136,38 +132,22 @@ class BroadcastChannel extends EngineTarget {
     return this.#name;
   }
 
-  /** @param {string} type @param {any} handler */
-  #handle(type, handler) {
-    const given = this.#handlers.get(type);
-    if (given !== undefined) {
-      given.handler = handler;
-      return;
-    }
-    const own = { handler };
-    this.#handlers.set(type, own);
-    /** @type {any} */ (this).addEventListener(type, (/** @type {unknown} */ event) => {
-      if (typeof own.handler === "function") apply(own.handler, this, [event]);
-    });
-  }
-
-  get onmessageerror() {
-    return this.#handlers.get("messageerror")?.handler ?? null;
-  }
-
-  set onmessageerror(/** @type {any} */ handler) {
-    this.#handle("messageerror", handler);
-  }
-
-  get onmessage() {
-    return this.#handlers.get("message")?.handler ?? null;
-  }
-
-  set onmessage(/** @type {any} */ handler) {
-    this.#handle("message", handler);
+  /** @param {boolean} listens: what keeps the thread alive is named by the line that matters most to a reader */
+  #listens(listens) {
     const { ports } = world();
-    const listens = typeof handler === "function";
-    // What keeps the thread alive is named by the line that matters most to a reader.
+    if (!ports.has(this)) return;
     Object.assign(ports.known(this), { listens, where: listens ? ports.world.hereLater() : this.#where });
+  }
+
+  /** @param {any[]} given by node when there is another listener: how many of its type, the type, and more */
+  [kNewListener](...given) {
+    apply(engineNew, this, given);
+    if (given[1] === "message") this.#listens(true);
+  }
+
+  /** @param {number} count of the listeners that are left @param {string} type of theirs */
+  [kRemoveListener](count, type) {
+    if (type === "message" && count === 0) this.#listens(false);
   }
 
   /** @param {unknown} value */
@@ -205,6 +185,8 @@ class BroadcastChannel extends EngineTarget {
     this.dispatchEvent(new EngineEvent(isUnread ? "messageerror" : "message", { data: value }));
   }
 }
+
+for (const type of ["message", "messageerror"]) defineEventHandler(BroadcastChannel.prototype, type);
 
 /** @param {Casting} given @returns {Function} the class by which the program makes such channels */
 export function broadcastClass(given) {

@@ -5,7 +5,8 @@ import nodeModule from "node:module";
 import net from "node:net";
 import process from "node:process";
 import threads from "node:worker_threads";
-import { apply, construct, isArray, likeEngine, proxyOf, put } from "../primordials.mjs";
+import { replaceNeeded } from "../agent/ordinary/patch.mjs";
+import { apply, construct, isArray, proxyOf, put } from "../primordials.mjs";
 import { member } from "./member.mjs";
 import { nodeError } from "./node-error.mjs";
 import { demandTransferable } from "./ports.mjs";
@@ -40,11 +41,10 @@ export function installMemory(made) {
  */
 export function installCloning(buffers, refuse) {
   installMarks();
-  const engine = globalThis.structuredClone;
-  member(globalThis, "structuredClone", likeEngine((/** @type {any[]} */ ...given) => {
+  replaceNeeded(globalThis, "structuredClone", (engine) => (/** @type {any[]} */ ...given) => {
     if (isArray(given[1]?.transfer)) demandTransferable(given[1].transfer, refuse);
     return given.length === 0 ? apply(engine, undefined, given) : clonedValue(given[0], given[1], buffers);
-  }, engine));
+  });
 }
 
 /**
@@ -94,7 +94,7 @@ export function installThreads(place, classes) {
  * @param {number} agent
  */
 export function installProcess(exit, agent) {
-  member(process, "exit", likeEngine((/** @type {unknown[]} */ ...given) => exit(given), process.exit));
+  replaceNeeded(process, "exit", () => (/** @type {unknown[]} */ ...given) => exit(given));
   member(process, "reallyExit", (/** @type {unknown} */ code) => exit([code]));
   member(process, "abort", () => {
     if (agent === 0) exit([134]);

@@ -1,17 +1,18 @@
 // What the recorder uses of node's inside: all of it is here, with what is needed of it. Only threads with the flags of
-// `graph-flags.cjs` have it. If this node lacks something, no thread of a program begins, and the error names all of it.
+// `graph-flags.cjs` have it. If this node lacks something, no thread of a program begins, and the error names all.
 
 import fs from "node:fs";
 import Module from "node:module";
 import process from "node:process";
 import { fileURLToPath } from "node:url";
 import { types } from "node:util";
-import { apply, defineProperty, setPrototypeOf } from "../primordials.mjs";
+import { defineProperty, setPrototypeOf } from "../primordials.mjs";
 import { REFUSED } from "../options/refused.mjs";
 import { TRIED } from "../processes/node-versions.mjs";
+import { rememberFiles } from "./remembered-files.mjs";
 
 const required = Module.createRequire(import.meta.url);
-const { readFileSync, statSync } = /** @type {any} */ (fs);
+const { readFileSync } = /** @type {any} */ (fs);
 
 /** The URL of a file whose text is a script or a module. */
 const SCRIPT = /^file:.*\.[cm]?js$/;
@@ -67,7 +68,7 @@ function inside(id, needed) {
 /** @param {string} id of a module of node's, without `internal/` @returns {boolean} whether this node has it */
 const has = (id) => required("node:module").builtinModules.includes(`internal/${id}`);
 
-/** What of node isn't JavaScript, by the names of its parts; and the language's functions as node's own code takes them. */
+/** What of node isn't JavaScript, by the names of its parts; the language's functions as node's own code takes them. */
 const { internalBinding, primordials } = inside("test/binding", { internalBinding: "function", primordials: "object" });
 
 /**
@@ -102,7 +103,10 @@ const OUTSIDE = 1;
 /** The numbers of what a run begins come after this one: a thread has fewer before. */
 const BEFORE_RUNS = 1_000;
 
-/** @param {object} resource of something that the recorder does now: what the program's code begins then is under no other */
+/**
+ * @param {object} resource of something that the recorder does now: what the program's code begins then is under no
+ * other
+ */
 export const enterContext = (resource) => void asyncHooks.pushAsyncContext(OUTSIDE, 0, resource);
 
 /** It is done. */
@@ -129,7 +133,7 @@ const timersBelow = below("timers", {
 /** The same as it is of the thread, however it is replaced later. The functions are called as members of `binding`. */
 export const realTimers = { ...timersBelow, binding: timersBelow };
 
-/** Which words of `immediateInfo` count immediates: all, those that keep the thread alive, and whether one has thrown. */
+/** The words of `immediateInfo`: how many immediates there are, how many keep the thread alive, if one has thrown. */
 export const IMMEDIATES = 0;
 export const REFED_IMMEDIATES = 1;
 export const THREW = 2;
@@ -175,6 +179,14 @@ export function showFrames(shown) {
 export const packers = Object.values(below("zlib", { Zlib: "function", BrotliEncoder: "function" }))
   .filter((each) => typeof each.prototype?.writeSync === "function");
 export const streamOf = asyncHooks.symbols?.owner_symbol;
+
+/** The names of what node calls when a target's listeners change, and what gives a class such as `onmessage`. */
+export const { kNewListener, kRemoveListener, defineEventHandler } = inside("event_target", {
+  kNewListener: "symbol", kRemoveListener: "symbol", defineEventHandler: "function",
+});
+
+/** The name of what node calls when it has closed a port. */
+export const onClose = below("symbols", { handle_onclose: "symbol" }).handle_onclose;
 
 /** The options that node itself was started with. */
 export const options = inside("options", { getOptionValue: "function" });
@@ -278,7 +290,11 @@ withHidden("Module.prototype", Modules.prototype, ["_compile"]);
  */
 export const resolveModule = (specifier, parentURL) => defaultResolve(specifier, { parentURL }).url;
 
-/** @param {string} url @param {string | undefined} format @returns {string | undefined} undefined: node reads it itself */
+/**
+ * @param {string} url
+ * @param {string | undefined} format
+ * @returns {string | undefined} undefined: node reads it itself
+ */
 function textOf(url, format) {
   // A module of CommonJS is read by what runs it.
   if (format === "commonjs") return "";
@@ -289,32 +305,6 @@ function textOf(url, format) {
 function readAtOnce(url, asked) {
   const found = defaultLoadSync(url, { ...asked, source: textOf(url, asked?.format) });
   return found.format === "commonjs" ? { ...found, source: null } : found;
-}
-
-/** @param {string} file its path @returns {boolean} */
-export const isThere = (file) => statSync(file, { throwIfNoEntry: false })?.isFile() === true;
-
-/** So many are remembered: some programs make other URLs in each run. */
-const MOST_FILES = 1_000;
-
-/** @type {Map<string, { found: { url: string }, file: string }>} the files that modules import, by module and specifier */
-const files = new Map();
-
-/**
- * Has a loader find a file where it was found before in this thread, as long as it is there: to find it takes long.
- * @param {any} loader
- */
-function rememberFiles(loader) {
-  const find = loader.defaultResolve;
-  loader.defaultResolve = (/** @type {string} */ specifier, /** @type {string} */ parent, /** @type {object} */ given) => {
-    const key = `${parent} ${specifier}`;
-    const known = files.get(key);
-    if (known !== undefined && isThere(known.file)) return known.found;
-    const found = apply(find, loader, [specifier, parent, given]);
-    if (files.size === MOST_FILES) files.clear();
-    if (found.url.startsWith("file:")) files.set(key, { found, file: fileURLToPath(found.url) });
-    return found;
-  };
 }
 
 /**
@@ -391,7 +381,7 @@ export function subtleOver(later) {
 }
 
 if (lacking.length > 0) {
-  const why = `whole programs don't run on node ${process.version.slice(1)}, which lacks ${lacking.join(", ")}. They were `
-    + `tried on node ${TRIED.join(" and ")}. Modules of agents run on this node, too`;
+  const why = `whole programs don't run on node ${process.version.slice(1)}, which lacks ${lacking.join(", ")}. They `
+    + `were tried on node ${TRIED.join(" and ")}. Modules of agents run on this node, too`;
   throw Object.assign(new Error(why), { name: REFUSED });
 }

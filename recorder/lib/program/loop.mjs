@@ -6,9 +6,8 @@ import { WORD } from "../memory/layout.mjs";
 import { Random } from "../memory/random.mjs";
 import { runTicks, underWay } from "./internals.mjs";
 import { KeptAlive } from "./kept-alive.mjs";
-import { READING } from "./reading.mjs";
 import { never, turnLater } from "./real-loop.mjs";
-import { isForeign, pendingOf } from "./real-work.mjs";
+import { READING, isForeign, pendingOf } from "./real-work.mjs";
 
 /** Each thread draws its tasks from a random stream of its own, numbered from here. */
 const TASKS = 64;

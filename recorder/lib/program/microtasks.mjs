@@ -1,10 +1,8 @@
 // What `queueMicrotask` calls. If the code of a run has been left, it is dropped: in some versions of node no hook
 // shows that it begins.
 
-import { apply, likeEngine, weakHas, weakSet } from "../primordials.mjs";
-import { member } from "./member.mjs";
-
-const { queueMicrotask: engine } = /** @type {any} */ (globalThis);
+import { replaceNeeded } from "../agent/ordinary/patch.mjs";
+import { apply, weakHas, weakSet } from "../primordials.mjs";
 
 /** @type {WeakMap<object, true>} what node is given to call */
 const ours = new WeakMap();
@@ -14,7 +12,7 @@ export const isDropped = ({ callback }) => typeof callback === "function" && wea
 
 /** @param {() => boolean} isPlaying whether the thread's code has a part in a run */
 export function installMicrotasks(isPlaying) {
-  member(globalThis, "queueMicrotask", likeEngine((/** @type {any[]} */ ...given) => {
+  replaceNeeded(globalThis, "queueMicrotask", (engine) => (/** @type {any[]} */ ...given) => {
     // A program may have replaced iterators, so the list isn't taken apart.
     const act = given[0];
     // Node throws its error.
@@ -24,5 +22,5 @@ export function installMicrotasks(isPlaying) {
     };
     weakSet(ours, call, true);
     return engine(call);
-  }, engine));
+  });
 }

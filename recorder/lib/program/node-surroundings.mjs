@@ -11,10 +11,9 @@ import { installThreads } from "./install.mjs";
 import { lockManager } from "./locks.mjs";
 import { member } from "./member.mjs";
 import { PortEvents, servePorts } from "./port-events.mjs";
-import { KIND, channelClass } from "./ports.mjs";
+import { KIND, channelClass, receiverOf } from "./ports.mjs";
 import { envOf, ignoringCase } from "./process-env.mjs";
 import { ProgramModules } from "./program-modules.mjs";
-import { receiverOf } from "./receiving.mjs";
 import { argvOf, evaluated } from "./start.mjs";
 import { beginStdio, clearStdio } from "./stdio.mjs";
 import { workerClass } from "./workers.mjs";
@@ -67,7 +66,7 @@ function begin(parts, start, parentPort) {
   const place = { agent, workerData, parentPort, argv: argvOf(start), execArgv, env, environment };
   installThreads({ ...place, threadName, resourceLimits }, {
     Worker: workerClass({ ...parts, environment }), MessageChannel: channelClass(ports),
-    receiveMessageOnPort: receiverOf(ports, moves),
+    receiveMessageOnPort: receiverOf(ports),
     BroadcastChannel: broadcastClass({ ports, moves, mesh, buffers }),
   });
   if (agent === 0) return;

@@ -2,29 +2,26 @@
 // cloned and transferred is as in node. But a port is never started for node. A message waits in it until the run
 // delivers it.
 
-import { AsyncResource } from "node:async_hooks";
 import threads from "node:worker_threads";
 import { described } from "../agent/described.mjs";
-import { copied, hasOwn, isArray, mapForEach, put, uncurried, weakGet, weakHas, weakSet } from "../primordials.mjs";
+import { copied, isArray, mapForEach, put, uncurried, weakGet, weakHas, weakSet } from "../primordials.mjs";
 import { NOBODYS } from "../board/port-table.mjs";
 import { FileHandle } from "./file-handle.mjs";
+import { KnownPort, QueuedPort } from "./known-ports.mjs";
 import { toPort, toThread } from "./moves.mjs";
 import { nodeError } from "./node-error.mjs";
-import { UNREAD, nextOf } from "./unread.mjs";
 import { received, sent } from "./values.mjs";
 
 /** @type {{ new (): { port1: any, port2: any } }} */
 const EngineChannel = /** @type {any} */ (threads.MessageChannel);
+const receive = threads.receiveMessageOnPort;
 const { WeakMap: EngineWeakMap } = globalThis;
-/** @type {{ new (type: string): { runInAsyncScope(act: () => void): void } }} */
-const Scope = /** @type {any} */ (AsyncResource);
 const post = uncurried(threads.MessagePort.prototype.postMessage);
-const close = uncurried(threads.MessagePort.prototype.close);
 
 /** What a message is, besides one of the program's code. */
 export const KIND = Object.freeze({ MESSAGE: 0, CLOSE: 1, ONLINE: 2, ERROR: 3, EXIT: 4 });
 
-/** @param {number} kind @returns {boolean} whether it is about a thread: it comes, also if nobody listens to messages */
+/** @param {number} kind @returns {boolean} whether it is about a thread: then it comes, if anybody listens or not */
 const isUrgent = (kind) => kind > KIND.CLOSE;
 
 /** @typedef {import("node:worker_threads").MessagePort} Port */
@@ -37,29 +34,6 @@ const isUrgent = (kind) => kind > KIND.CLOSE;
  * @property {Port[]} ports that are transferred in it
  * @property {number[]} ids of these
  * @property {boolean} [isUnread] whether it couldn't be read: the value is what was thrown
- */
-
-/**
- * @typedef {object} Listener
- * @property {string} type of its events
- * @property {any} listener
- * @property {boolean} once
- * @property {boolean} isEvent whether it gets an event, and not the value
- * @property {boolean} [isHandler] whether it was assigned, as to `onmessage`
- */
-
-/**
- * @typedef {object} Meta what a thread knows about a port
- * @property {number} id
- * @property {Listener[]} listeners in the order in which they were added
- * @property {boolean} listens whether it has a listener of messages
- * @property {boolean} refed whether it keeps its thread alive
- * @property {boolean} closed
- * @property {import("../agent/frames.mjs").Later | undefined} where the first listener was added
- * @property {((envelope: Envelope) => void) | undefined} taker gets its messages, if they aren't for listeners
- * @property {boolean} keeps whether it can keep its thread alive
- * @property {{ runInAsyncScope(act: () => void): void }} scope in which its messages are delivered
- * @property {Envelope[] | undefined} queue its messages, if they don't come by node's channel
  */
 
 /**
@@ -119,20 +93,12 @@ const notIterable = (name) =>
 /** So many objects can't be in each other so deep that the other side couldn't read them. */
 const FEW_OBJECTS = 100;
 
-/** @param {any} port @returns {Envelope | undefined} its next message; undefined: it was closed */
-function envelopeOf(port) {
-  const found = nextOf(port);
-  if (found === undefined) return undefined;
-  if (!(UNREAD in found) && hasOwn(found.message, "kind")) return found.message;
-  const about = nextOf(port);
-  if (about === undefined) return undefined;
-  if (UNREAD in found) return { ...about.message, value: found[UNREAD], ports: [], isUnread: true };
-  return { ...about.message, ...found.message };
-}
-
 export class Ports {
-  /** @type {WeakMap<object, Meta>} */
-  #metas = new EngineWeakMap();
+  /** @type {WeakMap<object, KnownPort>} */
+  #known = new EngineWeakMap();
+
+  /** @type {(port: any) => void} is called for each port that this thread gets */
+  onAdopted = () => {};
 
   /** @type {Map<number, any>} the ports that this thread has, by their numbers */
   mine = new Map();
@@ -144,21 +110,19 @@ export class Ports {
 
   /** Nothing of an earlier run is left. */
   clear() {
-    mapForEach(this.mine, (/** @type {any} */ port) => {
-      if (this.known(port).queue === undefined) close(port);
-    });
+    mapForEach(this.mine, (/** @type {any} */ port) => this.known(port).end());
     this.mine = new Map();
-    this.#metas = new EngineWeakMap();
+    this.#known = new EngineWeakMap();
   }
 
-  /** @param {unknown} port @returns {Meta | undefined} */
-  metaOf(port) {
-    return weakGet(this.#metas, port);
+  /** @param {unknown} port @returns {boolean} whether this thread has it */
+  has(port) {
+    return weakHas(this.#known, port);
   }
 
-  /** @param {unknown} port @returns {Meta} of a port that this thread has */
+  /** @param {unknown} port @returns {KnownPort} of a port that this thread has */
   known(port) {
-    return weakGet(this.#metas, port);
+    return weakGet(this.#known, port);
   }
 
   /** @returns {{ port1: any, port2: any }} a channel of node's, both ports of which this thread has */
@@ -172,25 +136,47 @@ export class Ports {
     return { port1, port2 };
   }
 
-  /**
-   * This thread has a port now.
-   * @param {any} port
-   * @param {number} id
-   */
+  /** @param {any} port of node's that this thread has now @param {number} id */
   adopt(port, id) {
-    weakSet(this.#metas, port, {
-      id, listeners: [], listens: false, refed: false, closed: false, where: undefined, taker: undefined,
-      keeps: true, queue: undefined, scope: new Scope("MESSAGEPORT"),
-    });
-    this.mine.set(id, port);
-    this.world.table.give(id, this.world.agent);
+    this.#have(new KnownPort(port, id));
+    this.onAdopted(port);
+  }
+
+  /**
+   * Something has its messages by the hidden ports of threads.
+   * @param {object} port what stands for a port
+   * @param {(envelope: Envelope) => void} taker gets the messages
+   * @returns {QueuedPort}
+   */
+  queued(port, taker) {
+    const { table, agent } = this.world;
+    const queued = new QueuedPort(port, table.addPair(agent), taker);
+    this.#have(queued);
+    return queued;
+  }
+
+  /** @param {KnownPort} known of this thread from now on */
+  #have(known) {
+    weakSet(this.#known, known.port, known);
+    this.mine.set(known.id, known.port);
+    this.world.table.give(known.id, this.world.agent);
+  }
+
+  /**
+   * Something of the thread's gets a port's messages from now on.
+   * @param {any} port
+   * @param {(envelope: Envelope) => void} taker
+   */
+  serve(port, taker) {
+    this.known(port).taker = taker;
+    this.start(port);
   }
 
   /** @param {any} port that goes to another thread, or to this one once more */
   leave(port) {
     const { id } = this.known(port);
     this.mine.delete(id);
-    this.#metas.delete(port);
+    this.#known.delete(port);
     this.world.table.give(id, NOBODYS);
     this.world.table.stop(id);
   }
@@ -208,7 +194,7 @@ export class Ports {
     const { id, closed } = this.known(port);
     const list = listOf(transfer);
     demandTransferable(list, this.world.refuse);
-    const ports = list.filter((each) => weakHas(this.#metas, each));
+    const ports = list.filter((each) => this.has(each));
     const walked = { objects: Infinity };
     const bare = sent(value, buffers, walked);
     if (closed && kind === KIND.MESSAGE) {
@@ -241,10 +227,11 @@ export class Ports {
    */
   take(port) {
     const { table, moves, buffers, mesh, note } = this.world;
-    const { id, queue } = this.known(port);
+    const known = this.known(port);
+    const { id } = known;
     if (table.waiting(id) === 0) return undefined;
-    if (queue !== undefined) mesh.take();
-    const envelope = queue === undefined ? envelopeOf(port) : queue.shift();
+    if (known instanceof QueuedPort) mesh.take();
+    const envelope = known.next();
     table.addWaiting(id, -1);
     if (envelope === undefined) return { value: undefined, kind: KIND.CLOSE, number: -1, ports: [], ids: [] };
     if (isUrgent(envelope.kind)) table.addUrgent(id, -1);
@@ -267,7 +254,8 @@ export class Ports {
 
   /** @param {number} id of a port of this thread that has a queue @returns {Envelope[]} */
   queueOf(id) {
-    return this.known(this.mine.get(id))?.queue ?? [];
+    const known = this.known(this.mine.get(id));
+    return known instanceof QueuedPort ? known.queue : [];
   }
 
   /** @param {unknown} value that a thread was started with @returns {unknown} */
@@ -287,13 +275,13 @@ export class Ports {
 
   /** @param {any} port that is closed by this thread: the other side learns that after what was sent before */
   close(port) {
-    const meta = this.known(port);
-    if (meta.closed) return;
+    const known = this.known(port);
+    if (known.closed) return;
     const { table } = this.world;
-    meta.closed = true;
-    meta.refed = false;
-    if (!table.isClosed(meta.id ^ 1)) this.send(port, undefined, [], undefined, KIND.CLOSE);
-    table.close(meta.id);
+    known.closed = true;
+    known.refed = false;
+    if (!table.isClosed(known.id ^ 1)) this.send(port, undefined, [], undefined, KIND.CLOSE);
+    table.close(known.id);
   }
 
   /** @returns {any[]} the ports of this thread that have a message to be delivered, in the order of their numbers */
@@ -312,21 +300,20 @@ export class Ports {
     return this.world.table.waiting(this.known(port).id);
   }
 
-  /** @returns {Meta[]} what is known of the ports that keep this thread alive */
+  /** @returns {KnownPort[]} what is known of the ports that keep this thread alive */
   keeping() {
-    /** @type {Meta[]} */
-    const metas = [];
+    /** @type {KnownPort[]} */
+    const keeping = [];
     mapForEach(this.mine, (/** @type {any} */ port) => {
-      const meta = this.known(port);
-      if (meta.refed && !meta.closed && meta.keeps) metas.push(meta);
+      const known = this.known(port);
+      if (known.keeps) keeping.push(known);
     });
-    return metas;
+    return keeping;
   }
 
   /** @returns {string[]} what keeps this thread alive, in words */
   keepers() {
-    return this.keeping().map(({ listens, where }) =>
-      `a port ${listens ? "with a listener from" : "that is kept alive at"} ${where?.() ?? ""}`);
+    return this.keeping().map(({ keeper }) => keeper);
   }
 
   /** @param {number} id of a port @returns {number} what a message to it goes to: its thread, or the port itself */
@@ -358,3 +345,20 @@ export function channelClass(ports) {
   put(MessageChannel.prototype, Symbol.toStringTag, "MessageChannel");
   return MessageChannel;
 }
+
+/**
+ * `receiveMessageOnPort` of a program: it takes what has come by a port of the run.
+ * @param {Ports} ports
+ */
+export const receiverOf = (ports) => (/** @type {any} */ given) => {
+  if (!ports.has(given)) return receive(given);
+  ports.world.moves.yield();
+  const envelope = ports.take(given);
+  if (envelope === undefined) return undefined;
+  if (envelope.kind === KIND.CLOSE) {
+    ports.close(given);
+    return undefined;
+  }
+  if (envelope.isUnread) throw envelope.value;
+  return { message: envelope.value };
+};

@@ -2,7 +2,9 @@
 // noted by name and line, since such a run repeats only as far as these answers do.
 
 import { activeHandles } from "./internals.mjs";
-import { READING } from "./reading.mjs";
+
+/** What is under way in a thread while node reads a module or a file. */
+export const READING = new Set(["FSReqPromise", "FSReqCallback", "FileHandleCloseReq", "CloseReq"]);
 
 /** What each thread has by itself, and isn't work that is under way. */
 const OURS = new Set(["Immediate", "MessagePort", "Timeout", ...READING]);

@@ -4,6 +4,7 @@
 
 import process from "node:process";
 import stream from "node:stream";
+import { isCalledByAgents } from "../agent/frames.mjs";
 import { defineProperty } from "../primordials.mjs";
 import {
   ReadableWorkerStdio, WritableWorkerStdio, kIncrementsPortRef, kStdioWantsMoreDataCallback, kWaitingStreams,
@@ -43,13 +44,12 @@ export const isAnyPiped = ({ stdin, stdout, stderr }) => stdin || stdout || stde
  */
 function serve(ports, port, streamOf) {
   port[kWaitingStreams] = 0;
-  ports.known(port).taker = ({ kind, value, isUnread }) => {
+  ports.serve(port, ({ kind, value, isUnread }) => {
     if (kind !== KIND.MESSAGE || isUnread) return;
     const served = streamOf(value.stream);
     if (value.type === messageTypes.STDIO_WANTS_MORE_DATA) served[kStdioWantsMoreDataCallback]();
     else value.chunks.forEach((/** @type {any} */ { chunk, encoding }) => served.push(chunk, encoding));
-  };
-  ports.start(port);
+  });
 }
 
 /** What a thread prints that isn't asked for by its option: it comes by no message. */
@@ -124,10 +124,10 @@ export class WorkersStdio {
     this.#hasEnded = true;
     const { ports, port } = this;
     if (port !== undefined) {
-      const meta = ports.known(port);
-      for (let left = ports.take(port); left !== undefined; left = ports.take(port)) meta.taker?.(left);
-      meta.refed = false;
-      meta.closed = true;
+      const known = ports.known(port);
+      for (let left = ports.take(port); left !== undefined; left = ports.take(port)) known.taker?.(left);
+      known.refed = false;
+      known.closed = true;
     }
     // The program may have replaced the iterators of arrays.
     PRINTED.forEach((name) => {
@@ -169,8 +169,19 @@ let input;
 /** @type {(() => any) | undefined} makes it; undefined: it isn't simulated */
 let makeInput;
 
-/** @returns {any} the thread's standard input; undefined: it isn't simulated */
-export const standardInput = () => (input ??= makeInput?.());
+/**
+ * Gives a program its standard input. If it isn't simulated, it ends the run by its name and line.
+ * @param {(why: string) => never} refuse
+ */
+export function installInput(refuse) {
+  // Node itself, and what lists the members of its modules, gets none.
+  const get = () => {
+    if (!isCalledByAgents(get)) return undefined;
+    input ??= makeInput?.();
+    return input ?? refuse("read process.stdin, which isn't simulated");
+  };
+  defineProperty(process, "stdin", { configurable: true, get });
+}
 
 /** @returns {any} an input that has ended */
 function noInput() {

@@ -40,7 +40,7 @@ export function startThread(starting, given, transferList, called) {
   buffers.handTo(agent);
   locks.handTo(agent);
   const { port1, port2 } = ports.channel();
-  const moved = transferList.filter((each) => ports.metaOf(each) !== undefined).concat(port2);
+  const moved = transferList.filter((each) => ports.has(each)).concat(port2);
   const ids = moved.map((each) => ports.known(each).id);
   const where = here();
   const start = { ...given, where };

@@ -3,11 +3,11 @@
 // what is due, and runs one callback after the other.
 
 import process from "node:process";
-import { apply, likeEngine, weakGet, weakSet } from "../primordials.mjs";
+import { replaceNeeded } from "../agent/ordinary/patch.mjs";
+import { apply, weakGet, weakSet } from "../primordials.mjs";
 import {
   IMMEDIATES, REFED_IMMEDIATES, THREW, nodeTimers, putBelowTimers, realTimers,
 } from "./internals.mjs";
-import { member } from "./member.mjs";
 import { turns } from "./real-loop.mjs";
 
 /** @typedef {any} Item a Timeout or an Immediate */
@@ -165,13 +165,11 @@ export class Timers {
   }
 
   #keepSignals() {
-    /** @type {any} */
-    const { timeout } = AbortSignal;
-    member(AbortSignal, "timeout", likeEngine((/** @type {unknown[]} */ ...given) => {
-      const signal = apply(timeout, AbortSignal, given);
+    replaceNeeded(AbortSignal, "timeout", (engine) => (/** @type {unknown[]} */ ...given) => {
+      const signal = apply(engine, AbortSignal, given);
       this.#signals.push(signal);
       return signal;
-    }, timeout));
+    });
   }
 
   /** Lets node's code go over its timers until one has run, or one that can't run is out of the way. */

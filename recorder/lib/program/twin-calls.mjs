@@ -1,7 +1,8 @@
 // How a slow function is done at once, by its synchronous twin. A task of the run has its result later.
 
 import { AsyncResource } from "node:async_hooks";
-import { apply, construct, copyProperty, defineProperty, ownKeys } from "../primordials.mjs";
+import { replaceNeeded } from "../agent/ordinary/patch.mjs";
+import { apply, construct } from "../primordials.mjs";
 
 /**
  * @typedef {object} Given
@@ -34,13 +35,7 @@ export const isThrown = (problem) => THROWN.test(/** @type {any} */ (problem)?.c
  * @param {string} name
  * @param {Function} stand
  */
-export function replaceCall(owner, name, stand) {
-  const real = owner[name];
-  for (const key of ownKeys(real)) {
-    if (key !== "prototype") copyProperty(stand, real, key);
-  }
-  defineProperty(owner, name, { value: stand, writable: true, enumerable: true, configurable: true });
-}
+export const replaceCall = (owner, name, stand) => replaceNeeded(owner, name, () => stand);
 
 /** @param {string} name of a function @returns {string} what the task does that has its result, in words */
 const resultOf = (name) => `has the result of ${name}`;

@@ -7,14 +7,14 @@ import threads from "node:worker_threads";
 import { memoryNumber } from "../agent/ordinary/context.mjs";
 import { wrappedView } from "../agent/ordinary/data-view.mjs";
 import { wrapped } from "../agent/ordinary/elements.mjs";
+import { replace } from "../agent/ordinary/patch.mjs";
 import { WHOLLY, mirrored, reaches } from "../agent/ordinary/reach.mjs";
 import { anyWatchedOf } from "../agent/ordinary/watched.mjs";
 import {
   bufferBehind, create, defineProperty, getOwnPropertyDescriptor, getPrototypeOf, isArray, isObject,
-  likeEngine, mapSet, ownKeys, tagOf, weakHas, weakSet,
+  mapSet, ownKeys, tagOf, weakHas, weakSet,
 } from "../primordials.mjs";
 import { Buffers, bufferIn } from "./buffers.mjs";
-import { member } from "./member.mjs";
 
 const { Array: EngineArray, Map: EngineMap, WeakMap: EngineWeakMap } = globalThis;
 /** @type {(value: unknown, options: unknown) => any} */
@@ -49,14 +49,12 @@ let isAnyMarked = false;
 
 /** Notes which objects are marked: a copy of one wouldn't have the mark. Node 20 has no such marks. */
 export function installMarks() {
-  const { markAsUncloneable: engine } = /** @type {any} */ (threads);
-  if (engine === undefined) return;
-  member(threads, "markAsUncloneable", likeEngine((/** @type {any} */ given) => {
+  replace(threads, "markAsUncloneable", (engine) => (/** @type {any} */ given) => {
     engine(given);
     if (!isObject(given)) return;
     isAnyMarked = true;
     weakSet(uncloneable, given, true);
-  }, engine));
+  });
 }
 
 /** @param {any} inner @returns {boolean} */

@@ -51,7 +51,7 @@ import { Ports } from "./ports.mjs";
 import { forgetError, lastError, printAtOnce } from "./printing.mjs";
 import { turnLater } from "./real-loop.mjs";
 import { RealWork } from "./real-work.mjs";
-import { installRefusals } from "./refusals.mjs";
+import { installInput } from "./stdio.mjs";
 import { refuseRest } from "./surface.mjs";
 import { takenStart, threadName } from "./thread-start.mjs";
 import { Threads } from "./threads.mjs";
@@ -258,7 +258,7 @@ function installReplacements({ moves, buffers, waits, ends, events, later, late,
   waits.install(Atomics);
   installMicrotasks(isPlaying);
   surroundings.serve(events);
-  installRefusals(refuse);
+  installInput(refuse);
   spawned.install();
   installProcess((given) => ends.exit(given), moves.agent);
   ends.guard();

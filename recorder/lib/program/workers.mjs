@@ -189,9 +189,7 @@ class Worker extends EventEmitter {
     this.performance = { eventLoopUtilization: () => ({ idle: 0, active: 0, utilization: 0 }) };
     const { ports, children } = world();
     children.add(this.#own);
-    ports.known(port).taker = (envelope) => this.#take(envelope);
-    ports.known(port).keeps = false;
-    ports.start(port);
+    ports.serve(port, (envelope) => this.#take(envelope));
     const isFirst = (/** @type {unknown} */ name) => name === "message" && this.listenerCount("message") === 0;
     this.on("newListener", (/** @type {unknown} */ name) => isFirst(name) && this.#listens(true));
     this.on("removeListener", (/** @type {unknown} */ name) => isFirst(name) && this.#listens(false));

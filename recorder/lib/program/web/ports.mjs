@@ -2,11 +2,12 @@
 // listeners, but by `start` or by what is assigned to `onmessage`.
 
 import threads from "node:worker_threads";
-import { deleteProperty, getPrototypeOf } from "../../primordials.mjs";
+import { deleteProperty, getPrototypeOf, put } from "../../primordials.mjs";
+import { DELIVER, broadcastClass } from "../broadcast.mjs";
+import { QueuedPort } from "../known-ports.mjs";
 import { PortEvents, serveMethods } from "../port-events.mjs";
-import { KIND } from "../ports.mjs";
 import { hide } from "./hidden.mjs";
-import { Targets, methodsOf, putHandler } from "./targets.mjs";
+import { Targets, methodsOf, putHandler, putMethods } from "./targets.mjs";
 
 const EngineMessageEvent = MessageEvent;
 
@@ -41,28 +42,22 @@ export class WebPortEvents extends PortEvents {
   ready() {
     const { ports } = this;
     const ready = super.ready();
-    const channels = ready.filter((port) => ports.known(port).queue !== undefined);
+    const isChannel = (/** @type {any} */ port) => ports.known(port) instanceof QueuedPort;
+    const channels = ready.filter(isChannel);
     if (channels.length < 2) return ready;
     ports.world.mesh.take();
-    const numberOf = (/** @type {any} */ channel) => ports.known(channel).queue?.[0]?.number ?? Infinity;
+    const numberOf = (/** @type {any} */ channel) => ports.queueOf(ports.known(channel).id)[0]?.number ?? Infinity;
     const first = channels.reduce((one, other) => (numberOf(other) < numberOf(one) ? other : one));
-    return ready.filter((port) => port === first || !channels.includes(port));
+    return ready.filter((port) => port === first || !isChannel(port));
   }
 
-  /** @param {any} port that has a message: its listeners get it */
-  deliver(port) {
-    const { ports, targets } = this;
-    const meta = ports.known(port);
-    const envelope = ports.take(port);
-    if (envelope === undefined) return;
-    if (meta.taker !== undefined) meta.taker(envelope);
-    else if (envelope.kind !== KIND.CLOSE) targets.dispatch(port, messageOf(envelope));
-    else if (!meta.closed) {
-      // Browsers have no event for it yet, though the standard has one.
-      meta.closed = true;
-      ports.world.table.close(meta.id);
-    }
+  /** @param {any} port @param {import("../ports.mjs").Envelope} envelope */
+  give(port, envelope) {
+    this.targets.dispatch(port, messageOf(envelope));
   }
+
+  /** Browsers have no event for it yet, though the standard has one. */
+  giveClose() {}
 }
 
 /**
@@ -90,4 +85,24 @@ export function serveWebPorts({ ports, targets }) {
   serveMethods(ports, methods);
   putHandler(prototype, "message", targets, start);
   putHandler(prototype, "messageerror", targets);
+}
+
+/**
+ * The BroadcastChannel of the run, with the interface of the DOM.
+ * @param {import("../broadcast.mjs").Casting} casting
+ * @param {Targets} targets
+ * @returns {Function} the class by which the program makes such channels
+ */
+export function webBroadcastClass(casting, targets) {
+  const Channel = /** @type {any} */ (broadcastClass(casting));
+  class BroadcastChannel extends Channel {
+    /** @param {import("../ports.mjs").Envelope} envelope */
+    [DELIVER](envelope) {
+      targets.dispatch(this, messageOf(envelope));
+    }
+  }
+  putMethods(BroadcastChannel.prototype, targets);
+  for (const type of ["message", "messageerror"]) putHandler(BroadcastChannel.prototype, type, targets);
+  for (const name of ["ref", "unref"]) put(BroadcastChannel.prototype, name, undefined);
+  return BroadcastChannel;
 }

@@ -5,12 +5,11 @@ import { apply } from "../../primordials.mjs";
 import { member } from "../member.mjs";
 import { KIND, channelClass } from "../ports.mjs";
 import { Blobs } from "./blobs.mjs";
-import { webBroadcastClass } from "./broadcast.mjs";
 import { WebEnds } from "./ends.mjs";
 import { fetchOf } from "./fetch.mjs";
 import { beginGlobals, installGlobals } from "./globals.mjs";
 import { Graph } from "./graph.mjs";
-import { WebPortEvents, messageOf, serveWebPorts } from "./ports.mjs";
+import { WebPortEvents, messageOf, serveWebPorts, webBroadcastClass } from "./ports.mjs";
 import { serveWorkers, workerClass } from "./worker-object.mjs";
 
 const { TypeError: EngineTypeError } = globalThis;

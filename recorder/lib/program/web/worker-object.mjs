@@ -76,9 +76,7 @@ class Worker extends EngineTarget {
     blobs.handTo(agent);
     this.#agent = agent;
     this.#port = port;
-    ports.known(port).taker = (envelope) => this.#take(envelope);
-    ports.known(port).keeps = false;
-    ports.start(port);
+    ports.serve(port, (envelope) => this.#take(envelope));
   }
 
   /** @param {unknown} value @param {unknown} [transfer] */

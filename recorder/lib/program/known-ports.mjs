@@ -1,0 +1,82 @@
+// What a thread knows about each port that it has, and where the port's messages come from.
+
+import { AsyncResource } from "node:async_hooks";
+import threads from "node:worker_threads";
+import { hasOwn, uncurried } from "../primordials.mjs";
+import { UNREAD, nextOf } from "./unread.mjs";
+
+/** @type {{ new (type: string): { runInAsyncScope(act: () => void): void } }} */
+const Scope = /** @type {any} */ (AsyncResource);
+const close = uncurried(threads.MessagePort.prototype.close);
+
+/** @typedef {import("./ports.mjs").Envelope} Envelope */
+
+/** A port of node's. */
+export class KnownPort {
+  /** Whether it keeps its thread alive. */
+  refed = false;
+
+  /** Whether listeners of messages keep it so. */
+  listens = false;
+
+  /** @type {import("../agent/frames.mjs").Later | undefined} where the first was added, or what else keeps it so */
+  where = undefined;
+
+  closed = false;
+
+  /** In this its messages are delivered. */
+  scope = new Scope("MESSAGEPORT");
+
+  /** @type {((envelope: Envelope) => void) | undefined} gets its messages; undefined: they are for listeners */
+  taker = undefined;
+
+  /** @param {any} port @param {number} id */
+  constructor(port, id) {
+    this.port = port;
+    this.id = id;
+  }
+
+  /** @returns {Envelope | undefined} its next message; undefined: node has closed it */
+  next() {
+    const found = nextOf(this.port);
+    if (found === undefined) return undefined;
+    if (!(UNREAD in found) && hasOwn(found.message, "kind")) return found.message;
+    const about = nextOf(this.port);
+    if (about === undefined) return undefined;
+    if (UNREAD in found) return { ...about.message, value: found[UNREAD], ports: [], isUnread: true };
+    return { ...about.message, ...found.message };
+  }
+
+  /** @returns {boolean} whether it keeps its thread alive */
+  get keeps() {
+    return this.refed && !this.closed;
+  }
+
+  /** @returns {string} how it does that, in words */
+  get keeper() {
+    return `a port ${this.listens ? "with a listener from" : "that is kept alive at"} ${this.where?.() ?? ""}`;
+  }
+
+  /** The run is over. */
+  end() {
+    close(this.port);
+  }
+}
+
+/** What stands for a port whose messages come by the hidden ports of threads. */
+export class QueuedPort extends KnownPort {
+  /** @type {Envelope[]} */
+  queue = [];
+
+  /** @param {any} port @param {number} id @param {(envelope: Envelope) => void} taker */
+  constructor(port, id, taker) {
+    super(port, id);
+    this.taker = taker;
+  }
+
+  next() {
+    return this.queue.shift();
+  }
+
+  end() {}
+}
