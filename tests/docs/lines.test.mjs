@@ -11,8 +11,8 @@ const MOST = 120;
 /** Code and documents by their endings. A file without an ending is a script if it begins with `#!`. */
 const ENDINGS = /\.(?:[cm][jt]s|py|c|md)$/;
 
-/** What still waits: the crates, with `.rt` and `.antt`, since a change there is proved anew. */
-const WAITS = new Set(["crates"]);
+/** What still waits: the crates, and the scripts that prove them. A change of either has crates proved anew. */
+const WAITS = new Set(["crates", "tools/proving"]);
 
 /** Texts that a script compares with what a program prints, each in one line there. By their files: how they begin. */
 const COMPARED = {
