@@ -138,4 +138,7 @@ export const COMMAND_LINES = [
   ["search", "--limit", "3", AUTOMATA], ["search", "--limit", "4294967295", searched("mutex-of-3-agents")],
   ["search", FILE], ["search", "--explain", FILE], ["search", NOWHERE], ["search"], ["search", "--limit", "0", AUTOMATA],
   ["search", "--timeouts", "late", AUTOMATA], ["search", "--finish"],
+  ["search", "--format", "script", AUTOMATA], ["search", "--format", "script", "--failure", "1", "--states", AUTOMATA],
+  ["search", "--format", "script", "--failure", "2", AUTOMATA], ["search", "--format", "script", searched("torn-read")],
+  ["search", "--format", "script", "--failure", "0", AUTOMATA], ["search", "--format", "script", FILE],
 ];

@@ -44,7 +44,7 @@ SearchesBy (form.Script failure) job old new file end = ScriptsAs (script_asked_
 abbrev pub IsFaultBy : SearchForm → SearchJob → Option (List ℕ) → Option (List ℕ) → List ℕ → SearchFault → Type 0
 IsFaultBy (form.Findings format states) job old new file fault =
     IsSearchFault (asked_of job format states) old new file fault
-IsFaultBy (form.Script failure) job old new file fault = IsScriptFault old new file fault
+IsFaultBy (form.Script failure) job old new file fault = IsScriptFault (script_asked_of job failure) old new file fault
 
 -- what it came to
 abbrev pub outcome_of : SearchEnd → Outcome
