@@ -61,7 +61,7 @@ pub enum SearchForm {
     },
     /// A script that replays to a failure.
     Script {
-        /// Which failure, by its place among those that are listed, from 1; none for the first of those with the fewest acts.
+        /// Which failure, by its place in the list, from 1; none for the first of those with the fewest acts.
         failure: Option<u32>,
     },
 }
