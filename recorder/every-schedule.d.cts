@@ -25,12 +25,16 @@ export interface OfEvery {
 
 /** Something that was found in every schedule. */
 export interface FoundBySchedule {
-  kind: "deadlock" | "threw" | "check" | "race" | "no way out";
-  /** What was thrown, what `check` found, or which lines race; empty if the kind says all. */
+  kind: "deadlock" | "threw" | "check" | "race" | "no way out" | "limit" | "failed";
+  /** What was thrown, what `check` found, which lines race, or how a real run ended; empty if the kind says all. */
   text: string;
-  /** In how many states it is. */
+  /** In how many states it is; 0: only real runs have shown it. */
   states: number;
-  /** Of the schedule that is shown. */
+  /** How many real runs have shown it, if they alone have; else 0. */
+  runs: number;
+  /** Of the first of these runs. */
+  seed: number | null;
+  /** Of the schedule that is shown; 0 if real runs alone have shown it. */
   acts: number;
   /** Of agents, in that schedule. */
   changes: number;
@@ -68,6 +72,8 @@ export interface EverySchedule {
   hidden: { why: string; nodes: number }[];
   /** How many real runs agree with what was learned. */
   realRuns: number;
+  /** How many have no whole trace, and so weren't compared. */
+  notCompared: number;
   /** Whether the proved search has found the same: the numbers of states and acts are its own then. */
   searchProved: boolean;
   /** Why there was no proved search; null if there was one, or if not every schedule was tried. */

@@ -38,7 +38,7 @@ export class KeepsGlobals extends Error {}
 /** The process of a job has ended by itself, or by others. */
 export class LostJob extends Error {}
 
-/** What the code saw isn't what the simulator says, or the simulator has failed: a defect. The message has both sides. */
+/** What the code saw isn't what the simulator says, or the simulator has failed: a defect. The message has both. */
 export class Difference extends Error {
   constructor(message: string, outcome: Difference["outcome"], replayed: string, judged?: string);
   /** It has its trace if sabsim's verdict on it is what differs. */
@@ -70,7 +70,7 @@ export interface RunOptions {
    */
   races?: "fail" | "allow";
   /** Whether a run that meets a limit fails; else "fail". */
-  bounds?: "fail" | "allow";
+  limits?: "fail" | "allow";
   /** The path of the native program, which checks runs in place of the module. False: runs aren't checked. */
   sabsim?: string | boolean;
   /** Whether the outcome has its trace. */
@@ -154,7 +154,7 @@ export type RecordOptions = RunOptions & OneRun & (OfModule | OfProgram);
 export type ExploreOptions = RunOptions & ManyRuns & (OfModule | OfProgram);
 
 /** How a run ended; `race`: it finished, `check` found nothing, and it has unordered accesses. */
-export type Ending = "finished" | "deadlock" | "stuck" | "failed" | "check" | "race" | "bound";
+export type Ending = "finished" | "deadlock" | "stuck" | "failed" | "check" | "race" | "limit";
 
 /** The outcome of a run. */
 export interface Outcome {
@@ -194,12 +194,13 @@ export interface Outcome {
   report?: string;
   /**
    * What made a failing run fail, in short: the first lines of what was thrown or what agents were at, and the lines of
-   * code. Runs that fail alike have the same ones, up to the message's numbers. One that ended as `race` has its `races`.
+   * code. Runs that fail alike have the same ones, up to the message's numbers. One that ended as `race` has its
+   * `races`.
    */
   failure?: { message: string[]; sources: string[] };
   /**
-   * Where each agent is that hasn't ended, if the run ended as `deadlock` or as `bound`: the one that has met
-   * the bound first, then those that wait, in order of arrival.
+   * Where each agent is that hasn't ended, if the run ended as `deadlock` or as `limit`: the one that has met
+   * the limit first, then those that wait, in order of arrival.
    */
   standing?: Standing[];
   /** Each event as an object of JSON, a line each. The first line may say that accesses are missing (`unseen`). */
@@ -210,7 +211,9 @@ export interface Outcome {
   noTrace?: string;
   /** The code of each file that the trace names; null if it can't be read, or is longer than 2^20 characters. */
   sources?: { file: string; text: string | null }[];
-  /** For a program's run with its trace: timers, immediates and other tasks, each behind so many events of the trace. */
+  /**
+   * For a program's run with its trace: timers, immediates and other tasks, each behind so many events of the trace.
+   */
   tasks?: { event: number; agent: number; text: string; source: string | null }[];
   /** For the same run: the number of each message, and what is in it, shortened. */
   messages?: [number, string][];
@@ -257,7 +260,7 @@ export interface MemoryWindow {
 /** Where an agent is that hasn't ended. */
 export interface Standing {
   agent: number;
-  /** It waits for a notify, asks for a call, has met a bound by doing the same again and again, or by something else. */
+  /** It waits for a notify, asks for a call, has met a limit by doing the same again and again, or in another way. */
   does: "waits" | "asks" | "spins" | "runs";
   /** In which of its calls it waits, or for which it asks, counted from 0; null: it is in none. */
   call: number | null;
@@ -277,8 +280,8 @@ export interface Accesses {
   /** The typed arrays of the code by which they were made: each by its name in texts, its kind and where it is. */
   arrays: { name: string; kind: string; block: number; offset: number; length: number }[];
   /**
-   * For each: its position in the trace, that of its array, and as JavaScript writes it what it read; null: it wrote, or
-   * read more than one element.
+   * For each: its position in the trace, that of its array, and as JavaScript writes it what it read; null: it wrote,
+   * or read more than one element.
    */
   made: [event: number, array: number, value: string | null][];
 }

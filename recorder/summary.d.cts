@@ -66,7 +66,7 @@ export interface FirstFailing {
   onlyIf: string | null;
   /** Why it has no script; null: it has one. */
   noScript: string | null;
-  /** Of a deadlock or a bound: where each agent is that hasn't ended. */
+  /** Of a deadlock or a limit that was met: where each agent is that hasn't ended. */
   standing: Standing[];
 }
 
@@ -101,22 +101,8 @@ export interface FinalState {
   named: string | null;
 }
 
-/** How far the runs covered pairs of lines of code that came one after the other at a place (`--until-covered`). */
-export interface Coverage {
-  /** The pairs of lines. */
-  pairs: string[];
-  /** The last seed that has shown a new pair; null: none has, or a joined summary. */
-  last: number | null;
-  /** How many seeds in a row have shown none since; null: a joined summary. */
-  row: number | null;
-  /** Of how many accesses the line isn't known. */
-  unplaced: number;
-  /** Whether the row is long enough and each line is known. */
-  covered: boolean;
-}
-
 export interface Summary {
-  /** The number of this form: 3. */
+  /** The number of this form: 4. */
   summary: number;
   asked: Asked;
   /** The seeds that this summary is of. */
@@ -134,8 +120,8 @@ export interface Summary {
   /** How many of the failing runs fail only after the early end of a timed wait. */
   early: number;
   /**
-   * Of the runs that finished, waits that ended only because their time was up. Nothing else could move then, and the word
-   * had changed, or no other agent could ever go on. `served` are the places at which agents wait and that others
+   * Of the runs that finished, waits that ended only because their time was up. Nothing else could move then, and the
+   * word had changed, or no other agent could ever go on. `served` are the places at which agents wait and that others
    * notify or write in some run. The text reports the waits at these places; others are sleeps.
    */
   onlyByTime: Listed<OnlyByTime> & { served: Place[] };
@@ -168,8 +154,6 @@ export interface Summary {
   sabsim: { asked: boolean; versions: string[]; checked: number; judges: boolean };
   /** How many scripts have only the ordinary writes of bytes that calls touch, and why runs have none. */
   scripts: { parts: number; none: Listed<{ why: string }> };
-  /** Null: `--until-covered` wasn't given. */
-  coverage: Coverage | null;
   /** How many calls of Atomics were begun. */
   calls: number;
   /** How many ordinary reads and writes were made; null: they weren't watched. */

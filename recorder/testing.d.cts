@@ -9,8 +9,8 @@ export interface OfTrial {
   /** False: a failing run is shown and kept as it was found, and not the shortest that fails in the same way. */
   shorten?: boolean;
   /**
-   * Whether every schedule of a module of agents is tried, as by `everySchedule`. It fails if something is found, and if
-   * not every schedule could be tried; else false.
+   * Whether every schedule of a module of agents is tried, as by `everySchedule`. It fails if something is found, and
+   * if not every schedule could be tried; else false.
    */
   all?: boolean;
   /** With `all`: for how many seconds it searches, above 0 and 3,600 at most; else 60. */
@@ -19,7 +19,9 @@ export interface OfTrial {
   states?: number;
 }
 
-/** The runs of a trial: they have the options of `explore` except `failFast`, since the first failing one is the last. */
+/**
+ * The runs of a trial: they have the options of `explore` except `failFast`, since the first failing one is the last.
+ */
 export type TrialRuns = RunOptions & Omit<ManyRuns, "failFast"> & OfTrial;
 
 /** What a trial of a module of agents takes. */

@@ -10,8 +10,8 @@
  *                           joined, how many bytes were asked for in all, and how often something was refused
  *
  * Allocations and threads are counted from the start of the program's own code on, those of the C library among them,
- * and in all threads. A program that hasn't ended after ten minutes is ended by a signal. On a busy machine, threads that
- * take turns under one lock may need more than one.
+ * and in all threads. A program that hasn't ended after ten minutes is ended by a signal. On a busy machine, threads
+ * that take turns under one lock may need more than one.
  */
 #define _GNU_SOURCE
 #include <dlfcn.h>

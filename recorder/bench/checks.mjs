@@ -22,7 +22,9 @@ const MODULES = ["examples/mutex-naive.agents.mjs", "examples/ring.agents.mjs", 
 /** So many runs are made first: by then the engine has compiled all. */
 const WARM = 1_000;
 
-/** @typedef {{ turns: number, each: number, warm?: number }} Amount how many turns, outcomes of each, and runs before */
+/**
+ * @typedef {{ turns: number, each: number, warm?: number }} Amount how many turns, outcomes of each, and runs before
+ */
 
 /** Between turns no outcomes are taken. By the end of this pause all runs are made that are made ahead. */
 const REST_MILLISECONDS = 100;
@@ -40,10 +42,11 @@ const median = (list) => [...list].sort((one, other) => one - other)[Math.floor(
 class Course {
   /** @param {string} module its path @param {number} checkEvery @param {number} jobs */
   constructor(module, checkEvery, jobs) {
-    const options = { ...checkedOptions({ module, bounds: "allow" }, () => undefined), fresh: false, isBrief: true };
+    const options = { ...checkedOptions({ module, limits: "allow" }, () => undefined), fresh: false, isBrief: true };
     this.ahead = jobs * BATCH;
     const many = { first: 1, last: Number.MAX_SAFE_INTEGER, jobs, checkEvery, ahead: this.ahead };
-    this.runs = new Runs({ ...options, ...many });
+    const all = /** @type {import("../lib/seeds/runs.mjs").RunsOptions} */ ({ ...options, ...many });
+    this.runs = new Runs(all);
     this.outcomes = this.runs.outcomes();
     /** @type {number[]} the milliseconds that each turn took */
     this.taken = [];
@@ -76,7 +79,7 @@ export async function measured(module, jobs, { turns, each, warm = WARM }) {
   try {
     for (const course of courses) await course.take(warm);
     for (let turn = 0; turn < turns; turn += 1) {
-      for (const course of turn % 2 === 0 ? courses : courses.toReversed()) await course.turn(each);
+      for (const course of turn % 2 === 0 ? courses : [...courses].reverse()) await course.turn(each);
     }
     const [unchecked, checked] = courses.map(({ taken }) => (1_000 * each) / median(taken));
     return { unchecked, checked };
@@ -114,6 +117,6 @@ if (isMain(import.meta.url)) {
     },
   }).values;
   const amount = { turns: Number(turns), each: Number(each) };
-  const paths = modules.split(",").map((path) => resolve(path));
+  const paths = modules.split(",").map((/** @type {string} */ path) => resolve(path));
   await printTable(paths, jobs.split(",").map(Number), amount, (line) => process.stdout.write(`${line}\n`));
 }

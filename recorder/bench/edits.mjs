@@ -263,10 +263,10 @@ export const EDITS = Object.freeze(ROWS.map(([name, piece, kind, from, to]) => O
   name, piece, kind, from, to,
 })));
 
-/** The file of a piece. @param {string} piece */
+/** @param {string} piece @returns {URL} its file */
 export const fileOf = (piece) => new URL(`./pieces/${piece}.mjs`, import.meta.url);
 
-/** A pattern that finds a text with any white space. @param {string} text */
+/** @param {string} text @returns {RegExp} that finds it with any white space */
 const findsText = (text) => new RegExp(text.trim().split(/\s+/)
   .map((word) => word.replace(/[$()*+.?[\\\]^{|}]/g, "\\$&")).join("\\s+"), "g");
 
@@ -279,7 +279,7 @@ export function editedText({ name, piece, kind, from, to }) {
   const text = readFileSync(fileOf(piece), "utf8");
   const places = [...text.matchAll(findsText(from))];
   if (places.length !== 1) throw new Error(`${name}: what it replaces occurs ${places.length} times in ${piece}`);
-  const [{ 0: found, index }] = places;
+  const [{ 0: found, index = 0 }] = places;
   const rest = text.slice(index + found.length);
   const before = text.slice(0, index).replace(/^.*/, `// ${name}: ${piece} with one edit (${kind}).`);
   return before + to + rest;

@@ -53,8 +53,7 @@ const once = (kinds) => [...new Set(kinds)].sort();
 /** @param {import("../lib/seeds/job.mjs").Checked} outcome of a real run @returns {string[]} what it finds */
 function kindsOf({ detail, ending, races }) {
   const threw = ending === "failed" && /^agent \d+ threw /.test(detail);
-  const kind = ending === "bound" ? "no way out" : ending;
-  const own = ending === "finished" || ending === "race" ? [] : [threw ? "threw" : kind];
+  const own = ending === "finished" || ending === "race" ? [] : [threw ? "threw" : ending];
   return races.length > 0 ? [...own, "race"] : own;
 }
 
@@ -89,7 +88,9 @@ function triedApart(path) {
 function rowOf(path) {
   const { found, isClosed, moments, note, seconds, seedsFind, states } = triedApart(path);
   const trial = TRIAL[path];
-  const missed = seedsFind.filter((kind) => !found.includes(kind));
+  // A run from which there is no way out meets a limit.
+  const isFound = (/** @type {string} */ kind) => found.includes(kind === "limit" ? "no way out" : kind);
+  const missed = seedsFind.filter((kind) => !found.includes(kind) && !isFound(kind));
   const notes = [
     note, isClosed && found.join() !== trial.found.join() ? "other findings than the trial" : "",
     isClosed && missed.length > 0 ? `only seeds find: ${missed.join(", ")}` : "",
@@ -102,6 +103,7 @@ function rowOf(path) {
 /** Prints the table. */
 function table() {
   console.log(TITLE);
+  /** @type {number[]} */
   const closed = [];
   for (const path of Object.keys(TRIAL).filter((name) => name.includes(values.only))) {
     const { cells, isClosed, seconds } = rowOf(path);

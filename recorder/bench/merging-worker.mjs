@@ -27,12 +27,13 @@ function learned(code, isUnmerged) {
 /** @param {string} url */
 function both(url) {
   try {
-    const code = loadCode(url, flaw);
+    const code = loadCode(url, asker, flaw);
     const merged = learned(code, false);
     return isUnmergedToo ? { merged, unmerged: learned(code, true) } : { merged };
   } catch (problem) {
     asker.refused = undefined;
-    return { problem: `${problem.constructor.name}: ${problem.message}` };
+    const { constructor, message } = /** @type {Error} */ (problem);
+    return { problem: `${constructor.name}: ${message}` };
   }
 }
 

@@ -4,14 +4,15 @@
 //     node recorder/bench/right.mjs [--seeds N] [--jobs N] [--only NAME,..]
 //
 // It prints a line for each program: how many runs failed, the first of them, and why. NAME is a program's name in
-// recorder/tests/programs/table.mjs, or a beginning of one; without it all are run. The status is 1 if a run fails, and 2
-// if the command line is refused.
+// recorder/tests/programs/table.mjs, or a beginning of one; without it all are run. The status is 1 if a run fails, and
+// 2 if the command line is refused.
 
 import { fileURLToPath } from "node:url";
 import { parseArgs } from "node:util";
 import { explore } from "../recorder.mjs";
 
-/** @typedef {{ main: string, name: string, right: boolean, isWeb?: boolean, isEndless?: boolean, notYet?: string }} Program */
+/** @typedef {{ main: string, name: string, right: boolean }} Named */
+/** @typedef {Named & { isWeb?: boolean, isEndless?: boolean, notYet?: string }} Program */
 
 /** What the tests know of their programs is data here: it is read when this runs. */
 const FOLDER = new URL("../tests/programs/", import.meta.url);
@@ -26,7 +27,7 @@ function askedFor(words, known) {
   const { seeds = `${SEEDS}`, jobs = "1", only = "" } = values;
   const [most, side] = [Number(seeds), Number(jobs)];
   if (!(most > 0) || !(side > 0)) throw new Error("--seeds and --jobs must be numbers above 0");
-  const names = only.split(",");
+  const names = /** @type {string} */ (only).split(",");
   const all = known.filter(({ right, notYet }) => right && notYet === undefined);
   return { seeds: most, jobs: side, programs: all.filter(({ name }) => names.some((each) => name.startsWith(each))) };
 }
@@ -38,7 +39,8 @@ function askedFor(words, known) {
  */
 async function failuresOf(program, { seeds, jobs }) {
   const options = {
-    program: fileURLToPath(new URL(program.main, FOLDER)), seeds, jobs, checkEvery: 0, programOutput: /** @type {const} */ ("none"),
+    program: fileURLToPath(new URL(program.main, FOLDER)), seeds, jobs, checkEvery: 0,
+    programOutput: /** @type {const} */ ("none"),
     web: program.isWeb === true, ...(program.isEndless ? { stuck: /** @type {const} */ ("allow") } : {}),
   };
   const failures = [];

@@ -26,7 +26,7 @@ function modulesIn(folder) {
 }
 
 /**
- * The first failing runs of a program that meet no bound.
+ * The first failing runs of a program that meet no limit.
  * @param {Group} group
  */
 async function failingRuns(group) {
@@ -35,7 +35,7 @@ async function failingRuns(group) {
   for (let first = 1; first <= SEEDS && failing.length < WANTED; first += BATCH) {
     const seeds = Array.from({ length: BATCH }, (_, at) => ({ seed: first + at, whole: false, isTrial: true }));
     await group.run(seeds, (outcome) => {
-      if (outcome.fails && outcome.ending !== "bound") failing.push(outcome);
+      if (outcome.fails && outcome.ending !== "limit") failing.push(outcome);
     });
   }
   return failing.slice(0, WANTED);

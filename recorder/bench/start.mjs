@@ -18,10 +18,12 @@ const BARE = `const { Worker } = require("node:worker_threads");
 // node is one. So that time would make the command line look better.
 const { NODE_EXTRA_CA_CERTS: _, ...env } = process.env;
 
+const STDIO = ["ignore", "ignore", "pipe"];
+
 /** @param {string[]} words @returns {number} how many milliseconds node takes with these words */
 function millisecondsOf(words) {
   const begun = performance.now();
-  const { status, stderr } = spawnSync(process.execPath, words, { stdio: ["ignore", "ignore", "pipe"], env });
+  const { status, stderr } = spawnSync(process.execPath, words, { encoding: "utf8", stdio: STDIO, env });
   if (status !== 0) throw new Error(`node ${words[0]} ended with status ${status}: ${stderr}`);
   return performance.now() - begun;
 }
@@ -29,7 +31,10 @@ function millisecondsOf(words) {
 /** @param {number[]} list @returns {number} */
 const median = (list) => [...list].sort((one, other) => one - other)[Math.floor(list.length / 2)];
 
-/** @returns {string} a line for each, and how many times as long the command line takes */
+/**
+ * @param {{ turns: number, record: string, agents: string }} asked
+ * @returns {string} a line for each, and how many times as long the command line takes
+ */
 function measured({ turns, record, agents }) {
   const cases = { bare: ["--eval", BARE], record: [record, agents, "--seeds", "1"] };
   /** @type {Record<string, number[]>} */

@@ -113,11 +113,11 @@ function fetchNode(env) {
  */
 function measured(names, { seeds, turns }, commands, env) {
   const taken = new Map(names.map((name) => [name, /** @type {Taken} */ ({ before: [], now: [] })]));
-  const sides = /** @type {const} */ (["before", "now"]);
+  const sides = /** @type {("before" | "now")[]} */ (["before", "now"]);
   for (let turn = 0; turn < turns; turn += 1) {
     for (const [name, lists] of taken) {
       // The one that is first in a turn is second in the next.
-      for (const side of turn % 2 === 0 ? sides : sides.toReversed()) {
+      for (const side of turn % 2 === 0 ? sides : [...sides].reverse()) {
         lists[side].push(secondsOf([...commands[side], ...COURSES[name], "--seeds", `1..${seeds}`, ...WORDS], env));
       }
     }
@@ -149,7 +149,7 @@ function asked() {
   if (unknown !== undefined) throw new Error(`there is no program ${unknown}: it is one of ${all.join(", ")}`);
   const numbers = [values.turns, values.seeds].map(Number);
   if (!numbers.every((each) => each >= 1)) throw new Error("--turns and --seeds are 1 at least");
-  return { commit, names: names.length > 0 ? names : all, values };
+  return { commit, names: names.length > 0 ? names : all, values: /** @type {any} */ (values) };
 }
 
 /** Measures as the command line says, and prints a table. */
@@ -175,7 +175,7 @@ if (isMain(import.meta.url)) {
   try {
     main();
   } catch (error) {
-    process.stderr.write(`turns: ${error.message}\n`);
+    process.stderr.write(`turns: ${/** @type {Error} */ (error).message}\n`);
     process.exitCode = 2;
   }
 }

@@ -132,7 +132,7 @@ function amountOf(name, word) {
   return Number(word);
 }
 
-/** What is to be run. @param {string | undefined} only */
+/** @param {string | undefined} only @returns what is to be run */
 function chosen(only) {
   if (only === undefined) return { edits: EDITS, pieces: PIECES };
   const names = only.split(",");
@@ -164,7 +164,10 @@ async function main() {
   process.exitCode = red.length === 0 && areEnough ? 0 : 1;
 }
 
-/** Prints why a command line is refused. @param {any} failure */
+/**
+ * Prints why a command line is refused.
+ * @param {any} failure
+ */
 function tellRefused(failure) {
   const isRefused = failure instanceof Refused || /^ERR_PARSE_ARGS/.test(failure?.code);
   if (!isRefused) throw failure;

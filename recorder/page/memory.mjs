@@ -19,7 +19,8 @@ export class Memory {
   open(run) {
     this.run = run;
     const isPart = run.data.holds === "touched";
-    by("memory-note").textContent = isPart ? "Of ordinary writes, only those to bytes that some call touches are known." : "";
+    const note = "Of ordinary writes, only those to bytes that some call touches are known.";
+    by("memory-note").textContent = isPart ? note : "";
   }
 
   /** @param {State} state @param {number} index of the step */

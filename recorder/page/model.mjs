@@ -129,7 +129,7 @@ export class Run {
       const waiting = sleepers.map(({ agent }) => agent);
       return [Math.max(...waiting.map((agent) => this.#lastOf(agent)), -1)].map((at) => (at < 0 ? end : at));
     }
-    const isByAgent = ending === "failed" || ending === "bound";
+    const isByAgent = ending === "failed" || ending === "limit";
     const agent = isByAgent ? /^agent (\d+) /.exec(detail)?.[1] : undefined;
     const last = agent === undefined ? -1 : this.#lastOf(Number(agent));
     return [last < 0 ? end : last];

@@ -52,8 +52,11 @@ function whyNone(command) {
 function notesOn({ command }, editing, name) {
   const note = "These are the recorded calls in another order, not the program: the code might take another path.";
   const why = whyNone(command) ?? (editing && whyNotOnCode(editing));
-  if (command === undefined || why !== undefined) return [note, `No command can run the code by this schedule: ${why}.`];
-  const how = "Save the script. This command runs the code by this schedule, or shows where the code does something else:";
+  if (command === undefined || why !== undefined) {
+    return [note, `No command can run the code by this schedule: ${why}.`];
+  }
+  const how = "Save the script. This command runs the code by this schedule, "
+    + "or shows where the code does something else:";
   return [note, how, `$ ${command.options} --replay ${name}${command.args}`];
 }
 

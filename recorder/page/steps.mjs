@@ -133,7 +133,10 @@ export class Stepper {
     this.#add({ what: "end", text: `the end: ${ending}`, sentence: [`The run ends: ${ending}.`, ...stands].join(" ") });
   }
 
-  /** @param {import("./run-data.mjs").Task[]} tasks @param {number} before how many events come before those that are added */
+  /**
+   * @param {import("./run-data.mjs").Task[]} tasks
+   * @param {number} before how many events come before those that are added
+   */
   #tasks(tasks, before) {
     for (const { before: own, agent, text, place } of tasks) {
       if (own === before) this.#add({ what: "task", agent, text, sentence: text, place });

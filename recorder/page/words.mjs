@@ -30,7 +30,8 @@ export function handOverText({ agent, does }) {
   const found = handOverOf(does);
   if (found === undefined) return undefined;
   const { helper, owner, begins } = found;
-  if (agent === owner) return `${begins ? "hands its waitAsync to" : "gets the end of its waitAsync from"} agent ${helper}`;
+  const hands = begins ? "hands its waitAsync to" : "gets the end of its waitAsync from";
+  if (agent === owner) return `${hands} agent ${helper}`;
   return `${begins ? "takes" : "hands back"} the waitAsync of agent ${owner}`;
 }
 

@@ -33,7 +33,11 @@ before(async () => {
 });
 after(() => Promise.all(ends.map((end) => end())));
 
-/** A simulator whose module has other bytes. @param {import("node:test").TestContext} context @param {Uint8Array} bytes */
+/**
+ * A simulator whose module has other bytes.
+ * @param {import("node:test").TestContext} context
+ * @param {Uint8Array} bytes
+ */
 function simulatorOf(context, bytes) {
   const path = join(temporaryFolder(context), "sabsim.wasm");
   writeFileSync(path, bytes);
@@ -50,7 +54,8 @@ const WRONG = {
   ],
   "writes a wrong report": [
     misspelling(),
-    /^seed 1: the code and sabsim differ, in line 3 of the report\n {2}the code: 2 . 0 return 0\n {2}sabsim: {3}2 . 0 retorn 0$/,
+    new RegExp("^seed 1: the code and sabsim differ, in line 3 of the report\\n {2}the code: 2 . 0 return 0\\n"
+      + " {2}sabsim: {3}2 . 0 retorn 0$"),
   ],
 };
 
@@ -103,7 +108,8 @@ for (const [what, bytes, message] of [
   test(`with a module that ${what} the recorder ends with status 3, and keeps what it was asked`, (context) => {
     const out = join(temporaryFolder(context), "out");
     const small = ["--agents", "3", "--everywhere"];
-    const words = [recorderWith(context, bytes), agentsPath("three-state-mutex"), "--seeds", "1..20", ...small, "--out", out];
+    const words = [recorderWith(context, bytes), agentsPath("three-state-mutex"), "--seeds", "1..20", ...small,
+      "--out", out];
     const env = { ...process.env, SABSIM: "" };
     const { status, stdout, stderr } = spawnSync(process.execPath, words, { env, encoding: "utf8" });
     assert.equal(status, 3, stderr);

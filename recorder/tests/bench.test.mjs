@@ -55,7 +55,8 @@ test("the cost of the checks has a row for each program and number of jobs", asy
   await printTable([module], [1, 2], { turns: 1, each: 8, warm: 8 }, (line) => lines.push(line));
   assert.equal(lines.length, 4);
   for (const jobs of [1, 2]) {
-    const row = new RegExp(String.raw`^\| \`examples/ring\.agents\.mjs\` \| ${jobs} \| [\d,]+ \| [\d,]+ \| \d+\.\d\d \|$`);
+    const ring = String.raw`\`examples/ring\.agents\.mjs\``;
+    const row = new RegExp(String.raw`^\| ${ring} \| ${jobs} \| [\d,]+ \| [\d,]+ \| \d+\.\d\d \|$`);
     assert.match(lines[jobs + 1], row);
   }
 });
@@ -82,12 +83,15 @@ test("both recorders make the runs of a module and of a program, by turns", inCl
   assert.equal(status, 0, stderr);
   const rows = stdout.split("\n").slice(2, -1);
   assert.deepEqual(rows.map((row) => row.split(" ")[1]), ["mutex-naive", "pool", "all"]);
-  for (const row of rows) assert.match(row, /^\| [a-z-]+ \| \d+\.\d\d \| \d+\.\d\d \| \d+\.\d{3} \| \d+\.\d\d to \d+\.\d\d \|$/);
+  for (const row of rows) {
+    assert.match(row, /^\| [a-z-]+ \| \d+\.\d\d \| \d+\.\d\d \| \d+\.\d{3} \| \d+\.\d\d to \d+\.\d\d \|$/);
+  }
 });
 
 test("right programs pass, and what isn't right is refused", () => {
   const right = fileURLToPath(new URL("../bench/right.mjs", import.meta.url));
-  const run = (/** @type {string[]} */ ...words) => spawnSync(process.execPath, [right, ...words], { encoding: "utf8" });
+  const run = (/** @type {string[]} */ ...words) =>
+    spawnSync(process.execPath, [right, ...words], { encoding: "utf8" });
   const { status, stdout } = run("--seeds", "3", "--only", "once,exits/r");
   const lines = ["exits/right", "once/right", "once/reads-between"].map((name) => `${name}: 0 of 3 failed\n`);
   assert.deepEqual([status, stdout], [0, lines.join("")]);

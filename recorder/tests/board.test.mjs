@@ -98,7 +98,7 @@ test("a run in which no agent can move has finished, or is a deadlock if an agen
   };
   assert.equal(end([PHASE.FINISHED, PHASE.FINISHED]), "finished");
   assert.equal(end([PHASE.FINISHED, PHASE.WAITS]), "deadlock");
-  assert.equal(end([PHASE.ASKS, PHASE.WAITS], { maxMoves: 2 }), "bound");
+  assert.equal(end([PHASE.ASKS, PHASE.WAITS], { maxMoves: 2 }), "limit");
 });
 
 test("moves and calls are counted as a script has them, and time goes on by them", () => {

@@ -28,7 +28,8 @@ test("a loop that catches everything ends with its run, prints nothing of that, 
   const out = temporaryFolder(context);
   const { status, output, errors } = recorded(wordsOf("1..200", "--out", out, "--", "loop"));
   assert.deepEqual([status, errors], [1, ""], errors.slice(0, 200));
-  assert.match(output, new RegExp(`^first failing seed: ${FAILING}, threw\n  agent 0 threw Error: job 2 isn't done$`, "m"));
+  assert.match(output,
+    new RegExp(`^first failing seed: ${FAILING}, threw\n  agent 0 threw Error: job 2 isn't done$`, "m"));
   assert.doesNotMatch(output, /^not kept: /m);
   // Each shorter run that is tried needs another worker. A slow machine ends that after ten seconds, and says so.
   const original = /^not shortened: .*, stopped after 10 s/m.test(output) ? [] : ["original.trace.jsonl"];
@@ -51,7 +52,8 @@ test("if an agent goes on without a call, the trace isn't kept, and the summary 
   const out = temporaryFolder(context);
   const { status, stdout: output } = await commandHere(wordsOf(`${FAILING}`, "--out", out, "--", "stay"));
   assert.equal(status, 1);
-  const why = "agent 1 didn't come to an end after the run, so the run wasn't made once more to learn its lines of code";
+  const why = "agent 1 didn't come to an end after the run, "
+    + "so the run wasn't made once more to learn its lines of code";
   const lines = output.split("\n").filter((line) => line.startsWith("not kept: "));
   assert.deepEqual(lines, [`not kept: seed-${FAILING}.trace.jsonl: ${why}`]);
   assert.ok(!existsSync(join(out, `seed-${FAILING}.trace.jsonl`)));

@@ -97,7 +97,7 @@ describe("init and check", { concurrency: 2 }, () => {
 
   it("a run that hasn't finished isn't checked", async () => {
     const outcomes = await recorded(program("ends", { trace: true, maxMoves: 100 }), seedsTo(4));
-    assert.deepEqual(outcomes.map(({ ending }) => ending), ["deadlock", "failed", "failed", "bound"]);
+    assert.deepEqual(outcomes.map(({ ending }) => ending), ["deadlock", "failed", "failed", "limit"]);
     assert.match(outcomes[2].detail, /^no agent has made a call of Atomics/);
   });
 

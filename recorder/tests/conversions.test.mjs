@@ -170,7 +170,8 @@ describe("an index at the edges of what a Number holds exactly", () => {
     assert.deepEqual(callsOf(outcome)[0].map(([, , index]) => index), all.map(({ index }) => index + 0));
   });
 
-  const beyond = Object.entries(CALLS).flatMap(([name, code]) => [BEYOND, -BEYOND].map((index) => ({ name, code, index })));
+  const beyond = Object.entries(CALLS)
+    .flatMap(([name, code]) => [BEYOND, -BEYOND].map((index) => ({ name, code, index })));
   /** @type {string} the folder of a module whose agents try each of these, in the same workers */
   let folder;
   /** @type {Cases} */
@@ -193,7 +194,7 @@ describe("an index at the edges of what a Number holds exactly", () => {
   });
 
   for (const name of Object.keys(CALLS)) {
-    test(`2^53 is no index for ${name}: node throws RangeError, and the recorder ends the run at its line`, async () => {
+    test(`2^53 is no index for ${name}: node throws RangeError, the recorder ends the run at its line`, async () => {
       for (const [at, { name: called, code, index }] of beyond.entries()) {
         if (called !== name) continue;
         assert.equal(byNode(code, index), "RangeError");

@@ -47,7 +47,8 @@ class Written {
 function readOf({ records, events, stores }, calls) {
   const log = Log.from(events);
   return {
-    calls: records.map((each, agent) => Array.from({ length: calls[agent] }, (_, at) => ({ ...each.callAt(at), ...each.doneAt(at) }))),
+    calls: records.map((each, agent) =>
+      Array.from({ length: calls[agent] }, (_, at) => ({ ...each.callAt(at), ...each.doneAt(at) }))),
     events: Array.from({ length: log.length }, (_, at) => log.at(at)),
     stores: new CopiedStores(stores).list().map((store) => ({ ...store, bytes: [...store.bytes] })),
   };

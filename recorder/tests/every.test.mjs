@@ -56,7 +56,8 @@ test("a right lock: every schedule was tried, and nothing was found", async (con
   assert.equal(first, "every schedule of 3 agents was tried: none deadlocks, throws, has a data race or fails check; "
     + "from every state all agents can still end");
   assert.match(states, /^ {2}20,590 states, 52,893 acts; 1 final state: /);
-  assert.match(learned, /^ {2}the search is proved; what .*: 39 moments of an agent, each of 78 edges twice; 20 real runs agree$/);
+  assert.match(learned,
+    /^ {2}the search is proved; what .*: 39 moments of an agent, each of 78 edges twice; 20 real runs agree$/);
   assert.match(rest[0], /^ {2}two moments counted as one only if all that the agent's code can still read was the /);
   assert.equal(rest[1], "other numbers of agents, rounds or arguments weren't tried");
   assert.equal(rest.at(-2), `kept in ${out}: all.automata.json`);
@@ -154,7 +155,8 @@ test("what a module throws is learned as it is written", async (context) => {
     ["const lock = {};\n  lock.leave(Atomics.load(words, 1));", "TypeError: lock.leave is not a function"],
     ["let leave;\n  leave(Atomics.load(words, 1));", "TypeError: leave is not a function"],
     ["'lock'.leave(Atomics.load(words, 1));", 'TypeError: "lock".leave is not a function'],
-    ["(new class { #f = 1; go() { this.#f(Atomics.load(words, 1)); } }).go();", "TypeError: this[#f] is not a function"],
+    ["(new class { #f = 1; go() { this.#f(Atomics.load(words, 1)); } }).go();",
+      "TypeError: this[#f] is not a function"],
     ["const lock = {};\n  new lock.Kind(Atomics.load(words, 1));", "TypeError: lock.Kind is not a constructor"],
   ]) {
     const { closed, found } = await everySchedule({ module: moduleOf(context, LOADS(more)), seeds: 2 });
@@ -256,7 +258,8 @@ test("what was found is shown if not every schedule can be tried, too", async (c
   assert.equal(done.status, 1, done.problems);
   assert.match(done.out, /^not every schedule was tried: all of up to \d+ acts were, 6,000 states; there are more\n/);
   assert.match(done.out, /\n1 run: 1 finished\n/);
-  assert.match(done.out, /\n {2}among those that were tried, agents can deadlock\n {2}deadlock, in \d+ states?; shown /);
+  assert.match(done.out,
+    /\n {2}among those that were tried, agents can deadlock\n {2}deadlock, in \d+ states?; shown /);
   assert.match(done.out, /\n {4}agent \d waits at BELL: its call \d/);
   assert.match(done.out, /\nkept in .*: all-1\.json, all-1\.report, /);
   const replayed = await recorded(module, "--replay", join(out, "all-1.json"));
@@ -280,7 +283,7 @@ test("an agent that catches everything is broken off", async (context) => {
 test("options that don't go with it are refused by name", async () => {
   const module = join(EXAMPLES, "mutex-naive.agents.mjs");
   for (const words of [
-    ["--until-covered"], ["--shard", "1/2"], ["--replay", "x.json"], ["--clock", "real"], ["--ordinary", "store"],
+    ["--shard", "1/2"], ["--replay", "x.json"], ["--clock", "real"], ["--ordinary", "store"],
     ["--ordinary", "refuse"], ["--races", "allow"], ["--unrecorded", "allow"], ["--timeouts", "0"],
   ]) {
     const done = await recorded(module, "--all", ...words);

@@ -67,7 +67,8 @@ const withNode20 = whereNodeHasIt(process.version.startsWith("v20."));
 const FOUND = {
   "late-notify": (outcomes) => {
     const failing = outcomes.filter(({ ending }) => ending === "failed");
-    return `**${failing.length} wrong answers**, the first at seed ${failing[0].seed}: a late notify ends the next wait`;
+    const [first] = failing;
+    return `**${failing.length} wrong answers**, the first at seed ${first.seed}: a late notify ends the next wait`;
   },
   "late-notify-mended": (outcomes) => {
     assert.equal(runsByBytes(outcomes).length, 1);
@@ -75,7 +76,8 @@ const FOUND = {
   },
   "node-cwd": (outcomes) => {
     const failing = outcomes.filter(({ ending }) => ending === "failed");
-    return `**${failing.length} stale directories** in node 20.20.2, the first at seed ${failing[0].seed}; with \`mended\` nothing`;
+    return `**${failing.length} stale directories** in node 20.20.2, the first at seed ${failing[0].seed}; `
+      + "with `mended` nothing";
   },
   "mutex-naive": (outcomes) => {
     const failing = outcomes.filter(({ ending }) => ending === "deadlock");

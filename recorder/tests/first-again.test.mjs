@@ -1,5 +1,5 @@
-// The run of the first seed is made once more at the end. Where it isn't the same, the module keeps something in its own
-// variables, and the summary says so. How the runs ended stays as it was.
+// The run of the first seed is made once more at the end. Where it isn't the same, the module keeps something in its
+// own variables, and the summary says so. How the runs ended stays as it was.
 
 import assert from "node:assert/strict";
 import { writeFileSync } from "node:fs";
@@ -34,7 +34,8 @@ const SAID = {
 };
 
 const textOf = (way, seed = 1) =>
-  `seed ${seed} was run once more at the end, and ${SAID[way]}: the module keeps something in its own variables: try --fresh`;
+  `seed ${seed} was run once more at the end, and ${SAID[way]}: `
+  + "the module keeps something in its own variables: try --fresh";
 
 /** @param {import("node:test").TestContext} context */
 function moduleIn(context) {
@@ -45,8 +46,8 @@ function moduleIn(context) {
 }
 
 /**
- * Runs the command line, and gives its summary as an object of JSON, and the status. If it has several jobs, they and it
- * are processes of their own.
+ * Runs the command line, and gives its summary as an object of JSON, and the status. If it has several jobs, they and
+ * it are processes of their own.
  */
 async function summaryOf(context, way, words) {
   // No worker begins that isn't needed.
@@ -59,7 +60,8 @@ async function summaryOf(context, way, words) {
 
 describe("a module that keeps something from run to run", SIDE_BY_SIDE, () => {
   for (const [way, status] of [["ending", 1], ["bytes", 0], ["acts", 0]]) {
-    for (const words of [["--seeds", "1..3"], ["--seeds", "1..40", "--jobs", "2"], ["--seeds", "1..3", "--check", "0"]]) {
+    const asked = [["--seeds", "1..3"], ["--seeds", "1..40", "--jobs", "2"], ["--seeds", "1..3", "--check", "0"]];
+    for (const words of asked) {
       test(`is noticed by its ${way}: ${words.join(" ")}`, async (context) => {
         const { status: is, summary } = await summaryOf(context, way, words);
         assert.equal(is, status);
@@ -76,7 +78,8 @@ describe("a module that keeps something from run to run", SIDE_BY_SIDE, () => {
   test("is noticed behind the first failing run, too", async (context) => {
     const { summary } = await summaryOf(context, "ending", ["--seeds", "1..9", "--fail-fast"]);
     assert.deepEqual([summary.runs, summary.firstFailing.seed], [2, 2]);
-    assert.deepEqual(summary.remembers, { seed: 1, differs: "ending", was: "finished", is: "failed", threw: true, real: false });
+    assert.deepEqual(summary.remembers,
+      { seed: 1, differs: "ending", was: "finished", is: "failed", threw: true, real: false });
   });
 
   test("is noticed in a shard by its own first seed", async (context) => {
@@ -117,7 +120,8 @@ describe("a module that keeps something from run to run", SIDE_BY_SIDE, () => {
 test("which of two runs differ, and how", () => {
   const run = { seed: 5, ending: "finished", detail: "", state: { hash: "a" }, acts: "b" };
   assert.equal(differenceBetween(run, { ...run }), undefined);
-  const others = { ending: { ending: "failed", detail: "agent 0 threw Error: no" }, bytes: { state: { hash: "c" } }, acts: { acts: "d" } };
+  const others = { ending: { ending: "failed", detail: "agent 0 threw Error: no" }, bytes: { state: { hash: "c" } },
+    acts: { acts: "d" } };
   for (const [differs, other] of Object.entries(others)) {
     const found = differenceBetween(run, { ...run, ...other });
     assert.deepEqual([found.differs, found.seed], [differs, 5]);
@@ -129,15 +133,16 @@ test("the two endings are in words for people", () => {
   const run = { seed: 5, state: { hash: "a" }, acts: "b" };
   const thrown = { ...run, ending: "failed", detail: "agent 1 threw Error: no" };
   const stopped = { ...run, ending: "failed", detail: "agent 1 made no call for 10 s" };
-  const bound = { ...run, ending: "bound", detail: "the run has made 100 moves" };
+  const limited = { ...run, ending: "limit", detail: "the run has made 100 moves" };
   const check = { ...run, ending: "check", detail: "check returned false" };
   const pairs = [
-    [thrown, check, "threw, then check failed"], [stopped, bound, "stopped, then limit met"],
-    [bound, thrown, "limit met, then threw"],
+    [thrown, check, "threw, then check failed"], [stopped, limited, "stopped, then limit met"],
+    [limited, thrown, "limit met, then threw"],
   ];
   for (const [first, again, said] of pairs) {
     const found = differenceBetween(first, again);
-    assert.equal(rememberingText(found).includes(`, and ended in another way (${said}): `), true, rememberingText(found));
+    assert.equal(rememberingText(found).includes(`, and ended in another way (${said}): `), true,
+      rememberingText(found));
     assert.deepEqual([found.was, found.is], [first.ending, again.ending]);
   }
 });
@@ -151,7 +156,7 @@ test("joined summaries keep the difference of the lowest seed", (context) => {
     const asked = { module: "m.mjs", digest: "", seeds: [{ first: 1, last: 9 }], shard: null, options };
     const file = join(folder, `${seed}.json`);
     const seeds = [{ first: seed, last: seed + 1 }];
-    writeFileSync(file, JSON.stringify({ summary: 3, asked, seeds, ...summary.data() }));
+    writeFileSync(file, JSON.stringify({ summary: 4, asked, seeds, ...summary.data() }));
     return file;
   });
   assert.equal(merged(parts.flatMap(partsOf)).remembers.seed, 4);

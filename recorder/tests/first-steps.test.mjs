@@ -19,7 +19,8 @@ const MERGE = fileURLToPath(new URL("../merge.mjs", import.meta.url));
 
 /** Runs a program of the recorder. */
 function run(program, words) {
-  const { status, stdout, stderr } = spawnSync(process.execPath, [program, ...words], { encoding: "utf8", timeout: 60_000 });
+  const { status, stdout, stderr } = spawnSync(process.execPath, [program, ...words],
+    { encoding: "utf8", timeout: 60_000 });
   return { status, output: stdout, errors: stderr };
 }
 
@@ -35,7 +36,7 @@ const PROGRAM = `
   writeFileSync(new URL("ran", import.meta.url), "");
 `;
 
-test("a program in place of a module of agents is refused before it runs, and it is said what such a module is", async (context) => {
+test("a program given as a module of agents is refused before it runs, with what such a module is", async (context) => {
   const file = fileWith(context, "program.mjs", PROGRAM);
   const why = `${file} is no module of agents, since it has no default export. If it is a program, give it as `
     + "`program` (--program). An agent is a function: export default function agent({ buffers, agent }) { .. }";
@@ -93,7 +94,8 @@ test("TypeScript that this node doesn't load is refused with what to do, without
 test("a folder that can't be made is refused at once", onLinux, (context) => {
   for (const path of ["/proc/x", "/proc/x/y"]) {
     assert.throws(() => new Keeper(path), (error) => {
-      return error instanceof Refused && /^--out \/proc\/x\S* can't be used: ENOENT: .*mkdir '\/proc\/x'$/.test(error.message);
+      return error instanceof Refused
+        && /^--out \/proc\/x\S* can't be used: ENOENT: .*mkdir '\/proc\/x'$/.test(error.message);
     });
   }
   const deep = join(temporaryFolder(context), "one", "two", "three");

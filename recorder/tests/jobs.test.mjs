@@ -220,7 +220,7 @@ test("outcomes that come in any order are taken in the order of their seeds, up 
   assert.deepEqual(await takenOf([5, 1, -4, 3]), [1, 3, 4]);
 });
 
-test("a job whose process dies is reported with status 3, and the summary has the other runs", withSignals, (context) => {
+test("a job whose process dies is reported by status 3, and the summary has other runs", withSignals, (context) => {
   const words = small(temporaryFolder(context), `
     const words = new Int32Array(buffers[0]);
     globalThis.seeds = (globalThis.seeds ?? 0) + 1;

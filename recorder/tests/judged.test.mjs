@@ -54,7 +54,8 @@ describe("the judge of checked runs", withShell, () => {
   it("is given the run's trace, and says what the slow judge finds in it", async (context) => {
     const folder = temporaryFolder(context);
     for (const seed of [1, RACING_SEED]) {
-      const sabsim = judging(folder, `${SIMULATOR_WORDS} judge --trace < '${folder}/given' > '${folder}/said'; exit $?`);
+      const sabsim = judging(folder,
+        `${SIMULATOR_WORDS} judge --trace < '${folder}/given' > '${folder}/said'; exit $?`);
       const { checked, races } = await record({ ...SMALL, seed, sabsim });
       const events = eventsOfTrace(readFileSync(join(folder, "given"), "utf8"));
       const judged = slowJudge(events);
@@ -130,7 +131,8 @@ describe("the judge of checked runs", withShell, () => {
   it("differs under the command line: status 3, and what both went by is kept", (context) => {
     const folder = temporaryFolder(context);
     const judge = judging(folder, FINDS_ONE);
-    const programs = { json: [agentsPath("cases"), ...addition], "trace.jsonl": [RING, "--agents", "2", "--everywhere", "--seeds", "7"] };
+    const programs = { json: [agentsPath("cases"), ...addition],
+      "trace.jsonl": [RING, "--agents", "2", "--everywhere", "--seeds", "7"] };
     for (const [given, [module, ...words]] of Object.entries(programs)) {
       const out = join(folder, given);
       const { status, stdout, stderr } = run(module, "--sabsim", judge, "--out", out, ...words);
@@ -151,7 +153,8 @@ describe("the judge of checked runs", withShell, () => {
       const words = ["--sabsim", sabsim, "--ordinary", ordinary, ...addition];
       const { status, stdout } = await commandHere([agentsPath("cases"), ...words]);
       assert.equal(status, 0, stdout);
-      assert.match(stdout, /^every run was replayed by the simulator \(native program\): it agrees with the recorder$/m);
+      assert.match(stdout,
+        /^every run was replayed by the simulator \(native program\): it agrees with the recorder$/m);
     }
   });
 

@@ -12,7 +12,10 @@ import { simulated } from "./helpers/simulate.mjs";
 
 const module = agentsPath("cases");
 
-/** @param {string} name of a file of types @returns {string} its text, with that of the files of which it exports all */
+/**
+ * @param {string} name of a file of types
+ * @returns {string} its text, with that of the files of which it exports all
+ */
 function typesOf(name) {
   const text = readFileSync(new URL(`../${name}`, import.meta.url), "utf8");
   const others = [...text.matchAll(/^export \* from "\.\/([\w-]+)\.cjs";$/gm)];
@@ -22,7 +25,8 @@ function typesOf(name) {
 test("each entry of the package exports the functions and classes that its types declare, and no others", async () => {
   for (const entry of ["recorder.mjs", "testing.mjs", "testing.cjs"]) {
     const types = typesOf(entry.replace(/mjs|cjs/, "d.cts"));
-    const declared = [...types.matchAll(/^export (?:declare )?(?:function|class|const) (\w+)/gm)].map(([, name]) => name);
+    const declared = [...types.matchAll(/^export (?:declare )?(?:function|class|const) (\w+)/gm)]
+      .map(([, name]) => name);
     assert.ok(declared.length > 1);
     const { default: all, ...named } = await import(`../${entry}`);
     assert.deepEqual(Object.keys(all ?? named).sort(), declared.sort());
@@ -43,7 +47,7 @@ test("each option that can't be is refused, with one line that names it", async 
     seconds: [0, -1, 3_601, "5", NaN, Infinity, null],
     ordinary: ["see", "Watch", true, "toString", ["watch"], null],
     races: ["ignore", true, null],
-    bounds: ["ignore", false, null],
+    limits: ["ignore", false, null],
     unrecorded: ["ignore", true, null],
     clock: ["simulated", 0, null],
     init: [true, "init", null],
@@ -88,12 +92,21 @@ test("the module must be named, and options that there aren't are refused by the
   }
 });
 
-test("the strategy is mixed if none is given, and `switch` alone is none", async () => {
+test("the strategy is mixed if none is given", async () => {
   const given = (options) => recordCase("racy", { agents: 3, seed: 11, trace: false, ...options });
   assert.deepEqual(await given({ strategy: "mixed" }), await given({}));
-  await assert.rejects(given({ switch: 0.5 }), (error) => {
-    return error instanceof Refused && error.message === 'there is no option `switch`: use `strategy: "switch:P"`';
-  });
+});
+
+test("options of earlier versions are refused with what there is in their place", async () => {
+  const refusals = [
+    [{ switch: 0.5 }, 'there is no option `switch`: use `strategy: "switch:P"`'],
+    [{ bounds: "allow" }, "there is no option `bounds`: use `limits`"],
+  ];
+  for (const [given, message] of refusals) {
+    await assert.rejects(recordCase("racy", { agents: 3, seed: 11, ...given }), (error) => {
+      return error instanceof Refused && error.message === message;
+    });
+  }
 });
 
 test("an option that is undefined is one that isn't given", async () => {
@@ -261,12 +274,12 @@ test("`ordinary` says what is seen of reads and writes", async (context) => {
   assert.equal((await record({ ...options, ordinary: "refuse" })).ending, "failed");
 });
 
-test("`bounds` says whether a run that meets a bound fails", async () => {
+test("`limits` says whether a run that meets a limit fails", async () => {
   const options = { agents: 1, maxMoves: 50 };
   const failing = await recordCase("spins", options);
-  assert.deepEqual([failing.ending, failing.fails], ["bound", true]);
-  const allowed = await recordCase("spins", { ...options, bounds: "allow" });
-  assert.deepEqual([allowed.ending, allowed.fails], ["bound", false]);
+  assert.deepEqual([failing.ending, failing.fails], ["limit", true]);
+  const allowed = await recordCase("spins", { ...options, limits: "allow" });
+  assert.deepEqual([allowed.ending, allowed.fails], ["limit", false]);
 });
 
 test("with `clock: run` the same seed gives the same time, and `clock: real` gives the machine's", async (context) => {

@@ -65,7 +65,8 @@ function suite(context) {
       export const recordHere = (options) => record(options);
     `,
     "suite/calls.cjs": `
-      exports.common = async () => (await import("${LIBRARY}")).record({ module: "./agents.mjs", agents: 1, sabsim: false });
+      const asked = { module: "./agents.mjs", agents: 1, sabsim: false };
+      exports.common = async () => (await import("${LIBRARY}")).record(asked);
     `,
   };
   mkdirSync(join(folder, "suite"));

@@ -16,8 +16,8 @@ const INT32 = KINDS.indexOf("Int32");
 const UINT8 = KINDS.indexOf("Uint8");
 
 /**
- * Records a module of agents, whose every script sabsim replays to the same where it is given. Without pilots, and since
- * it is given how many agents there are, few workers begin.
+ * Records a module of agents, whose every script sabsim replays to the same where it is given. Without pilots, and
+ * since it is given how many agents there are, few workers begin.
  */
 async function recordedModule(context, setup, body, { seeds = [1], ...options } = {}) {
   const path = join(temporaryFolder(context), "agents.mjs");
@@ -53,7 +53,8 @@ test("which names are allowed, and what they may name", () => {
   ]);
   // Two names may overlap: of an element the shortest one counts. So they are of two places if one thing differs.
   const part = { kind: "Int16", buffer: 0, offset: 2, length: 3 };
-  const others = [{ kind: "Uint16" }, { buffer: 1 }, { offset: 4 }, { length: 2 }].map((each) => ({ ...part, ...each }));
+  const others = [{ kind: "Uint16" }, { buffer: 1 }, { offset: 4 }, { length: 2 }]
+    .map((each) => ({ ...part, ...each }));
   assert.deepEqual(others.map((other) => checkedNames({ part, other }, [16, 16]).length), [2, 2, 2, 2]);
   assert.deepEqual(checkedNames(undefined, [8]), []);
   assert.equal(checkedNames({ [`a${"_".repeat(22)}`]: 0 }, [8]).length, 1);
@@ -71,7 +72,8 @@ for (const [names, why] of [
   [{ Uint8_b1_at8_x4: 0 }, /scripts give such names to other views/],
   [{ ordinary_x: 0 }, /scripts give such names to other views/],
   [{ init_: 0 }, /scripts give such names to other views/],
-  [{ waitAsync_1_of_0: 0 }, /^`names` can't have waitAsync_1_of_0: scripts give such names to other views, so choose another name$/],
+  [{ waitAsync_1_of_0: 0 },
+    /^`names` can't have waitAsync_1_of_0: scripts give such names to other views, so choose another name$/],
   [{ unseen: 0 }, /^`names` can't have unseen: scripts give such names to other views, so choose another name$/],
   [{ LOCK: "0" }, /^`names` gives LOCK no place: write \[kind, buffer, index\] for an element/],
   [{ LOCK: ["Int32"] }, /gives LOCK no place/],

@@ -42,7 +42,8 @@ describe("agents without a call of Atomics", { concurrency: 4 }, () => {
     test(`have tried nothing if they access nothing, --ordinary ${ordinary}`, async (context) => {
       const { ending, detail } = await outcomeOf(context, "", { ordinary });
       assert.equal(ending, "failed");
-      assert.match(detail, /^no agent has made a call of Atomics, or another access that is seen, .*: nothing was tried$/);
+      assert.match(detail,
+        /^no agent has made a call of Atomics, or another access that is seen, .*: nothing was tried$/);
     });
   }
 
@@ -59,7 +60,8 @@ describe("agents without a call of Atomics", { concurrency: 4 }, () => {
     assert.equal(status, 1);
     const lines = stdout.split("\n");
     assert.equal(lines[0], "2 of 2 runs failed: 2 race");
-    assert.ok(lines.includes("not shortened: it has no call of Atomics that could be left out, or come at another time"));
+    const why = "it has no call of Atomics that could be left out, or come at another time";
+    assert.ok(lines.includes(`not shortened: ${why}`));
     assert.ok(!stdout.includes("nothing was tried"), stdout);
   });
 });

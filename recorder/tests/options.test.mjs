@@ -35,7 +35,8 @@ test("the reference's tables have each option of the command line, of record and
 });
 
 test("the library's types have each option of record and of explore", () => {
-  const [each, ofModule, ofProgram, one, many] = ["RunOptions", "OfModule", "OfProgram", "OneRun", "ManyRuns"].map(membersOf);
+  const [each, ofModule, ofProgram, one, many] = ["RunOptions", "OfModule", "OfProgram", "OneRun", "ManyRuns"]
+    .map(membersOf);
   const shared = [...each, ...new Set([...ofModule, ...ofProgram])];
   assert.deepEqual([...shared, ...one].sort(), namesOf("record").sort());
   assert.deepEqual([...shared, ...many].sort(), namesOf("explore").sort());

@@ -75,7 +75,7 @@ describe("ordinary writes that don't all fit into a script", { concurrency: 2 },
     assert.deepEqual([full.ending, full.calls, full.progress], ["finished", MOST, [{ returned: MOST, calls: MOST }]]);
     // The writes are to a word that no call touches.
     assert.deepEqual([full.scriptHolds, callsOf(full).length], ["touched", MOST]);
-    assert.deepEqual([more.ending, more.calls], ["bound", MOST]);
+    assert.deepEqual([more.ending, more.calls], ["limit", MOST]);
     assert.match(more.detail, new RegExp(`^agent 0 has made ${MOST} calls, and goes on`));
   });
 

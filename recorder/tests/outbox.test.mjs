@@ -23,7 +23,8 @@ function stoppedClock(context) {
 }
 
 /** @param {number} seed @returns {object} an outcome of a run that has passed */
-const passing = (seed) => ({ seed, ending: "finished", fails: false, detail: "é\n", state: { named: null }, races: [] });
+const passing = (seed) =>
+  ({ seed, ending: "finished", fails: false, detail: "é\n", state: { named: null }, races: [] });
 
 /** @param {number} first @param {number} count */
 const outcomes = (first, count) => Array.from({ length: count }, (_, at) => passing(first + at));

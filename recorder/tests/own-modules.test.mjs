@@ -31,7 +31,9 @@ for (const root of ROOTS) {
     assert.ok(own.length > 40);
     // Each is evaluated once, behind those that it imports.
     const modules = {};
-    for (const each of own) assert.deepEqual(shapes(evaluated([each], modules)), shapes(await import(each.url)), each.url);
+    for (const each of own) {
+      assert.deepEqual(shapes(evaluated([each], modules)), shapes(await import(each.url)), each.url);
+    }
   });
 
   test(`each module that ${name} imports keeps the lines of its file`, () => {

@@ -59,7 +59,7 @@ describe("the page of a run, in a browser", { timeout: 600_000 }, () => {
     return browser.open(pathToFileURL(path).href, window);
   }
 
-  it("opens at what fails, with the line of code, and the browser has nothing to complain of", withBrowser, async (context) => {
+  it("opens at what fails, with the line of code, and the browser has no complaints", withBrowser, async (context) => {
     const page = await opened(context);
     assert.deepEqual(await page.value(SHOWN), {
       step: "step-8", line: "7", word: "Atomics", file: "Code of a.mjs", here: "0,1",
@@ -244,7 +244,8 @@ describe("the page of a run, in a browser", { timeout: 600_000 }, () => {
     assert.deepEqual(lines, [`Run it again: ${text} Copy`, "Module: src/a.mjs", "Options: --clock real -- one",
       "Made by: sabsim 0.1.0, module 12, node 20.0.0"]);
     const copy = async (clipboard) => {
-      await page.value(`(Object.defineProperty(navigator, "clipboard", { configurable: true, value: ${clipboard} }), 0)`);
+      const given = `{ configurable: true, value: ${clipboard} }`;
+      await page.value(`(Object.defineProperty(navigator, "clipboard", ${given}), 0)`);
       await page.click("#copy");
       return page.value("[document.querySelector('#copy').textContent, window.copied, getSelection().toString()]");
     };

@@ -143,7 +143,7 @@ test("one goes to the next change of agents, and back", () => {
 test("the failing step is the last wait of a deadlock, or the last step of an agent that threw", () => {
   assert.deepEqual(runOf().failing, [8]);
   assert.deepEqual(runOf({ ending: "failed", detail: "agent 0 threw Error: no" }).failing, [5]);
-  assert.deepEqual(runOf({ ending: "bound", detail: "agent 1 spins at a.mjs:7:1" }).failing, [8]);
+  assert.deepEqual(runOf({ ending: "limit", detail: "agent 1 spins at a.mjs:7:1" }).failing, [8]);
   assert.deepEqual(runOf({ ending: "check", detail: "check returned false" }).failing, [9]);
 });
 

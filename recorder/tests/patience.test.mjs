@@ -65,7 +65,7 @@ test("an agent is silent for too long only if its process goes on meanwhile", (c
   assert.equal(turn.awaitEnd(1), true);
   // Ten steps after that, and ten in which the agent could say where it is.
   assert.deepEqual([steps, turn.silent], [27, 0]);
-  assert.deepEqual(turn.end.result(), { ending: "bound", detail: "agent 0 has made no call for 1 s" });
+  assert.deepEqual(turn.end.result(), { ending: "limit", detail: "agent 0 has made no call for 1 s" });
 });
 
 test("an agent is given its time to end in steps of its process, too", (context) => {

@@ -1,5 +1,5 @@
 // Pilots among real runs: they show nothing of themselves, they end in time, and what they learn changes what is found
-// in no wrong way. And runs until they are covered.
+// in no wrong way.
 
 import assert from "node:assert/strict";
 import { spawnSync } from "node:child_process";
@@ -26,7 +26,8 @@ test("output of agents in pilots isn't shown, and no module remembers pilots", (
   `);
   const { stdout, stderr } = run([module, "--agents", "2", "--buffers", "4", "--seeds", "7..8"]);
   assert.equal(stderr, "run 1 of agent 0\nrun 1 of agent 1\nrun 2 of agent 0\nrun 2 of agent 1\n");
-  assert.match(stdout, /^2 runs: 2 finished\nseed 7 was run once more at the end, and left other bytes: .*\n2 final states/);
+  assert.match(stdout,
+    /^2 runs: 2 finished\nseed 7 was run once more at the end, and left other bytes: .*\n2 final states/);
 });
 
 test("calls beside ordinary accesses that race are places to switch, though none of the calls is shared", (context) => {
@@ -78,13 +79,13 @@ test("an agent that waits for what pilots couldn't see doesn't spin for ever", (
   assert.equal(status, 0, stdout);
 });
 
-test("pilots that meet a bound, that fail or that don't end let the runs be made all the same", async () => {
+test("pilots that meet a limit, that fail or that don't end let the runs be made all the same", async () => {
   const withPilots = { everywhere: false };
   const spins = await recordCase("spins", withPilots);
-  assert.deepEqual([spins.ending, /has made 1000 calls/.test(spins.detail)], ["bound", true]);
+  assert.deepEqual([spins.ending, /has made 1000 calls/.test(spins.detail)], ["limit", true]);
   const endless = await recordCase("loops", { ...withPilots, seconds: 1 });
   const silent = "agent 1 has made no call for 1 s: it is at cases.mjs:40:5";
-  assert.deepEqual([endless.ending, endless.detail], ["bound", silent]);
+  assert.deepEqual([endless.ending, endless.detail], ["limit", silent]);
   const init = () => {
     throw new Error("no");
   };
@@ -104,7 +105,7 @@ export default function agent({ agent }) {
 }
 `);
   const { ending } = await record({ module, sabsim: false, seconds: 1, everywhere: false });
-  assert.equal(ending, "bound");
+  assert.equal(ending, "limit");
   assert.equal(readFileSync(begun, "utf8"), "..", "in a pilot, and in the run");
 });
 
@@ -113,36 +114,4 @@ test("a run is the same whether its group has made others before, with other opt
   const one = await record({ ...options });
   assert.deepEqual(await record({ ...options, strategy: "mixed", everywhere: false }), one);
   assert.notEqual((await record({ ...options, everywhere: true, strategy: "switch:0.5" })).moves, 0);
-});
-
-test("--until-covered ends when 500 seeds have shown nothing new, whatever the number of jobs", () => {
-  const words = [agentsPath("naive-mutex"), "--until-covered"];
-  const [one, three] = [1, 3].map((jobs) => run(words, jobs));
-  assert.deepEqual([three.stdout, three.status], [one.stdout, one.status]);
-  const [, runs] = /^\d+ of ([\d,]+) runs failed/.exec(one.stdout);
-  const coverage = /^(\d+) pairs of lines .*\n {2}the last new one in seed (\d+), none in 500 seeds since: covered$/m;
-  const [, pairs, last] = coverage.exec(one.stdout);
-  assert.equal(Number(runs), Number(last) + 500);
-  // Two agents at each of the six lines, at the most.
-  assert.ok(pairs > 5 && pairs <= 36, one.stdout);
-  const cut = run([...words, "--seeds", "1..30"]).stdout;
-  assert.match(cut, /^ {2}the last new one in seed \d+, none in \d+ seeds since: not covered$/m);
-});
-
-test("if lines aren't known, nothing is called covered", (context) => {
-  const module = agentsOf(temporaryFolder(context), `
-    const words = new Int32Array(buffers[0]);
-    Object.freeze(Error);
-    Atomics.add(words, 0, 1);
-    Atomics.store(words, 1, agent);
-  `);
-  const { stdout, status } = run([module, "--agents", "2", "--buffers", "8", "--until-covered", "--seeds", "1..900"]);
-  assert.equal(status, 0);
-  // It ends all the same.
-  const [, runs] = /^(\d+) runs: /.exec(stdout);
-  assert.ok(Number(runs) > 500 && Number(runs) < 900, stdout);
-  const unplaced = / {2}of ([\d,]+) accesses the line isn't known, so pairs may be missing\n {2}.*: not covered\n/;
-  const [, accesses] = unplaced.exec(stdout) ?? assert.fail(stdout);
-  // Two agents make two each.
-  assert.equal(accesses.replace(",", ""), String(4 * Number(runs)));
 });

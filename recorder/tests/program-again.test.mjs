@@ -50,7 +50,8 @@ async function made(context, way, options = {}) {
   const job = new Job();
   const outcomes = [];
   const module = pathToFileURL(programOf(context, FILES)).href;
-  const asked = { ...defaultsOf("record"), isProgram: true, seconds: 20, checks: true, checkEvery: 1, module, args: [way] };
+  const asked = { ...defaultsOf("record"), isProgram: true, seconds: 20, checks: true, checkEvery: 1, module,
+    args: [way] };
   const seeds = Array.from({ length: 8 }, (_, at) => ({ seed: at + 1, whole: true, isSilent: true }));
   try {
     await job.open({ ...asked, ...options });
@@ -78,7 +79,8 @@ describe("a failing run that goes another way in fresh threads", { concurrency: 
     const main = programOf(context, FILES);
     const { status, stdout, stderr } = await commandThere(["--program", main, "--seeds", "1..9", "--", "ending"]);
     assert.equal(status, 3, stderr);
-    assert.ok(stderr.includes(`record: seed 2 was run once more in fresh threads, and ${SAID.ending}: ${KEEPS}`), stderr);
+    assert.ok(stderr.includes(`record: seed 2 was run once more in fresh threads, and ${SAID.ending}: ${KEEPS}`),
+      stderr);
     assert.match(stdout, /^1 run: 1 finished$/m);
     assert.doesNotMatch(stdout, /first failing seed/);
   });

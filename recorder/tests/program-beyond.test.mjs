@@ -9,7 +9,8 @@ import { describe, it } from "node:test";
 import { RECORD } from "./helpers/common.mjs";
 import { programOf, runsOf } from "./helpers/whole-programs.mjs";
 
-const BEYOND = "a thread made more than 1000 calls, which no script can have: sabsim judges only the trace of such a run";
+const BEYOND = "a thread made more than 1000 calls, which no script can have: "
+  + "sabsim judges only the trace of such a run";
 
 const MISSED = "it has more than 16,384 messages, the most that can be told apart: unordered accesses may be missed";
 
@@ -64,8 +65,9 @@ describe("more than 1,000 calls of a thread", { concurrency: 3 }, () => {
   it("are a spin if they are the same again and again", async (context) => {
     const spins = `${ADDS}\nwhile (Atomics.load(words, 1) === 0);`;
     const [outcome] = await runsOf(context, filesOf(spins, ""));
-    assert.equal(outcome.ending, "bound");
-    assert.match(outcome.detail, /^agent 1 \(worker\.mjs, started at main\.mjs:3:1\) spins at worker\.mjs:3:16: it has made 2000 calls, and goes on/);
+    assert.equal(outcome.ending, "limit");
+    assert.match(outcome.detail, new RegExp("^agent 1 \\(worker\\.mjs, started at main\\.mjs:3:1\\) spins at "
+      + "worker\\.mjs:3:16: it has made 2000 calls, and goes on"));
   });
 
   it("are no spin while another thread goes on", async (context) => {
@@ -91,8 +93,9 @@ describe("more than 1,000 calls of a thread", { concurrency: 3 }, () => {
     const files = filesOf("while (Atomics.load(words, 1) === 0);", "");
     const main = `${files["main.mjs"]}\nwhile (Atomics.load(words, 0) === 0);`;
     for (const outcome of await runsOf(context, { ...files, "main.mjs": main }, { seeds: [1, 2, 3] })) {
-      assert.equal(outcome.ending, "bound");
-      assert.match(outcome.detail, /^agent \d (\(.*\) )?spins at (main\.mjs:6:16|worker\.mjs:2:16): it has made [23]000 calls/);
+      assert.equal(outcome.ending, "limit");
+      assert.match(outcome.detail,
+        /^agent \d (\(.*\) )?spins at (main\.mjs:6:16|worker\.mjs:2:16): it has made [23]000 calls/);
     }
   });
 
@@ -143,7 +146,8 @@ describe("more buffers than a script can have, and a larger one", { concurrency:
     const act = `large[${LARGE} - 1] = process.argv[2];\n${WAKES}`;
     const files = { ...sharing(act, "") };
     files["main.mjs"] = files["main.mjs"].replace("workerData:", "argv: process.argv.slice(2), workerData:");
-    const [[one], [other]] = await Promise.all([runsOf(context, files, { args: ["1"] }), runsOf(context, files, { args: ["2"] })]);
+    const runsWith = (/** @type {string} */ word) => runsOf(context, files, { args: [word] });
+    const [[one], [other]] = await Promise.all([runsWith("1"), runsWith("2")]);
     assert.notEqual(one.state.hash, other.state.hash);
   });
 
@@ -180,7 +184,8 @@ if (Math.random() < 0.5) {
   it("have a deadlock with its place", async (context) => {
     const [{ ending, detail }] = await runsOf(context, sharing("", FINDS));
     assert.equal(ending, "deadlock");
-    assert.match(detail, /waits at byte 0 of block \d+ \(main\.mjs:2, number 40\): its call 1, \["wait", "Int32_b\d+", 0, 0\], at main/);
+    assert.match(detail,
+      /waits at byte 0 of block \d+ \(main\.mjs:2, number 40\): its call 1, \["wait", "Int32_b\d+", 0, 0\], at main/);
   });
 
   it("are a spin if the same is read again and again", async (context) => {
@@ -188,7 +193,7 @@ if (Math.random() < 0.5) {
     files["main.mjs"] = files["main.mjs"].replace(/^const woken.*$/m, "");
     // The spin is found by the number of reads, so the limit of time has to be out of the way.
     const [{ ending, detail }] = await runsOf(context, files, { options: { seconds: 3_600 } });
-    assert.equal(ending, "bound");
+    assert.equal(ending, "limit");
     assert.match(detail, /spins at main\.mjs:7:19: it reads the same bytes again and again/);
   });
 
@@ -203,7 +208,9 @@ if (Math.random() < 0.5) {
     assert.deepEqual(readdirSync(folder), [name]);
     assert.match(name, /^seed-\d+\.program\.json$/);
     const seed = JSON.parse(readFileSync(join(folder, name), "utf8")).seed;
-    for (const ending of ["json", "trace.jsonl"]) assert.ok(lines.includes(`not kept: seed-${seed}.${ending}: ${MEMORY}`));
+    for (const ending of ["json", "trace.jsonl"]) {
+      assert.ok(lines.includes(`not kept: seed-${seed}.${ending}: ${MEMORY}`));
+    }
     const again = await ran("--replay", join(folder, name));
     assert.deepEqual([again.status, again.stdout.split("\n")[1].replace(/:.*/, "")], [1, "1 of 1 run failed"]);
     assert.equal(again.stdout.split("\n")[3], lines[2]);

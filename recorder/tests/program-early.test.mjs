@@ -1,5 +1,5 @@
-// Times of programs that end early: by how much the run's clock may be ahead of what waits, that such times don't add up,
-// and that each run that fails after one says which time passed.
+// Times of programs that end early: by how much the run's clock may be ahead of what waits, that such times don't add
+// up, and that each run that fails after one says which time passed.
 
 import assert from "node:assert/strict";
 import { describe, it } from "node:test";
@@ -124,7 +124,10 @@ const chain = (limit) => ({
     parentPort.on("message", (left) => parentPort.postMessage(left));`,
 });
 
-/** Main has a limit for an answer, and a clock ticks beside; the worker reports each of its steps, between which it sleeps. */
+/**
+ * Main has a limit for an answer, and a clock ticks beside; the worker reports each of its steps, between which it
+ * sleeps.
+ */
 const STEPS = {
   "main.mjs": `import { Worker } from "node:worker_threads";
     const worker = new Worker(new URL("./w.mjs", import.meta.url));
@@ -163,7 +166,8 @@ describe("programs with limits of time", () => {
     const failing = outcomes.filter(({ fails }) => fails);
     assert.ok(failing.length > 5, `${failing.length}`);
     for (const { seed, onlyIf } of failing) {
-      assert.match(onlyIf ?? `seed ${seed} isn't marked`, /^only if [\d.]+ ms pass before agent \d('s next (call|task)| goes on)/);
+      assert.match(onlyIf ?? `seed ${seed} isn't marked`,
+        /^only if [\d.]+ ms pass before agent \d('s next (call|task)| goes on)/);
     }
     // A task of the loop itself waits when its timer is early.
     assert.ok(failing.some(({ onlyIf }) => /agent 0's next task/.test(onlyIf ?? "")));

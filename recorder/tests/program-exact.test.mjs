@@ -1,4 +1,5 @@
-// Runs that get real answers are made again by their rows. All programs are run in the same threads, one after the other.
+// Runs that get real answers are made again by their rows. All programs are run in the same threads, one after the
+// other.
 
 import assert from "node:assert/strict";
 import { rmSync, writeFileSync } from "node:fs";
@@ -111,7 +112,8 @@ await new Promise((done) => worker.once("message", done));
 execSync("sleep 0.1");
 for (let at = 0; at < 12; at += 1) Atomics.load(words, 0);
 await new Promise((done) => worker.once("exit", done));`,
-      "worker.mjs": `import { spawn } from "node:child_process"; import { parentPort, workerData } from "node:worker_threads";
+      "worker.mjs": `import { spawn } from "node:child_process";
+import { parentPort, workerData } from "node:worker_threads";
 const child = spawn("sh", ["-c", "echo a; [ -e '${slow}' ] && sleep 0.6; echo b >&2"]);
 for (const pipe of [child.stdout, child.stderr]) pipe.on("data", () => Atomics.add(workerData, 0, 1));
 parentPort.postMessage("begun");` });

@@ -79,7 +79,8 @@ const PROGRAMS = {
       console.log((await (0, eval)("import('./part.mjs')")) === first);
       const [one, two] = await Promise.all([import("./one.mjs"), import("./two.mjs")]);
       console.log(one.default, two.default);
-      console.log((await import("./part.mjs?other")) === first, (await import(new URL("./part.mjs", import.meta.url))) === first);
+      console.log((await import("./part.mjs?other")) === first,
+        (await import(new URL("./part.mjs", import.meta.url))) === first);
       import("./cycle.mjs").then((m) => console.log("cycle", m.self));`,
     "part.mjs": `console.log("part runs"); export const part = 1;`,
     "one.mjs": `import "./shared.mjs"; export default await new Promise((done) => process.nextTick(done, "one"));`,
@@ -99,7 +100,8 @@ const PROGRAMS = {
   },
   "import.meta": {
     "main.mjs": `
-      console.log(Object.keys(import.meta).join(), import.meta.url.endsWith("main.mjs"), Object.getPrototypeOf(import.meta));
+      console.log(Object.keys(import.meta).join(), import.meta.url.endsWith("main.mjs"),
+        Object.getPrototypeOf(import.meta));
       console.log(import.meta.dirname, import.meta.filename, import.meta.resolve("./missing.mjs"));
       console.log(import.meta.resolve("node:fs"), import.meta.resolve("fs"), import.meta.resolve("pack"));
       ${TRY}
@@ -114,7 +116,8 @@ const PROGRAMS = {
       console.log(require.main === module, module.id, module.parent, module.loaded, this === exports, arguments.length);
       console.log(__filename, __dirname, module.children.length, module.paths[0], Object.keys(require).join());
       const a = require("./a"); console.log(a, Object.keys(require.cache).map((each) => each.split("/").pop()).join());
-      console.log(require.resolve("./a"), require.resolve.paths("x")[0], require.extensions === require("module")._extensions);
+      console.log(require.resolve("./a"), require.resolve.paths("x")[0],
+        require.extensions === require("module")._extensions);
       delete require.cache[require.resolve("./count.js")]; console.log(require("./count.js"), require("./count.js"));
       console.log(require("./data.json"), require("./dir"), process.mainModule === module, module.children.length);
       exports.x = 1; console.log(typeof require, require("./a") === a, module.require("./a") === a);
@@ -134,7 +137,8 @@ const PROGRAMS = {
   "import() in CommonJS": {
     "main.cjs": `
       import("./state.mjs").then(async (first) => {
-        first.add(); console.log(first.count, (await require("./other.cjs").load()).count, require("./other.cjs").value);
+        first.add();
+        console.log(first.count, (await require("./other.cjs").load()).count, require("./other.cjs").value);
         console.log((await import("./other.cjs")).default === require("./other.cjs"));
         console.log(await import("fs") === await import("node:fs"));
       });
@@ -196,7 +200,8 @@ const PROGRAMS = {
       "imports": { "#own": { "node": "./own.mjs", "default": "./other.mjs" } } }`,
     "thing.mjs": `export default "self";`, "own.mjs": `export default "own";`, "other.mjs": `export default "other";`,
     "node_modules/pack/package.json": `{ "exports": {
-      ".": { "import": "./i.mjs", "require": "./r.js" }, "./sub": { "node": { "import": "./n.mjs" } }, "./files/*": "./f/*" } }`,
+      ".": { "import": "./i.mjs", "require": "./r.js" }, "./sub": { "node": { "import": "./n.mjs" } },
+      "./files/*": "./f/*" } }`,
     "node_modules/pack/i.mjs": `export default "import";`, "node_modules/pack/r.js": `module.exports = "require";`,
     "node_modules/pack/n.mjs": `export default "node";`, "node_modules/pack/f/x.js": `module.exports = "star";`,
     "node_modules/pack/private.js": "", "node_modules/@a/b/package.json": `{ "main": "m.js" }`,
@@ -227,8 +232,10 @@ const PROGRAMS = {
       import text from "data:text/javascript,export default 1"; ${TRY}
       import coded from "data:text/javascript;base64,ZXhwb3J0IGRlZmF1bHQgImLDpCI=";
       console.log(text, coded);
-      await attempt(() => import("data:text/javascript,export const n = 'a%20b'; export default import.meta.url.length"));
-      await attempt(async () => Object.keys((await import("data:text/javascript,export default import.meta")).default).join());
+      const exported = "export const n = 'a%20b'; export default import.meta.url.length";
+      await attempt(() => import("data:text/javascript," + exported));
+      const own = "data:text/javascript,export default import.meta";
+      await attempt(async () => Object.keys((await import(own)).default).join());
       await attempt(() => import("data:text/javascript,import fs from 'fs'; export const t = typeof fs.readFile"));
       await attempt(() => import("data:text/javascript,import './x.mjs'"));`,
   },
@@ -238,7 +245,8 @@ const PROGRAMS = {
       import { syncBuiltinESMExports } from "module";
       import * as paths from "path/posix"; import * as test from "node:test"; import { mine } from "./mine.mjs";
       const before = fs.readFileSync;
-      console.log(fs.readFileSync === readFileSync, all.default === fs, Object.keys(all).length > 90, promises === fs.promises);
+      console.log(fs.readFileSync === readFileSync, all.default === fs, Object.keys(all).length > 90,
+        promises === fs.promises);
       fs.readFileSync = () => "patched"; console.log(readFileSync === before, mine());
       syncBuiltinESMExports(); console.log(readFileSync(), all.readFileSync(), mine());
       fs.readFileSync = before; syncBuiltinESMExports(); console.log(readFileSync === before);
@@ -251,8 +259,10 @@ const PROGRAMS = {
         "./typed/c.cjs", "./cjstyped/a.js",
         "./await.js", "./node_modules/deep/index.js", "./meta.js"]) console.log(name, await import(name));`,
     "commonjs.js": `exports.way = typeof require;`, "syntax.js": `export const way = typeof require;`,
-    "noext": `exports.way = typeof module;`, "typed/package.json": `{ "type": "module" }`, "typed/a.js": `export const way = 1;`,
-    "typed/noext": `export const way = 2;`, "typed/c.cjs": `exports.way = 3;`, "cjstyped/package.json": `{ "type": "commonjs" }`,
+    "noext": `exports.way = typeof module;`, "typed/package.json": `{ "type": "module" }`,
+    "typed/a.js": `export const way = 1;`,
+    "typed/noext": `export const way = 2;`, "typed/c.cjs": `exports.way = 3;`,
+    "cjstyped/package.json": `{ "type": "commonjs" }`,
     "cjstyped/a.js": `exports.way = 4;`, "await.js": `const require = 1; await null; export const way = require;`,
     "meta.js": `console.log(typeof import.meta.url);`, "node_modules/deep/index.js": `export const way = 5;`,
   },
@@ -260,7 +270,8 @@ const PROGRAMS = {
     "main.mjs": `
       import { fail } from "./fail.mjs"; import { createRequire } from "module";
       const require = createRequire(import.meta.url);
-      const shown = (e) => e.stack.split("\\n").filter((line) => !/node:|program-modules\\.mjs/.test(line)).slice(0, 3).join("|");
+      const isOwn = (line) => !/node:|program-modules\\.mjs/.test(line);
+      const shown = (e) => e.stack.split("\\n").filter(isOwn).slice(0, 3).join("|");
       for (const act of [fail, require("./fail.cjs").fail, () => { null.x; }]) try { act();
       } catch (e) { console.log(shown(e)); }
       const later = async () => { await null; fail(); }; await later().catch((e) => console.log(shown(e)));`,
@@ -294,7 +305,8 @@ notThere();`,
     "b.js": `export const b = 1; console.log("b runs");`, "typed/package.json": `{ "type": "module" }`,
     "typed/index.js": `console.log("typed runs"); export default typeof require;`,
     "default.mjs": `export default class Named {} export const other = 2;`,
-    "named.mjs": `export const __esModule = false; export default 1; export { it as "module.exports" }; const it = "whole";`,
+    "named.mjs": `export const __esModule = false; export default 1; export { it as "module.exports" };
+      const it = "whole";`,
     "awaits.mjs": `console.log("never"); export const x = await 1;`,
     "imports.mjs": `import c from "./c.cjs"; import { a } from "./a.mjs"; export const sum = c.c + a;`,
     "c.cjs": `exports.c = 3;`, "throws.mjs": `throw new TypeError("of an ES module");`,
@@ -305,7 +317,8 @@ notThere();`,
     "main.mjs": `import a from "./a.cjs"; import b from "./b.cjs"; import * as all from "./all.cjs";
       console.log(a, b, all, a.b === b);`,
     "a.cjs": `exports.b = require("./b.cjs"); exports.early = typeof require("./c.cjs");`,
-    "b.cjs": `exports.of = "b"; exports.c = require("./c.cjs");`, "c.cjs": `exports.c = Object.keys(require("./a.cjs"));`,
+    "b.cjs": `exports.of = "b"; exports.c = require("./c.cjs");`,
+    "c.cjs": `exports.c = Object.keys(require("./a.cjs"));`,
     "all.cjs": `module.exports = { ...require("./d/d.cjs"), all: 1 };`, "d/d.cjs": `exports.d = require("./e.cjs").e;`,
     "d/e.cjs": `exports.e = 5;`,
   },
@@ -341,11 +354,12 @@ test("code of a worker with eval: true has its globals, and starts anew each tim
   writeFileSync(join(folder, "eval.mjs"), "export const e = 1;");
   const url = pathToFileURL(join(folder, "eval.mjs")).href;
   const code = `const { basename } = require("path"); let count = 0; count += 1;
-    console.log(count, basename("/a/b"), typeof module, exports === module.exports, __filename, __dirname, this === globalThis);
+    console.log(count, basename("/a/b"), typeof module, exports === module.exports, __filename, __dirname,
+      this === globalThis);
     import(${JSON.stringify(url)}).then((m) => console.log(m.e));
     console.log(new Error("x").stack.split("\\n")[1]);`;
   const [runs] = await ownRuns([code]);
-  const expected = ["1 b object true [worker eval] . true", "    at [worker eval]:4:17", "1"];
+  const expected = ["1 b object true [worker eval] . true", "    at [worker eval]:5:17", "1"];
   for (const run of runs) assert.deepEqual(run, expected);
 });
 
@@ -368,12 +382,14 @@ test("a file that is written anew is read anew", async () => {
       for (const [name, text] of [["made.mjs", "export const n = "], ["made.cjs", "exports.n = "]]) {
         writeFileSync(new URL(name, import.meta.url), text + times);
       }
-      writeFileSync(new URL("either.js", import.meta.url), times === 2 ? "export const way = 'module';" : "exports.way = 'commonjs';");
+      const code = times === 2 ? "export const way = 'module';" : "exports.way = 'commonjs';";
+      writeFileSync(new URL("either.js", import.meta.url), code);
       writeFileSync(new URL("names.cjs", import.meta.url), "exports.name" + times + " = 1;");
       // Node 24 adds one.
       const names = Object.keys(await import("./names.cjs")).filter((name) => name !== "module.exports");
       console.log((await import("./either.js")).way, names.join());
-      console.log((await import("./made.mjs")).n === globalThis.times, (await import("./made.cjs")).n === globalThis.times,
+      console.log((await import("./made.mjs")).n === globalThis.times,
+        (await import("./made.cjs")).n === globalThis.times,
         createRequire(import.meta.url)("./made.cjs").n === globalThis.times);`,
   });
   const [runs] = await ownRuns([pathToFileURL(join(folder, "written/main.mjs")).href]);
@@ -397,8 +413,8 @@ test("a thread makes graphs as a process does, without a warning", async () => {
 });
 
 /**
- * What the engine has noted about a file: the texts that it took of it, and each time that it read or compiled a function
- * of one, with the place of that function.
+ * What the engine has noted about a file: the texts that it took of it, and each time that it read or compiled a
+ * function of one, with the place of that function.
  */
 function engineNotesOf(log, file) {
   const lines = log.split("\n").map((line) => line.split(","));
@@ -408,9 +424,10 @@ function engineNotesOf(log, file) {
   return { texts, acts: acts.map(([, act, id, from, to]) => [act, id, from, to].join(" ")) };
 }
 
-test("from the third run on, the engine compiles nothing of CommonJS, and each run has functions of its own", async () => {
+test("from the third run on, the engine compiles no CommonJS, and each run has functions of its own", async () => {
   const functions = 400;
-  const body = Array.from({ length: functions }, (_, at) => `function f${at}(a) { return a.b${at} + "c${at}"; }`).join("\n");
+  const body = Array.from({ length: functions }, (_, at) => `function f${at}(a) { return a.b${at} + "c${at}"; }`)
+    .join("\n");
   const at = join(folder, "compiled");
   programIn(at, {
     "main.cjs": `
@@ -420,11 +437,13 @@ test("from the third run on, the engine compiles nothing of CommonJS, and each r
     "large.cjs": `${body}\nexports.f0 = f0; for (let at = 0; at < 50; at += 1) f0({});`,
   });
   // The engine may drop the code of what hasn't run for long, and compile that again. Here it keeps all.
-  const logged = ["--no-flush-bytecode", "--log-function-events", "--no-logfile-per-isolate", `--logfile=${join(at, "log")}`];
+  const logged = ["--no-flush-bytecode", "--log-function-events", "--no-logfile-per-isolate",
+    `--logfile=${join(at, "log")}`];
   const [runs] = await ownRuns([pathToFileURL(join(at, "main.cjs")).href], 6, logged);
   assert.deepEqual(runs, Array(6).fill(["true"]));
   // The engine writes signs beyond ASCII by their codes.
-  const path = realpathSync(join(at, "large.cjs")).replace(/[^ -~]/g, (sign) => `\\x${sign.charCodeAt(0).toString(16)}`);
+  const path = realpathSync(join(at, "large.cjs"))
+    .replace(/[^ -~]/g, (sign) => `\\x${sign.charCodeAt(0).toString(16)}`);
   const { texts, acts } = engineNotesOf(readFileSync(join(at, "log"), "utf8"), path);
   assert.equal(texts.length, 2, "it is compiled as a function's text, and as a script");
   assert.ok(acts.length > texts.length * functions, `the engine has noted ${acts.length} acts`);
@@ -443,7 +462,8 @@ test("graphs that are over are garbage: memory and time of a run stay", async ()
   const own = (name) => JSON.stringify(new URL(`../lib/program/${name}.mjs`, import.meta.url));
   const code = `
     import { ProgramModules } from ${own("program-modules")};
-    const graph = new ProgramModules({ refuse: () => {} }); const turn = () => new Promise((done) => setTimeout(done, 10));
+    const graph = new ProgramModules({ refuse: () => {} });
+    const turn = () => new Promise((done) => setTimeout(done, 10));
     const heaps = []; const times = [];
     for (let part = 0; part < 4; part += 1) {
       times.push(Infinity);

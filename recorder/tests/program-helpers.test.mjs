@@ -68,7 +68,8 @@ describe("a wait of waitAsync in a script", () => {
     });
     const done = replayOf(outcome.script).entries.filter(({ what }) => what !== "begin" && what !== "return");
     assert.deepEqual(done.map(({ entry, agent, call, what, answer }) => [entry, agent, call, what, answer]), [
-      [1, 0, 0, "act", 0], [4, 0, 1, "act", 0], [7, 1, 0, "act", 0], [10, 1, 1, "wait", undefined], [12, 0, 2, "act", 1],
+      [1, 0, 0, "act", 0], [4, 0, 1, "act", 0], [7, 1, 0, "act", 0], [10, 1, 1, "wait", undefined],
+      [12, 0, 2, "act", 1],
       [14, 1, 1, "leave", "ok"], [17, 1, 2, "act", 0], [20, 0, 3, "act", 0], [23, 0, 4, "act", 7],
     ]);
     assert.deepEqual([done[4].found, done[5].found], [{ waited: 1, woken: [1] }, { woken_by: 12 }]);
@@ -89,13 +90,16 @@ describe("a wait of waitAsync in a script", () => {
     assert.deepEqual(draws.map(({ agent, goesOn, step }) => [agent, goesOn, step.call]), [
       [0, false, 0], [0, false, 1], [0, false, 2], [0, true, 1],
     ]);
-    const views = script.views.map((view) => (view.name === "waitAsync_1_of_0" ? { ...view, name: "waitAsync_1_of_1" } : view));
+    const views = script.views.map((view) =>
+      (view.name === "waitAsync_1_of_0" ? { ...view, name: "waitAsync_1_of_1" } : view));
     const text = JSON.stringify({ ...script, views }).replaceAll("waitAsync_1_of_0", "waitAsync_1_of_1");
-    assert.throws(() => keptScript(text, "x.json"), /^Error: x\.json is no script .*: its views of waitAsync name agents that it doesn't have$/);
+    assert.throws(() => keptScript(text, "x.json"),
+      /^Error: x\.json is no script .*: its views of waitAsync name agents that it doesn't have$/);
   });
 
   it("has a helper of its own if another one is pending, and else that one's", async (context) => {
-    const { outcome, calls, schedule } = await onlyRun(context, `const [one, two] = [0, 1].map((index) => Atomics.waitAsync(words, index, 0).value);
+    const { outcome, calls, schedule } = await onlyRun(context, `
+      const [one, two] = [0, 1].map((index) => Atomics.waitAsync(words, index, 0).value);
       Atomics.notify(words, 1);
       await two;
       const three = Atomics.waitAsync(words, 2, 0).value;
@@ -105,7 +109,8 @@ describe("a wait of waitAsync in a script", () => {
     const [first, second] = ["waitAsync_1_of_0", "waitAsync_2_of_0"];
     assert.deepEqual(calls, [
       [
-        MESSAGE, handOver(first, 0), handOver(second, 0), notify(1), handOver(second, 1), handOver(second, 0), notify(0), notify(2),
+        MESSAGE, handOver(first, 0), handOver(second, 0), notify(1), handOver(second, 1), handOver(second, 0),
+        notify(0), notify(2),
         handOver(first, 1), handOver(second, 1),
       ],
       [handOver(first, 0), wait(0, 0), handOver(first, 1)],
@@ -116,7 +121,8 @@ describe("a wait of waitAsync in a script", () => {
       (/** @type {number} */ helper) => [...times(helper, 5), ...times(0, 3)],
     ];
     assert.deepEqual(schedule, [
-      ...times(0, 3), ...begins(1), ...begins(2), ...times(0, 3), ...ends(2), ...begins(2), ...times(0, 6), ...ends(1), ...ends(2),
+      ...times(0, 3), ...begins(1), ...begins(2), ...times(0, 3), ...ends(2), ...begins(2), ...times(0, 6), ...ends(1),
+      ...ends(2),
     ]);
     // What is handed over is no message.
     assert.deepEqual(sendersIn(replayOf(outcome.script).entries), [0]);
@@ -147,7 +153,8 @@ describe("a wait of waitAsync in a script", () => {
   it("is the thread's own if it returns at once", async (context) => {
     const { calls, schedule, outcome } = await onlyRun(context, `const found = [
         Atomics.waitAsync(words, 0, 5), Atomics.waitAsync(words, 1, 0, 0), Atomics.waitAsync(words, 2, 0, -1)];
-      if (found.map(({ async, value }) => async + value).join() !== "falsenot-equal,falsetimed-out,falsetimed-out") throw found;`);
+      const said = found.map(({ async, value }) => async + value).join();
+      if (said !== "falsenot-equal,falsetimed-out,falsetimed-out") throw found;`);
     assert.deepEqual(calls, [[MESSAGE, wait(0, 5), wait(1, 0, 0), wait(2, 0, -1)]]);
     assert.deepEqual(schedule, [...times(0, 6), 0, 0, { timeout: 0 }, 0, 0, 0, { timeout: 0 }, 0]);
     assert.deepEqual(outcome.answers, [["0", "not-equal", "timed-out", "timed-out"]]);
@@ -156,9 +163,11 @@ describe("a wait of waitAsync in a script", () => {
   it("goes on at the end of the script if nothing settles it", async (context) => {
     const { calls, outcome } = await onlyRun(context, "Atomics.waitAsync(words, 3, 0); Atomics.store(words, 0, 1);");
     const view = "waitAsync_1_of_0";
-    assert.deepEqual(calls, [[MESSAGE, handOver(view, 0), ["store", "Int32_b0", 0, 1]], [handOver(view, 0), wait(3, 0)]]);
+    assert.deepEqual(calls,
+      [[MESSAGE, handOver(view, 0), ["store", "Int32_b0", 0, 1]], [handOver(view, 0), wait(3, 0)]]);
     const [, helper] = replayOf(outcome.script).agents;
-    assert.deepEqual([helper.returned, helper.of, helper.standing?.at, helper.standing?.notified], [1, 2, "waits", false]);
+    assert.deepEqual([helper.returned, helper.of, helper.standing?.at, helper.standing?.notified],
+      [1, 2, "waits", false]);
     assert.deepEqual(outcome.answers, [["0", null, "1"]]);
   });
 
@@ -176,7 +185,7 @@ describe("a wait of waitAsync in a script", () => {
   });
 });
 
-it("a run with helpers is judged by its trace: in the script nothing orders a thread's accesses with its helper's wait", async (context) => {
+it("a run with helpers is judged by its trace: no script orders a thread's accesses with them", async (context) => {
   const { outcome } = await onlyRun(context, `const longs = new BigInt64Array(words.buffer);
     const { value } = Atomics.waitAsync(words, 0, 0);
     Atomics.store(longs, 0, 5n);
@@ -186,7 +195,8 @@ it("a run with helpers is judged by its trace: in the script nothing orders a th
   const judged = (/** @type {string[]} */ words, text = "") => simulated(["judge", ...words], text).output;
   assert.match(judged(["--trace"], outcome.trace), /^no data race: /);
   // The helper is agent 1.
-  assert.match(judged([], outcome.script), /^race at bytes 0 to 3 of block 0: agent 1 in wait\(Int32_b0, 0, 0\) at 10, agent 0 in store/);
+  assert.match(judged([], outcome.script),
+    /^race at bytes 0 to 3 of block 0: agent 1 in wait\(Int32_b0, 0, 0\) at 10, agent 0 in store/);
 });
 
 describe("a notify in a script", () => {
@@ -208,13 +218,14 @@ describe("a notify in a script", () => {
     }, { seeds: [1, 2, 3, 4], options: { timeouts: 0 } });
     for (const { ending, checked, script } of outcomes) {
       assert.deepEqual([ending, checked], ["finished", true]);
-      const woken = replayOf(script).entries.flatMap(({ what, found }) => (what === "act" && found?.woken?.length > 0 ? [found] : []));
+      const woken = replayOf(script)
+        .entries.flatMap(({ what, found }) => (what === "act" && found?.woken?.length > 0 ? [found] : []));
       // Threads are agents 0 and 1, and helpers are numbered by the first wait of each.
       assert.deepEqual(woken, [{ waited: 4, woken: [2, 3] }, { waited: 2, woken: [1] }, { waited: 1, woken: [4] }]);
     }
   });
 
-  it("would wake helpers of a thread that has ended: then there is no script, and sabsim judges the trace", async (context) => {
+  it("would wake helpers of a thread that has ended: then no script, sabsim judges the trace", async (context) => {
     const files = (/** @type {string} */ then) => ({
       "main.mjs": `import { Worker } from "node:worker_threads";
         const words = new Int32Array(new SharedArrayBuffer(16));
@@ -222,9 +233,11 @@ describe("a notify in a script", () => {
       "worker.mjs": `${WORKER}Atomics.waitAsync(words, 0, 0);`,
     });
     const [[there], [elsewhere]] = [
-      await runsOf(context, files("Atomics.notify(words, 0);")), await runsOf(context, files("Atomics.notify(words, 1);")),
+      await runsOf(context, files("Atomics.notify(words, 0);")),
+      await runsOf(context, files("Atomics.notify(words, 1);")),
     ];
-    assert.match(there.noScript ?? "", /^a notify came where a thread that has ended had waited by Atomics\.waitAsync, which no script can have:/);
+    assert.match(there.noScript ?? "",
+      /^a notify came where a thread that has ended had waited by Atomics\.waitAsync, which no script can have:/);
     assert.deepEqual([elsewhere.checked, there.answers], [true, undefined]);
   });
 });
@@ -239,11 +252,13 @@ describe("how many helpers there can be", () => {
     assert.equal(calls.length, 16);
     const [outcome] = await runsOf(context, { "main.mjs": `${SHARED}${waits(16)}` });
     assert.deepEqual([outcome.ending, outcome.checked, outcome.script], ["finished", false, undefined]);
-    assert.match(outcome.noScript ?? "", /^it has more than 16 threads and waits of Atomics\.waitAsync that are pending at once, which no script can have:/);
+    assert.match(outcome.noScript ?? "", new RegExp("^it has more than 16 threads and waits of Atomics\\.waitAsync "
+      + "that are pending at once, which no script can have:"));
   });
 
   it("with at most 1,000 calls each, as the threads with what they hand over", async (context) => {
-    const rounds = (/** @type {number} */ count, how = "", notifies = "") => `${how === "" ? "" : "setTimeout(() => {}, 1e6);"}
+    const rounds = (/** @type {number} */ count, how = "", notifies = "") => `
+      ${how === "" ? "" : "setTimeout(() => {}, 1e6);"}
       for (let round = 0; round < ${count}; round += 1) {
         const { value } = Atomics.waitAsync(words, 0, 0${how});
         ${notifies}
@@ -255,7 +270,8 @@ describe("how many helpers there can be", () => {
     assert.deepEqual(calls.map(({ length }) => length), [1_000, 999]);
     for (const main of [rounds(334, ", 1"), rounds(250, "", notified(2))]) {
       const [outcome] = await runsOf(context, { "main.mjs": `${SHARED}${main}` });
-      assert.match(outcome.noScript ?? "", /^with the calls for Atomics\.waitAsync an agent has more than 1000 calls, which no script/);
+      assert.match(outcome.noScript ?? "",
+        /^with the calls for Atomics\.waitAsync an agent has more than 1000 calls, which no script/);
     }
   });
 });
@@ -281,11 +297,13 @@ throw new Error("mine");`,
     assert.deepEqual(outcome.threads, ["", "worker.mjs, started at main.mjs:4:1"]);
     const { output } = simulated(["replay", "--format", "json"], outcome.script ?? "");
     const lines = wordsText(output, outcome, "file:///main.mjs").split("\n");
-    const mine = JSON.parse(outcome.script ?? "").views.flatMap(({ name }) => /^waitAsync_(\d)_of_0$/.exec(name)?.slice(1) ?? []);
+    const mine = JSON.parse(outcome.script ?? "")
+      .views.flatMap(({ name }) => /^waitAsync_(\d)_of_0$/.exec(name)?.slice(1) ?? []);
     assert.equal(mine.length, 1);
     assert.ok(lines.includes(`agent ${mine[0]}: waitAsync of agent 0 (main.mjs)`));
     assert.ok(lines.includes(`agent ${5 - mine[0]}: waitAsync of agent 1 (worker.mjs, started at main.mjs:4:1)`));
-    const own = lines.map((line) => line.replace(/^\S+ /, "")).filter((line) => line.startsWith("0 ") || line.startsWith(`${mine[0]} `));
+    const own = lines.map((line) => line.replace(/^\S+ /, ""))
+      .filter((line) => line.startsWith("0 ") || line.startsWith(`${mine[0]} `));
     const words = own.map((line) => line.replace(`${mine[0]} `, "H ").replace(`agent ${mine[0]}`, "agent H")
       .replace(/woken by \d+/, "woken").replace(/:\d+$/, ""));
     assert.deepEqual(words.filter((line) => !/message|^0 1 of|: /.test(line) || /words|b0\[2\]/.test(line)), [
@@ -313,7 +331,8 @@ throw new Error("mine");`,
     const report = readReport(output);
     // What the page makes of any schedule, of the one that was recorded.
     const again = new Run(changedData(data, JSON.parse(outcome.script ?? ""), report));
-    const stepsOf = ({ steps }) => data.threads?.map((_, own) => steps.filter(({ agent, what }) => agent === own && what !== "task")
+    const stepsOf = ({ steps }) => data.threads?.map((_, own) => steps
+      .filter(({ agent, what }) => agent === own && what !== "task")
       .map(({ text, place }) => `${text}, at ${data.places[place]}`));
     assert.deepEqual(stepsOf(again), stepsOf(run));
     const [first] = stepsOf(run) ?? [];
@@ -321,7 +340,8 @@ throw new Error("mine");`,
       first.findIndex((line) => line.startsWith(text)));
     assert.ok(at >= 0 && at < back && back < read);
     const pending = report.agents.find(({ standing }) => standing?.at === "waits")?.agent;
-    assert.match(run.steps.at(-1)?.sentence ?? "", new RegExp(`Agent ${pending} \\(waitAsync of agent 1\\) waits at Int32_b0\\[1\\] since`));
+    assert.match(run.steps.at(-1)?.sentence ?? "",
+      new RegExp(`Agent ${pending} \\(waitAsync of agent 1\\) waits at Int32_b0\\[1\\] since`));
   });
 });
 
@@ -334,7 +354,8 @@ it("a deadlock's step on the page is the wait of a thread", async (context) => {
     "worker.mjs": `${WORKER}Atomics.wait(words, 0, 0);`,
   }, { options: { timeouts: 0 } });
   assert.deepEqual([outcome.ending, outcome.checked], ["deadlock", true]);
-  const { steps, failing } = new Run(pageData(outcome, simulated(["replay", "--format", "json"], outcome.script ?? "").output, "file:///main.mjs"));
+  const { steps, failing } = new Run(pageData(outcome,
+    simulated(["replay", "--format", "json"], outcome.script ?? "").output, "file:///main.mjs"));
   assert.deepEqual(failing.map((at) => [steps[at].agent, steps[at].text]), [[1, "wait(Int32_b0, 0, 0)"]]);
   assert.ok(steps.slice(failing[0]).some(({ text }) => text === "wait(Int32_b0, 1, 0)"));
 });
@@ -351,7 +372,8 @@ describe("programs of the table that use waitAsync", () => {
     it(`${program.name}: sabsim replays each of ${SEEDS} runs, and judges it as the recorder does`, async () => {
       assert.match(readFileSync(urlOf(program), "utf8"), /Atomics\.waitAsync/);
       const outcomes = await runs.runs(program, { last: SEEDS, areWhole: true });
-      assert.deepEqual([...new Set(outcomes.map(({ checked, noScript }) => `${checked} ${noScript}`))], ["true undefined"]);
+      assert.deepEqual([...new Set(outcomes.map(({ checked, noScript }) => `${checked} ${noScript}`))],
+        ["true undefined"]);
       assert.ok(outcomes.some(({ script }) => /waitAsync_\d+_of_0/.test(script ?? "")));
     });
   }

@@ -48,7 +48,8 @@ describe("a module that each run makes anew", () => {
     const files = {
       "main.mjs": `const deep = async (times) => (times === 0 ? import("./bad.mjs") : deep(times - 1));
         try { await deep(2); } catch ({ stack }) {
-          console.log(/SyntaxError/.test(stack), /at deep .*main.mjs:1:\\d+/.test(stack), /program-modules/.test(stack));
+          console.log(/SyntaxError/.test(stack), /at deep .*main.mjs:1:\\d+/.test(stack),
+            /program-modules/.test(stack));
         }`,
       "bad.mjs": "export const bad = ;",
     };
@@ -72,7 +73,8 @@ describe("threads that are kept", () => {
   it("count the numbers of async_hooks and of timers anew", async (context) => {
     const outcomes = await runsOf(context, {
       "main.mjs": `import assert from "node:assert/strict"; import { AsyncResource } from "node:async_hooks";
-        const numbers = [new AsyncResource("one").asyncId(), +setTimeout(() => {}, 1), +setInterval(() => {}, 1).unref()];
+        const interval = setInterval(() => {}, 1).unref();
+        const numbers = [new AsyncResource("one").asyncId(), +setTimeout(() => {}, 1), +interval];
         assert.deepEqual(globalThis.numbers ??= numbers, numbers);`,
     }, { seeds: [1, 2, 3] });
     assert.deepEqual(outcomes.map(({ ending, detail }) => `${ending}: ${detail}`), Array(3).fill("finished: "));

@@ -21,10 +21,11 @@ const HELPER = new URL("../testing.mjs", import.meta.url).href;
 const refused = (why) => (/** @type {unknown} */ error) => error instanceof Refused && why.test(error.message);
 
 /** The parts by which outcomes are compared. */
-const part = ({ seed, ending, fails, detail, moves, calls, ordinary, progress, state, script, report, trace, races, checked }) =>
+const part = ({ seed, ending, fails, detail, moves, calls, ordinary, progress, state, script, report, trace, races,
+  checked }) =>
   ({ seed, ending, fails, detail, moves, calls, ordinary, progress, state, script, report, trace, races, checked });
 
-test("`explore` makes the runs of the command line, with any number of jobs, and `record` each of them alone", async (context) => {
+test("`explore` makes the runs of the command line, by any number of jobs, `record` each alone", async (context) => {
   const found = join(temporaryFolder(context), "found");
   const words = ["--program", TOO_SOON, "--seeds", "1..6", "--format", "json", "--no-shorten", "--out", found];
   const { stdout } = await commandHere(words);
@@ -47,7 +48,8 @@ test("`explore` makes the runs of the command line, with any number of jobs, and
 
 test("the program gets its arguments, and a path is taken from the file that asks", async (context) => {
   const folder = temporaryFolder(context);
-  writeFileSync(join(folder, "main.mjs"), "process.exitCode = process.argv.length === 4 ? Number(process.argv[3]) : 1;\n");
+  writeFileSync(join(folder, "main.mjs"),
+    "process.exitCode = process.argv.length === 4 ? Number(process.argv[3]) : 1;\n");
   writeFileSync(join(folder, "asks.mjs"), `import { record } from "${new URL("../recorder.mjs", import.meta.url).href}";
     export const asked = (...args) => record({ program: "./main.mjs", args });\n`);
   const { asked } = await import(pathToFileURL(join(folder, "asks.mjs")).href);
@@ -63,7 +65,9 @@ test("a failing run of a program is shortened", async () => {
     const { original, shortened, ending, row } = await record({ program, seed: failing, shorten: true });
     assert.equal(ending, "deadlock");
     assert.ok(shortened.unchanged !== undefined || shortened.changes.after < shortened.changes.before);
-    if (original !== undefined) assert.deepEqual([original.seed, original.ending, row.length > 0], [failing, "deadlock", true]);
+    if (original !== undefined) {
+      assert.deepEqual([original.seed, original.ending, row.length > 0], [failing, "deadlock", true]);
+    }
     return;
   }
   assert.fail("no seed fails");
@@ -77,13 +81,16 @@ test("a program that is stuck fails, unless `stuck` lets it pass", async () => {
 
 test("just one of module and program is given, and each has its own options", async () => {
   const module = agentsPath("cases");
-  const both = /^`module` and `program` can't both be given: `module` is one of agents, and `program` starts its threads itself$/;
+  const both = new RegExp("^`module` and `program` can't both be given: "
+    + "`module` is one of agents, and `program` starts its threads itself$");
   assert.throws(() => explore({ module, program: TOO_SOON }), refused(both));
   await assert.rejects(record({ module, program: TOO_SOON }), refused(both));
   const none = /^`module` is missing, or `program` in its place: it must be a path or a URL$/;
   assert.throws(() => explore({}), refused(none));
   await assert.rejects(record({ seed: 1 }), refused(none));
-  for (const program of [5, "", null]) await assert.rejects(record({ program }), refused(/^`program` must be a path or a URL/));
+  for (const program of [5, "", null]) {
+    await assert.rejects(record({ program }), refused(/^`program` must be a path or a URL/));
+  }
   const ofAgents = { agents: 2, buffers: [4], noBlock: [0], unrecorded: "allow", init() {}, check() {} };
   for (const [name, value] of Object.entries(ofAgents)) {
     const why = new RegExp(`^\`${name}\` doesn't go with \`program\`: it is about a module of agents, `);
@@ -93,8 +100,10 @@ test("just one of module and program is given, and each has its own options", as
     const why = new RegExp(`^\`${name}\` doesn't go with \`program\`: it isn't there for programs yet$`);
     await assert.rejects(record({ program: TOO_SOON, [name]: value }), refused(why));
   }
-  await assert.rejects(record({ program: TOO_SOON, timeouts: "never" }), refused(/^`timeouts` never doesn't go with `program`/));
-  await assert.rejects(record({ module, stuck: "allow" }), refused(/^`stuck` needs `program`: only programs can be stuck$/));
+  await assert.rejects(record({ program: TOO_SOON, timeouts: "never" }),
+    refused(/^`timeouts` never doesn't go with `program`/));
+  await assert.rejects(record({ module, stuck: "allow" }),
+    refused(/^`stuck` needs `program`: only programs can be stuck$/));
   const missing = { program: pathToFileURL(join(dirname(TOO_SOON), "none.mjs")) };
   await assert.rejects(record(missing), refused(/^there is no file .*none\.mjs$/));
 });
@@ -112,7 +121,8 @@ async function suite(context, code) {
   for (const name of readdirSync(dirname(TOO_SOON))) {
     writeFileSync(join(folder, name), readFileSync(join(dirname(TOO_SOON), name), "utf8"));
   }
-  writeFileSync(join(folder, "main.test.mjs"), `import { assertProgram, testAgents, testProgram } from "${HELPER}";\n${code}\n`);
+  writeFileSync(join(folder, "main.test.mjs"),
+    `import { assertProgram, testAgents, testProgram } from "${HELPER}";\n${code}\n`);
   const env = { ...process.env, TMPDIR: temporary };
   for (const name of ["NODE_TEST_CONTEXT", "FORCE_COLOR"]) delete env[name];
   const words = ["--test", "--test-reporter=tap", "main.test.mjs"];
@@ -136,7 +146,9 @@ test("`testProgram` fails with the finding, shortened and kept, and passes other
   `);
   assert.equal(status, 1);
   assert.match(output, /^not ok 1 - hands over$/m);
-  assert.match(output, /^ +seed \d+: race(; the (?:run|\d+ runs) before it passed)?\n +agent 1 \(too-soon-worker\.mjs, started at too-soon\.mjs:7:1\) writes Uint8_b0_at4\[4\] \(too-soon\.mjs:4\) at too-soon-worker\.mjs:7:12/m);
+  assert.match(output, new RegExp("^ +seed \\d+: race(; the (?:run|\\d+ runs) before it passed)?\\n"
+    + " +agent 1 \\(too-soon-worker\\.mjs, started at too-soon\\.mjs:7:1\\) writes Uint8_b0_at4\\[4\\] "
+    + "\\(too-soon\\.mjs:4\\) at too-soon-worker\\.mjs:7:12", "m"));
   assert.match(output, /^ +> .* write +writes .*, at too-soon-worker\.mjs:7:12$/m);
   const names = readdirSync(join(folder, "found"));
   for (const ending of ["json", "trace.jsonl", "explained", "html"]) {

@@ -34,19 +34,26 @@ test("has time", { timeout: 60_000 }, async () => {
 
 /** The programs, and what is said of each. */
 const FAILING = {
-  "a test": ['import { test } from "node:test";\ntest("a", () => {});\ntest("is wrong", () => { throw new RangeError("no"); });',
+  "a test": ['import { test } from "node:test";\ntest("a", () => {});\n'
+    + 'test("is wrong", () => { throw new RangeError("no"); });',
     /^agent 0 failed the test "is wrong", at main\.mjs:3:1: RangeError: no\n +at .*main\.mjs:3:32/],
-  "a default import": ['import test from "node:test";\ntest("is wrong", async () => { await null; throw new Error("no"); });',
+  "a default import": ['import test from "node:test";\n'
+    + 'test("is wrong", async () => { await null; throw new Error("no"); });',
     /^agent 0 failed the test "is wrong", at main\.mjs:2:1: Error: no\n/],
-  "a test in a suite": ['import { describe, it } from "node:test";\ndescribe("one", () => {\n  it("inner", () => { throw 5; });\n  it("other", () => { throw 6; });\n});',
+  "a test in a suite": ['import { describe, it } from "node:test";\ndescribe("one", () => {\n'
+    + '  it("inner", () => { throw 5; });\n  it("other", () => { throw 6; });\n});',
     /^agent 0 failed the test "inner", at main\.mjs:3:3: 5\nand 1 more failed$/],
-  "a hook": ['import { before, test } from "node:test";\nbefore(() => { throw new Error("no"); });\ntest("a", () => {});',
+  "a hook": ['import { before, test } from "node:test";\nbefore(() => { throw new Error("no"); });\n'
+    + 'test("a", () => {});',
     /^agent 0 failed the test ".*", at .*main\.mjs:[\d:]+: Error: no\n/],
-  "a suite's hook": ['import { before, describe, it } from "node:test";\ndescribe("one", () => {\n  before(() => { throw new Error("no"); });\n  it("inner", () => {});\n});',
+  "a suite's hook": ['import { before, describe, it } from "node:test";\ndescribe("one", () => {\n'
+    + '  before(() => { throw new Error("no"); });\n  it("inner", () => {});\n});',
     /^agent 0 failed the test "one", at main\.mjs:2:1: Error: no\n +at .*main\.mjs:3:24[^]*and 1 more failed$/],
-  "a time that is up": ['import { test } from "node:test";\ntest("late", { timeout: 10 }, () => new Promise((done) => setTimeout(done, 1_000)));',
+  "a time that is up": ['import { test } from "node:test";\n'
+    + 'test("late", { timeout: 10 }, () => new Promise((done) => setTimeout(done, 1_000)));',
     /^agent 0 failed the test "late", at main\.mjs:2:1: "test timed out after 10ms"/],
-  "an error in a task": ['import { test } from "node:test";\ntest("late", async () => {\n  setImmediate(() => { throw new Error("no"); });\n  await new Promise((done) => setTimeout(done, 5));\n});',
+  "an error in a task": ['import { test } from "node:test";\ntest("late", async () => {\n'
+    + '  setImmediate(() => { throw new Error("no"); });\n  await new Promise((done) => setTimeout(done, 5));\n});',
     /^agent 0 failed the test "late", at main\.mjs:2:1: Error: no\n +at .*main\.mjs:3:30/],
 };
 

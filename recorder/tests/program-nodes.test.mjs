@@ -1,5 +1,5 @@
-// On which nodes whole programs run: one that lacks something of its inside refuses them, one that wasn't tried is named,
-// and TypeScript is run where node loads it.
+// On which nodes whole programs run: one that lacks something of its inside refuses them, one that wasn't tried is
+// named, and TypeScript is run where node loads it.
 
 import assert from "node:assert/strict";
 import { spawnSync } from "node:child_process";
@@ -55,9 +55,9 @@ test("a node that lacks something of its inside refuses programs by name, and ru
   const { status, stdout, stderr } = ranBy(["--program", file("main.mjs")], nodeWords);
   assert.equal(status, 2, stderr);
   assert.equal(stdout, "");
-  assert.equal(stderr, `record: whole programs don't run on node ${process.versions.node}, which lacks deserializeError of `
-    + "internal/error_serdes, decorateErrorStack of internal/util, process._getActiveHandles. They were tried on node "
-    + "20.20 and 24.22. Modules of agents run on this node, too\n");
+  assert.equal(stderr, `record: whole programs don't run on node ${process.versions.node}, which lacks `
+    + "deserializeError of internal/error_serdes, decorateErrorStack of internal/util, "
+    + "process._getActiveHandles. They were tried on node 20.20 and 24.22. Modules of agents run on this node, too\n");
   const ofAgents = ranBy([file("agents.mjs")], nodeWords);
   assert.equal(ofAgents.status, 0, ofAgents.stderr);
 });
@@ -115,7 +115,8 @@ withTypeScript("a program in TypeScript has its own lines", (context) => {
     const hook = isLoaded ? [] : ["--import", pathToFileURL(file("hook.mjs")).href];
     const { status, stdout, stderr } = ranBy(["--program", file(name)], hook);
     assert.equal(status, 1, stderr);
-    assert.match(stdout, new RegExp(`agent 1 \\(${name}, started at ${name}:5:19\\) (?:reads|writes) .* at ${name}:6:`));
+    assert.match(stdout,
+      new RegExp(`agent 1 \\(${name}, started at ${name}:5:19\\) (?:reads|writes) .* at ${name}:6:`));
   }
 });
 

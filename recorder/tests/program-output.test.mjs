@@ -44,10 +44,12 @@ test("what a program prints is shown for the first seed and the kept run, for al
   const some = shown(main, "--seeds", "1..8", "--out", out);
   const [, failed] = /^(\d+) of 8 runs failed/.exec(some.summary) ?? [];
   assert.ok(Number(failed) > 0 && Number(failed) < 8, some.summary);
-  const count = (/** @type {string[]} */ lines, /** @type {string} */ line) => lines.filter((each) => each === line).length;
+  const count = (/** @type {string[]} */ lines, /** @type {string} */ line) =>
+    lines.filter((each) => each === line).length;
   const started = "worker.mjs started at main.mjs:3:16";
   assert.deepEqual([...new Set(some.lines)].sort(), [
-    "[main] and that is it", "[main] the word is 0", "[main] the word is 7", `[${started}] bytes`, `[${started}] writes no line`,
+    "[main] and that is it", "[main] the word is 0", "[main] the word is 7", `[${started}] bytes`,
+    `[${started}] writes no line`,
   ].filter((line) => some.lines.includes(line)));
   // The kept run is one that fails.
   assert.equal(count(some.lines, "[main] and that is it"), 2);

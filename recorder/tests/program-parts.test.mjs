@@ -37,7 +37,8 @@ const PROGRAM = `
 const REFUSED = `
   import { fork } from "cluster"; import { takeCoverage } from "v8"; import fs from "fs";
   import { register } from "module";
-  for (const act of [() => fork(), () => takeCoverage("x"), () => new PerformanceObserver(() => {}), () => fs.watch("."),
+  for (const act of [() => fork(), () => takeCoverage("x"), () => new PerformanceObserver(() => {}),
+    () => fs.watch("."),
     () => register("x"),
     () => new CompressionStream("gzip"), () => process.chdir("/")]) try { act();
     } catch (error) { console.log(error.message); }`;

@@ -109,7 +109,7 @@ describe("what pilots show", () => {
     assert.deepEqual(privateCalls([[[1, "add", 0]], [[2, "add", 0]]], [[1, "add", 0], [2, "add", 0]]), [false, false]);
   });
 
-  it("a call beside an ordinary access to a shared word needs a draw, and another thread's at its place doesn't", () => {
+  it("a call beside an ordinary access to a shared word needs a draw, another thread's at its place doesn't", () => {
     const shared = [[1, "add", 5], [2, "add", 5]];
     assert.deepEqual(privateCalls([[...shared, ...handed, [0, "reads", 5]]], uses), [true, false]);
     assert.deepEqual(privateCalls([[...shared, ...handed, [0, "reads", 6]]], uses), [true, true]);

@@ -160,7 +160,9 @@ server.listen(0, "127.0.0.1", () => http.get({ host: "127.0.0.1", port: server.a
 
 describe("sockets' timers", () => {
   it("go by the run's clock", async (context) => {
-    for (const main of [IDLE, KEPT_ALIVE]) areFinished(await runsOf(context, { "main.mjs": main }, { seeds: seedsTo(3) }));
+    for (const main of [IDLE, KEPT_ALIVE]) {
+      areFinished(await runsOf(context, { "main.mjs": main }, { seeds: seedsTo(3) }));
+    }
   });
 });
 
@@ -289,7 +291,7 @@ describe("a run that can't be repeated", () => {
     assert.match(second.trace, /"source":"main\.mjs:5:1"/);
   });
 
-  it("is named by the summary, with what was used, and replays of it say why they differ", withShell, async (context) => {
+  it("is named by the summary, with what was used, and replays say why they differ", withShell, async (context) => {
     const main = counting(context, 0);
     const out = temporaryFolder(context);
     const { status, stdout } = await commandThere(["--program", main, "--seeds", "1..3", "--jobs", "1", "--out", out]);
@@ -313,7 +315,8 @@ describe("a run that can't be repeated", () => {
     const main = programOf(context, { ...RACE, "main.mjs": `${RACE["main.mjs"]}
 if (Atomics.load(words, 1) === 2) throw new Error("it fails");` });
     const out = temporaryFolder(context);
-    const { status, stdout } = await commandThere(["--program", main, "--seeds", "1..60", "--jobs", "1", "--fail-fast", "--out", out]);
+    const { status, stdout } = await commandThere(["--program", main, "--seeds", "1..60", "--jobs", "1", "--fail-fast",
+      "--out", out]);
     assert.equal(status, 1, stdout);
     assert.doesNotMatch(stdout, new RegExp(OTHERWISE));
     const kept = readdirSync(out).find((name) => name.endsWith(".program.json"));

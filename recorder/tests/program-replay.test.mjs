@@ -59,7 +59,10 @@ async function kept(main, words) {
   return { main, folder, file: join(folder, name ?? "none"), name: (name ?? "").replace(".program.json", "") };
 }
 
-/** @type {Awaited<ReturnType<typeof kept>>} the program above: tests that look at its kept run leave its files as they were */
+/**
+ * @type {Awaited<ReturnType<typeof kept>>} the program above: tests that look at its kept run leave its files as they
+ * were
+ */
 let ofMain;
 const room = mkdtempSync(join(tmpdir(), "recorder-"));
 before(async () => {
@@ -74,10 +77,12 @@ test("a kept run of a program is made again from its file alone: the same script
   assert.deepEqual([program, args, options], [main, ["mine"], { timeouts: 0.2 }]);
   assert.deepEqual([script, row.length > 0], [join(folder, `${name}.json`), true]);
   // In another folder than that of the runs.
-  const { status, stdout, stderr } = recorded(["--replay", join("found", `${name}.program.json`), "--out", "again"], { cwd: dirname(main) });
+  const { status, stdout, stderr } = recorded(["--replay", join("found", `${name}.program.json`), "--out", "again"],
+    { cwd: dirname(main) });
   assert.deepEqual([status, stderr], [1, ""], stderr);
   const [title, failed, , detail] = stdout.split("\n");
-  assert.equal(title, `replayed found/${name}.program.json: main.mjs, with the clocks and random numbers of seed ${seed}`);
+  assert.equal(title,
+    `replayed found/${name}.program.json: main.mjs, with the clocks and random numbers of seed ${seed}`);
   assert.deepEqual([failed, detail], ["1 of 1 run failed: 1 threw", "  agent 0 threw Error: mine: ready too soon"]);
   assert.match(stdout, /^every run was replayed and judged by the simulator \([\w ]+\): it agrees with the recorder$/m);
   for (const ending of ["json", "report", "trace.jsonl", "explained"]) {
@@ -91,7 +96,7 @@ test("a kept run of a program is made again from its file alone: the same script
   assert.match(command.script, new RegExp(`${name}\\.program\\.json'?$`));
 });
 
-test("a run without a script is made again, too, and options of the command line go before the kept ones", async (context) => {
+test("a run without a script is made again, and options of the command line go before kept ones", async (context) => {
   const { file, folder } = await kept(programOf(context, {
     "main.mjs": `import { Worker } from "node:worker_threads";
       const words = new Int32Array(new SharedArrayBuffer(8));
@@ -129,7 +134,8 @@ test("a run that waits by waitAsync is made again, and what differs is named as 
   assert.equal(readFileSync(join(folder, "again", `${name}.replayed.json`), "utf8"), script);
   writeFileSync(main, readFileSync(main, "utf8").replace("words, 0, 0", "words, round, 0"));
   assert.match((await commandHere(["--replay", file])).stderr,
-    /: the script has agent 0's call (\d), \["wait", "Int32_b0", 0, 0\] next, and now comes agent 0's call \1, \["wait", "Int32_b0", 1, 0\]$/m);
+    new RegExp(': the script has agent 0\'s call (\\d), \\["wait", "Int32_b0", 0, 0\\] next, '
+      + 'and now comes agent 0\'s call \\1, \\["wait", "Int32_b0", 1, 0\\]$', "m"));
 });
 
 test("if the code does other things, the first of these is named", async () => {
@@ -137,11 +143,14 @@ test("if the code does other things, the first of these is named", async () => {
   const files = { main, worker: join(dirname(main), "worker.mjs") };
   const changed = [
     ["main", MAIN.replace("Atomics.load(words, 0)", "Atomics.load(words, 1)"),
-      /: the script has agent 0's call \d+, \["load", "Int32_b0", 0\] next, and now comes agent 0's call \d+, \["load", "Int32_b0", 1\]$/],
+      new RegExp(': the script has agent 0\'s call \\d+, \\["load", "Int32_b0", 0\\] next, '
+        + 'and now comes agent 0\'s call \\d+, \\["load", "Int32_b0", 1\\]$')],
     ["main", MAIN.replace("if (", "Atomics.add(words, 1, 2);\n if ("),
-      /: the script has agent 0's call \d+, \["load", .*\] next, and now comes agent 0's call \d+, \["add", "Int32_b0", 1, 2\]$/],
+      new RegExp(': the script has agent 0\'s call \\d+, \\["load", .*\\] next, '
+        + 'and now comes agent 0\'s call \\d+, \\["add", "Int32_b0", 1, 2\\]$')],
     ["worker", WORKER.replace('parentPort.postMessage("ready");', ""),
-      /: the script has agent 1's call \d+, \["notify", .*\] next, and now comes agent 1's call \d+, \["store", "Int32_b0", 0, 7\]$/],
+      new RegExp(': the script has agent 1\'s call \\d+, \\["notify", .*\\] next, '
+        + 'and now comes agent 1\'s call \\d+, \\["store", "Int32_b0", 0, 7\\]$')],
     // It makes no other call, and comes less far.
     ["worker", WORKER.replace("setTimeout(done, 5)", 'parentPort.once("message", done)'),
       /: agent \d moved with draw \d+ of the kept run, and now it has nothing to do, or waits$/],
@@ -175,7 +184,8 @@ test("an edited row makes another run of the program, or it is said which draw i
   }
   const { status, stderr } = await replayedBy([[0, 50], [1, 1]]);
   assert.equal(status, 3);
-  assert.match(stderr, /^record: the code no longer does the same: agent 0 moved with draw \d+ of the kept run, and now it has nothing to do, or waits; agent 1 could move\n$/);
+  assert.match(stderr, new RegExp("^record: the code no longer does the same: agent 0 moved with draw \\d+ of the kept "
+    + "run, and now it has nothing to do, or waits; agent 1 could move\\n$"));
 });
 
 test("a file that is no kept run of a program is refused, and so is a program that isn't there", (context) => {
@@ -185,7 +195,8 @@ test("a file that is no kept run of a program is refused, and so is a program th
   const wrong = [
     ["{", /: .*JSON/], ["[]", /: it names no program; if it is a script of agents, name their module$/],
     [{ ...right, program: 5 }, /it names no program/], [{ ...right, args: [1] }, /its args must be words$/],
-    [{ ...right, seed: -1 }, /its seed must be a whole number$/], [{ ...right, options: [] }, /its options must be an object$/],
+    [{ ...right, seed: -1 }, /its seed must be a whole number$/],
+    [{ ...right, options: [] }, /its options must be an object$/],
     [{ ...right, options: { agents: 2, faster: true } }, /there is no option faster of a run$/],
     [{ ...right, row: [[32, 1]] }, /its row must have pairs of a thread and a number of draws$/],
     [{ ...right, row: [[0, 0]] }, /its row must have pairs/], [{ ...right, row: undefined }, /its row must have pairs/],
@@ -197,11 +208,15 @@ test("a file that is no kept run of a program is refused, and so is a program th
   }
   // The numbers from 16 on are those of agents to which real answers come.
   assert.deepEqual(keptProgram(JSON.stringify({ ...right, row: [[31, 1], [0, 2]] }), file).row, [31, 0, 0]);
+  // An earlier version called the option `bounds`.
+  const before = keptProgram(JSON.stringify({ ...right, options: { bounds: "allow" } }), file);
+  assert.deepEqual(before.options, { limits: "allow" });
   const { script } = keptProgram(JSON.stringify({ ...right, script: { file: "seed-1.json", row: "another" } }), file);
   assert.equal(script, undefined);
   writeFileSync(file, JSON.stringify(right));
   assert.deepEqual(recorded(["--replay", file]), {
-    status: 2, stdout: "", stderr: `record: there is no file ${join(folder, "main.mjs")}: --program says where the program is\n`,
+    status: 2, stdout: "",
+    stderr: `record: there is no file ${join(folder, "main.mjs")}: --program says where the program is\n`,
   });
   const { status, stderr } = recorded(["--replay", join(folder, "seed-1.json")]);
   assert.deepEqual([status, stderr], [2, "record: the agents' module is missing; --help shows more\n"]);
@@ -210,7 +225,8 @@ test("a file that is no kept run of a program is refused, and so is a program th
 test("a row that is too long to be known whole isn't kept, and it is said so", (context) => {
   const keeper = new Keeper(temporaryFolder(context));
   const options = /** @type {any} */ ({ isProgram: true, module: "file:///main.mjs", args: [] });
-  const kept = (/** @type {number} */ draws) => keepProgram(keeper, /** @type {any} */ ({ seed: 7, row: Array(draws).fill(0) }), options);
+  const kept = (/** @type {number} */ draws) =>
+    keepProgram(keeper, /** @type {any} */ ({ seed: 7, row: Array(draws).fill(0) }), options);
   assert.deepEqual(kept(MOST_DRAWS), [`not kept: seed-7.program.json: the run has ${MOST_DRAWS} draws or more`]);
   assert.deepEqual([kept(MOST_DRAWS - 1), keeper.names], [[], ["seed-7.program.json"]]);
 });
@@ -227,7 +243,8 @@ test("a run in fresh threads is shortened by runs in fresh threads", async (cont
     "worker.mjs": `import { workerData as words } from "node:worker_threads";
       for (let time = 0; time < 3; time += 1) Atomics.add(words, 0, 1);`,
   });
-  const options = { ...defaultsOf("record"), isProgram: true, seconds: 20, args: [], module: pathToFileURL(program).href };
+  const options = { ...defaultsOf("record"), isProgram: true, seconds: 20, args: [],
+    module: pathToFileURL(program).href };
   const group = await ProgramGroup.open(/** @type {any} */ ({ ...options, fresh: true }));
   context.after(() => group.close());
   const { shortened } = await shorten(group, await firstFailing(group), { milliseconds: 60_000, most: 5 });
@@ -248,7 +265,8 @@ test("a run in fresh threads is shown with its lines, kept and replayed in fresh
       Atomics.notify(words, 1);`,
   }), ["--fresh"]);
   assert.deepEqual(JSON.parse(readFileSync(file, "utf8")).options, { fresh: true });
-  assert.match(readFileSync(join(folder, `${name}.words`), "utf8"), /wait\(Int32_b0, 1, 0\) waits .*, at main\.mjs:6:\d+$/m);
+  assert.match(readFileSync(join(folder, `${name}.words`), "utf8"),
+    /wait\(Int32_b0, 1, 0\) waits .*, at main\.mjs:6:\d+$/m);
   const { status, stdout, stderr } = recorded(["--replay", file]);
   assert.deepEqual([status, stderr], [1, ""]);
   assert.match(stdout, /^1 of 1 run failed: 1 deadlock$/m);

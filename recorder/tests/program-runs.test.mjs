@@ -8,27 +8,32 @@ import { endingsOf, runsOf } from "./helpers/whole-programs.mjs";
 /** Main gives a worker a word, by a message or as its data. */
 const WORKER = 'import { parentPort, workerData } from "node:worker_threads";\n';
 const MAIN = 'import { MessageChannel, Worker, receiveMessageOnPort } from "node:worker_threads";\n' +
-  'const started = (data, more = {}) => new Worker(new URL("./worker.mjs", import.meta.url), { workerData: data, ...more });\n';
+  "const started = (data, more = {}) => "
+  + 'new Worker(new URL("./worker.mjs", import.meta.url), { workerData: data, ...more });\n';
 
 describe("what a program throws", () => {
   it("is shown with the frames of its own code, and none of node's", async (context) => {
     const outcomes = await runsOf(context, {
       "main.mjs": 'import { readFileSync } from "node:fs";\nsetTimeout(() => {\n  readFileSync("/none");\n}, 1);',
     });
-    assert.deepEqual(endingsOf(outcomes), ["failed: agent 0 threw Error: ENOENT: no such file or directory, open '/none'\n"
-      + "    at Timeout._onTimeout (main.mjs:3:3)"]);
+    const why = "failed: agent 0 threw Error: ENOENT: no such file or directory, open '/none'\n"
+      + "    at Timeout._onTimeout (main.mjs:3:3)";
+    assert.deepEqual(endingsOf(outcomes), [why]);
   });
 });
 
 describe("memory and messages", () => {
-  it("a message orders what was done before it, so a program that hands over has no unordered accesses", async (context) => {
+  it("a message orders what was done before it, so a program that hands over has no races", async (context) => {
     const outcomes = await runsOf(context, {
       "main.mjs": `${MAIN}const words = new Int32Array(new SharedArrayBuffer(8));
         const worker = started(words);
         worker.on("message", () => { if (words[1] !== 6) throw new Error("it is " + words[1]); worker.terminate(); });
         words[0] = 5;
         worker.postMessage("go");`,
-      "worker.mjs": `${WORKER}parentPort.on("message", () => { workerData[1] = workerData[0] + 1; parentPort.postMessage("done"); });`,
+      "worker.mjs": `${WORKER}parentPort.on("message", () => {
+        workerData[1] = workerData[0] + 1;
+        parentPort.postMessage("done");
+      });`,
     }, { seeds: seedsTo(4) });
     assert.deepEqual(endingsOf(outcomes), ["finished: "]);
     for (const { ordinary, state, checked } of outcomes) {
@@ -47,7 +52,9 @@ words[0] = 5;`,
 });`,
     }, { seeds: seedsTo(3) });
     assert.deepEqual([...new Set(outcomes.map(({ ending }) => ending))], ["race"]);
-    for (const { races } of outcomes) assert.deepEqual(races.map(({ lines }) => lines), [["main.mjs:6:10", "worker.mjs:3:31"]]);
+    for (const { races } of outcomes) {
+      assert.deepEqual(races.map(({ lines }) => lines), [["main.mjs:6:10", "worker.mjs:3:31"]]);
+    }
   });
 
   it("a broadcast orders what its sender did before, but not what its receivers do", async (context) => {
@@ -164,7 +171,8 @@ describe("threads", () => {
 
   it("the first one may exit in a listener of its exit, and that code counts", async (context) => {
     const [{ ending, detail }] = await runsOf(context, { "main.mjs": 'process.on("exit", () => process.exit(3));' });
-    assert.deepEqual([ending, detail], ["failed", "agent 0 exited with code 3: it calls process.exit at main.mjs:1:34"]);
+    assert.deepEqual([ending, detail],
+      ["failed", "agent 0 exited with code 3: it calls process.exit at main.mjs:1:34"]);
   });
 
   it("one that is terminated while it waits leaves no script: its trace alone is judged", async (context) => {
@@ -198,7 +206,8 @@ describe("the seed", () => {
 
   it("gives the same script and trace each time, and another one another order", async (context) => {
     const seeds = seedsTo(6);
-    const [once, again] = [await runsOf(context, files, { seeds }), await runsOf(context, files, { seeds: [...seeds].reverse() })];
+    const [once, again] = [await runsOf(context, files, { seeds }),
+      await runsOf(context, files, { seeds: [...seeds].reverse() })];
     const partsOf = ({ ending, script, trace, report }) => ({ ending, script, trace, report });
     assert.deepEqual(once.map(partsOf), again.reverse().map(partsOf));
     assert.ok(once.every(({ trace }) => trace !== undefined));
@@ -230,7 +239,8 @@ describe("threads that are kept", () => {
         import { createRequire } from "node:module";
         const { counted } = createRequire(import.meta.url)("./counted.cjs");
         if (count() !== 1 || counted() !== 1) throw new Error("a module is still there");
-        if (process.listenerCount("mine") > 0 || process.env.LEFT || process.exitCode) throw new Error("the process isn't new");
+        const isNew = process.listenerCount("mine") === 0 && !process.env.LEFT && !process.exitCode;
+        if (!isNew) throw new Error("the process isn't new");
         process.on("mine", () => {});
         process.env.LEFT = "yes";
         globalThis.runs = (globalThis.runs ?? 0) + 1;

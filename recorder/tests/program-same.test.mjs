@@ -1,4 +1,5 @@
-// The same seed makes the same run of a program, byte for byte: whatever the threads have run before, and in any process.
+// The same seed makes the same run of a program, byte for byte: whatever the threads have run before, and in any
+// process.
 
 import assert from "node:assert/strict";
 import { execFile } from "node:child_process";
@@ -8,7 +9,8 @@ import { promisify } from "node:util";
 import { sameRuns } from "./helpers/same-runs.mjs";
 
 /** Programs with messages, timers, waits and ordinary accesses; some of their runs fail. */
-const NAMES = ["pool/right", "queue/wakes-wrong-kind", "deadline/ignored", "terminate/in-the-middle", "amid-work/two-steps"];
+const NAMES = ["pool/right", "queue/wakes-wrong-kind", "deadline/ignored", "terminate/in-the-middle",
+  "amid-work/two-steps"];
 const COMPARED = [1, 2, 3];
 
 /** Which seeds each process is given, in this order: others come before and between those that are compared. */
@@ -25,7 +27,8 @@ async function runsElsewhere(names, seeds) {
 }
 
 /** The threads of each process have run other programs before. Those of the first one are fresh for each program. */
-const both = Promise.all([sameRuns(NAMES, ORDERS[0], { isFresh: true }), runsElsewhere([...NAMES].reverse(), ORDERS[1])]);
+const both = Promise.all([sameRuns(NAMES, ORDERS[0], { isFresh: true }),
+  runsElsewhere([...NAMES].reverse(), ORDERS[1])]);
 // The tests await it.
 both.catch(() => {});
 

@@ -19,12 +19,16 @@ import { runsOf } from "./helpers/whole-programs.mjs";
 const { WAITERS } = FLAG;
 const SEEDS = 400;
 
+const USUAL = { seed: 1, strategy: "uniform", agents: 3, isProgram: true, isMixed: true, timeouts: 0.05 };
+
 /** A board of a program, or of a module's agents, all of which ask for a call. @param {object} [rules] */
-function asking({ seed = 1, strategy = "uniform", agents = 3, isProgram = true, isMixed = true, timeouts = 0.05 } = {}) {
+function asking(rules = {}) {
+  const { seed, strategy, agents, isProgram, isMixed, timeouts } = { ...USUAL, ...rules };
   const way = waysOf(strategy, true);
   // Of several ways a run takes one by its seed, also if they are alike.
   const ways = isMixed ? [...way, ...way] : way;
-  const board = new Board(emptyMemory(), { agents, ways, maxMoves: 100_000, timeouts, early: isProgram ? 100 : undefined });
+  const board = new Board(emptyMemory(),
+    { agents, ways, maxMoves: 100_000, timeouts, early: isProgram ? 100 : undefined });
   board.begin(seed);
   for (let agent = 1; agent < agents; agent += 1) board.pass(agent - 1);
   for (let agent = 0; agent < agents; agent += 1) ask(board, agent, 400 + agent);
@@ -55,7 +59,7 @@ describe("what conflicts", () => {
     assert.equal(conflicts(board, 0, 1), false);
   });
 
-  it("a message conflicts with a task of the thread that gets it, whether that asks, waits for a time or was woken", () => {
+  it("a message conflicts with a task of the thread that gets it, if that asks, waits for a time or was woken", () => {
     const board = asking();
     ask(board, 0, loopPlace(2));
     board.asksForTask(2);
@@ -68,7 +72,7 @@ describe("what conflicts", () => {
     assert.equal(conflicts(board, 1, 2), false);
   });
 
-  it("a message to all channels of a name conflicts with a task of each thread, a message to one and to channels", () => {
+  it("a message to all channels of a name conflicts with a task of each thread, and one to one and to channels", () => {
     const board = asking();
     /** @type {any[]} */
     const made = [];
@@ -161,7 +165,8 @@ describe("late waits and notifies", () => {
 
   it("are in one of eight seeds of a program, and the others draw as without the rule", () => {
     assert.ok(Math.abs(lateSeeds.length / SEEDS - 1 / 8) < 0.02, `${lateSeeds.length}`);
-    assert.deepEqual(allSeeds.filter((seed) => isLate(seed, { isProgram: false }) || isLate(seed, { isMixed: false })), []);
+    assert.deepEqual(allSeeds.filter((seed) => isLate(seed, { isProgram: false }) || isLate(seed, { isMixed: false })),
+      []);
   });
 
   it("come after what others can do, and a wait comes before a notify and when its place was written", () => {

@@ -135,27 +135,30 @@ test("all that is refused calls `refuse` with its name, by require, node: and ge
     }
     for (const [path, list] of Object.entries(METHODS)) {
       const owner = path.split(".").reduce((from, name) => from?.[name], globalThis);
-      for (const name of list.split(/\\s+/)) if (owner?.[name]) see(owner, name, path.replace(/(.constructor)?.prototype$/, "") + "." + name);
+      const owned = path.replace(/(.constructor)?.prototype$/, "");
+      for (const name of list.split(/\\s+/)) if (owner?.[name]) see(owner, name, owned + "." + name);
     }
-    for (const name of Object.getOwnPropertyNames(globalThis)) if (kindOfGlobal(name) === "refused") see(globalThis, name, name);
+    const globals = Object.getOwnPropertyNames(globalThis).filter((name) => kindOfGlobal(name) === "refused");
+    for (const name of globals) see(globalThis, name, name);
     const wrong = [...names].flatMap(([value, shown]) => {
       const called = by(() => value()), made = by(() => new value());
       const isMade = shown.includes(made) || made === "TypeError: value is not a constructor";
       return shown.includes(called) && isMade ? [] : [[shown, called, made]];
     });
     console.log(JSON.stringify([wrong, names.size > 80 || names.size, early,
-      by(() => require("node:cluster").fork()), by(() => new PerformanceObserver()), by(() => crypto.subtle.generateKey()),
+      by(() => require("node:cluster").fork()), by(() => new PerformanceObserver()),
+      by(() => crypto.subtle.generateKey()),
       by(() => WebAssembly.compileStreaming()), by(() => process.umask(0)), by(() => typeof process.umask()),
       by(() => require("inspector").console.log(1)), by(() => new CompressionStream("gzip")),
       by(() => require("domain")), by(() => require("node:domain")), ofMembers,
       PerformanceObserver === require("perf_hooks").PerformanceObserver,
       CompressionStream === require("stream/web").CompressionStream]));`);
-  assert.deepEqual(found, [[], true, "v8.takeCoverage", "cluster.fork", "PerformanceObserver", "SubtleCrypto.generateKey",
-    "WebAssembly.compileStreaming", "process.umask", "did", "inspector.console.log", "CompressionStream", "domain",
-      "domain", "fs/promises.watch", true, true]);
+  assert.deepEqual(found, [[], true, "v8.takeCoverage", "cluster.fork", "PerformanceObserver",
+    "SubtleCrypto.generateKey", "WebAssembly.compileStreaming", "process.umask", "did", "inspector.console.log",
+    "CompressionStream", "domain", "domain", "fs/promises.watch", true, true]);
 });
 
-test("functions that the machine answers are node's own, and noted by name if the program calls them itself", withShell, () => {
+test("functions that the machine answers are node's own, and noted if the program calls them itself", withShell, () => {
   const found = inProcess(`
     const { Resolver } = require("dns").promises; new Resolver();
     const server = require("http").createServer(); server.listen(0); server.close();
@@ -166,13 +169,15 @@ test("functions that the machine answers are node's own, and noted by name if th
     const failed = await fetch("http://127.0.0.1:1").catch((error) => error.message);
     console.log(JSON.stringify([used, text, failed]));`);
   assert.deepEqual(found, [["dns/promises.Resolver", "http.createServer", "dgram.createSocket", "tls.createServer",
-    "net.Server", "http2.createServer", "https.createServer", "child_process.execSync", "fetch"], "text\n", "fetch failed"]);
+    "net.Server", "http2.createServer", "https.createServer", "child_process.execSync", "fetch"], "text\n",
+    "fetch failed"]);
 });
 
 test("replaced functions keep their type, name, length and instances, and classes that extend them", () => {
   const found = inProcess(`
     const { Socket: Stand } = require("net"); class Own extends PerformanceObserver {} class OwnSocket extends Stand {}
-    console.log(JSON.stringify([Stand === Socket, socket instanceof Stand, socket.constructor === Socket, typeof Stand, Stand.name,
+    console.log(JSON.stringify([Stand === Socket, socket instanceof Stand, socket.constructor === Socket,
+      typeof Stand, Stand.name,
       Stand.length === Socket.length, Stand.prototype === Socket.prototype, by(() => new Own()),
         by(() => PerformanceObserver()), typeof fetch, new OwnSocket() instanceof Socket, used,
       require("child_process").spawn.name]));`);
@@ -201,7 +206,8 @@ test("nothing is refused until the program plays, and what is harmless works", (
 test("each method that is refused is there", () => {
   for (const [path, names] of Object.entries(METHODS)) {
     const owner = path.split(".").reduce((from, name) => from?.[name], globalThis);
-    const isLater = (name) => LATER.some(({ from, methods }) => !isSince(from) && words(methods[path] ?? "").includes(name));
+    const isLater = (name) =>
+      LATER.some(({ from, methods }) => !isSince(from) && words(methods[path] ?? "").includes(name));
     for (const name of words(names)) {
       assert.equal(typeof owner?.[name], isLater(name) ? "undefined" : "function", `${path}.${name}`);
     }

@@ -1,5 +1,5 @@
-// Which threads of a program are kept for the next run: all that can leave their code. Others are replaced. When a thread
-// ends, none of its code runs any more.
+// Which threads of a program are kept for the next run: all that can leave their code. Others are replaced. When a
+// thread ends, none of its code runs any more.
 
 import assert from "node:assert/strict";
 import { readFileSync } from "node:fs";
@@ -49,7 +49,9 @@ async function withGroup(context, files, act, options = {}) {
   }
 }
 
-/** @type {{ group: ProgramGroup | undefined, rest: Promise<unknown> }} the threads of runs that come one after the other */
+/**
+ * @type {{ group: ProgramGroup | undefined, rest: Promise<unknown> }} the threads of runs that come one after the other
+ */
 const shared = { group: undefined, rest: Promise.resolve() };
 
 /**
@@ -109,7 +111,8 @@ const LEFT = {
 /** How a worker ends. */
 const BY = {
   "process.exit": "process.exit(3)",
-  "what nobody catches, in a task of its own": "(setImmediate(() => { throw new Error('wrong'); }), Atomics.wait(words, 0, 0))",
+  "what nobody catches, in a task of its own":
+    "(setImmediate(() => { throw new Error('wrong'); }), Atomics.wait(words, 0, 0))",
   "a wait for good": "Atomics.wait(words, 0, 0)",
 };
 
@@ -135,7 +138,8 @@ ${body}`,
 
 describe("a thread is kept", { concurrency: 3 }, () => {
   it("if it ends by itself", async (context) => {
-    const files = { "main.mjs": `${MAIN}started();\nstarted();`, "worker.mjs": `${WORKER}Atomics.add(workerData, 0, 1);` };
+    const files = { "main.mjs": `${MAIN}started();\nstarted();`,
+      "worker.mjs": `${WORKER}Atomics.add(workerData, 0, 1);` };
     assert.deepEqual(await replacedIn(context, files), []);
   });
 
@@ -160,7 +164,8 @@ describe("a thread is kept", { concurrency: 3 }, () => {
 
   it("if the run ends in a deadlock, with all others that are at a call", async (context) => {
     const wait = "Atomics.wait(words, 0, 0);";
-    const files = { "main.mjs": `${MAIN}started();\n${wait}`, "worker.mjs": `${WORKER}const words = workerData;\n${wait}` };
+    const files = { "main.mjs": `${MAIN}started();\n${wait}`,
+      "worker.mjs": `${WORKER}const words = workerData;\n${wait}` };
     assert.deepEqual(await replacedIn(context, files, { ending: "deadlock" }), []);
   });
 
@@ -194,7 +199,7 @@ describe("a thread is replaced", { concurrency: 3 }, () => {
 
   it("if its code makes no call", async (context) => {
     const files = { ...EXITS, "worker.mjs": "for (;;);" };
-    assert.deepEqual(await replacedIn(context, files, { ending: "bound", seconds: 1 }), [1]);
+    assert.deepEqual(await replacedIn(context, files, { ending: "limit", seconds: 1 }), [1]);
   });
 
   it("before a run that wants fresh threads, also if it takes no part", async (context) => {
@@ -252,7 +257,12 @@ describe("when a worker ends, it leaves undone", () => {
     }, { web: true });
   });
 
-  /** @param {import("node:test").TestContext} context @param {string} body @param {string} end @returns {Promise<string>} */
+  /**
+   * @param {import("node:test").TestContext} context
+   * @param {string} body
+   * @param {string} end
+   * @returns {Promise<string>}
+   */
   async function written(context, body, end) {
     const file = join(temporaryFolder(context), "written");
     group.enter(pathToFileURL(programOf(context, leaving(body, end))).href, [file]);

@@ -1,5 +1,5 @@
-// What a run of a program says besides where it stands: which thread has ended by an error, what was in messages, what was
-// written to standard error before an exit, and which await never settles.
+// What a run of a program says besides where it stands: which thread has ended by an error, what was in messages, what
+// was written to standard error before an exit, and which await never settles.
 
 import assert from "node:assert/strict";
 import { describe, it } from "node:test";
@@ -25,8 +25,10 @@ describe("a thread that has ended by an error", () => {
   it("is named with its error and line, in a deadlock's detail and among the tasks", async (context) => {
     const { ending, detail, tasks, messages } = await runOf(context, DIES);
     assert.equal(ending, "deadlock");
-    assert.match(detail, /^agent 1 \(w\.mjs, started at main\.mjs:3:5\) ended: threw Error: the reason, at w\.mjs:2:\d+\nagent 0 waits at/);
-    assert.ok(tasks.some(({ agent, text, source }) => agent === 1 && text === "throws Error: the reason" && /^w\.mjs:2:\d+$/.test(source)));
+    assert.match(detail, new RegExp("^agent 1 \\(w\\.mjs, started at main\\.mjs:3:5\\) ended: "
+      + "threw Error: the reason, at w\\.mjs:2:\\d+\\nagent 0 waits at"));
+    assert.ok(tasks.some(({ agent, text, source }) => agent === 1 && text === "throws Error: the reason"
+      && /^w\.mjs:2:\d+$/.test(source)));
     assert.deepEqual(messages.map(([, text]) => text), ["online", "error, Error: the reason", "exit with code 1"]);
   });
 
@@ -63,7 +65,8 @@ describe("messages", () => {
     const { messages } = await runOf(context, {
       "main.mjs": `const { port1, port2 } = new MessageChannel();
         const deep = { a: { b: { c: 1 } } };
-        for (const value of ["a".repeat(60), [1, 2n, null, undefined, true, "six", 7], deep, new Map(), new RangeError("far")]) {
+        const far = new RangeError("far");
+        for (const value of ["a".repeat(60), [1, 2n, null, undefined, true, "six", 7], deep, new Map(), far]) {
           port1.postMessage(value);
         }
         port2.on("message", () => {});
@@ -86,7 +89,8 @@ describe("a message that can't be read", () => {
     parentPort.postMessage(list);`;
 
   it("is an event with the reason, also if nobody listens", async (context) => {
-    const { detail, tasks } = await runOf(context, { "main.mjs": SENDS.replace("process.argv[2]", '"answer"'), "w.mjs": LIST });
+    const { detail, tasks } = await runOf(context,
+      { "main.mjs": SENDS.replace("process.argv[2]", '"answer"'), "w.mjs": LIST });
     assert.match(detail, /^agent 0 exited with code 13: /);
     const texts = tasks.map(({ agent, text }) => `${agent} ${text}`);
     assert.ok(texts.includes("0 gets messageerror, RangeError: Maximum call stack size exceeded"), texts.join("\n"));
@@ -95,7 +99,8 @@ describe("a message that can't be read", () => {
   it("is emitted as messageerror", async (context) => {
     const main = SENDS.replace("process.argv[2]", '"messageerror"');
     const beside = "[new Int32Array(new SharedArrayBuffer(4)), list]";
-    const all = "(() => { const all = []; for (let one = list; one !== null; one = one.next) all.push(one); return all; })()";
+    const all = "(() => { const all = []; for (let one = list; one !== null; one = one.next) all.push(one); "
+      + "return all; })()";
     for (const sent of ["list", beside, all]) {
       const worker = LIST.replace("postMessage(list)", `postMessage(${sent})`);
       assert.equal((await runOf(context, { "main.mjs": main, "w.mjs": worker })).ending, "finished", sent);
@@ -128,7 +133,8 @@ describe("a message that can't be read", () => {
       const words = new Int32Array(new SharedArrayBuffer(4));
       const worker = new Worker(new URL("./w.mjs", import.meta.url), { workerData: words });
       worker.on("messageerror", () => { words[0] += 1; });`;
-    const worker = LIST.replace("let list", "workerData[0] = 1; let list").replace("{ parentPort }", "{ parentPort, workerData }");
+    const worker = LIST.replace("let list", "workerData[0] = 1; let list")
+      .replace("{ parentPort }", "{ parentPort, workerData }");
     const outcomes = await runsOf(context, { "main.mjs": main, "w.mjs": worker }, { seeds: [1, 2, 3, 4, 5] });
     assert.deepEqual(outcomes.map(({ ending }) => ending), Array(5).fill("finished"));
   });
@@ -150,7 +156,8 @@ describe("an exit", () => {
       if (process.argv[2] === "prints") console.error("once");
       process.exit(2);`;
     const outcomes = await runsOf(context, { "main.mjs": main }, { seeds: [1, 2] });
-    assert.deepEqual(outcomes.map(({ detail }) => detail.replace(/ at .*$/s, "")), Array(2).fill("agent 0 exited with code 2: it calls process.exit"));
+    assert.deepEqual(outcomes.map(({ detail }) => detail.replace(/ at .*$/s, "")),
+      Array(2).fill("agent 0 exited with code 2: it calls process.exit"));
   });
 
   it("with code 13 shows the await that never settles", async (context) => {
@@ -162,13 +169,15 @@ describe("an exit", () => {
         console.log("never");`,
       "first.mjs": "await 2;",
     });
-    assert.match(detail, /^agent 0 exited with code 13: it has a top-level await that never settles, at main\.mjs:4:\d+$/);
+    assert.match(detail,
+      /^agent 0 exited with code 13: it has a top-level await that never settles, at main\.mjs:4:\d+$/);
   });
 
   it("with code 13 is shortened to one with the same line", async (context) => {
+    const code = "require('worker_threads').parentPort.postMessage(1)";
     const program = programOf(context, {
       "main.mjs": `import { Worker } from "node:worker_threads";
-        const workers = [0, 1].map(() => new Worker("require('worker_threads').parentPort.postMessage(1)", { eval: true }));
+        const workers = [0, 1].map(() => new Worker("${code}", { eval: true }));
         const said = (worker) => new Promise((done) => worker.on("message", done));
         await said(workers[0]);
         await said(workers[1]);`,

@@ -31,7 +31,9 @@ function shown(value, folder) {
     const { name, code, errno, syscall, path, dest, message } = value;
     return shown({ name, code, errno, syscall, path, dest, message }, folder);
   }
-  if (value?.constructor?.name?.endsWith("Stats")) return `Stats ${typeof value.size} ${value.isFile()} ${typeof value.mtimeMs}`;
+  if (value?.constructor?.name?.endsWith("Stats")) {
+    return `Stats ${typeof value.size} ${value.isFile()} ${typeof value.mtimeMs}`;
+  }
   if (value?.constructor?.name === "StatFs") return `StatFs ${typeof value.bsize}`;
   // The end of what mkdtemp makes is drawn.
   return util.inspect(value, { depth: 4 }).replaceAll(folder, "FOLDER").replaceAll(/(none\/x)\w{6}/g, "$1XXXXXX");
@@ -256,8 +258,10 @@ const SCENARIOS = {
     log(readFileSync(at("s.txt"), "utf8"), writer.bytesWritten);
     await piped(fs.createReadStream(at("a.txt")), fs.createWriteStream(at("copy")));
     log(readFileSync(at("copy"), "utf8"));
-    await noted(log, "pipeline", (done) => pipeline(fs.createReadStream(at("none")), fs.createWriteStream(at("c2")), done));
-    await new Promise((done) => fs.createWriteStream(at("none/x")).on("error", (error) => log(error)).on("close", done));
+    await noted(log, "pipeline",
+      (done) => pipeline(fs.createReadStream(at("none")), fs.createWriteStream(at("c2")), done));
+    await new Promise((done) =>
+      fs.createWriteStream(at("none/x")).on("error", (error) => log(error)).on("close", done));
     const handle = await fs.promises.open(at("a.txt"));
     log(await read(handle.createReadStream({ encoding: "utf8" })), handle.fd);
     const target = await fs.promises.open(at("t"), "w");
@@ -299,30 +303,35 @@ const SCENARIOS = {
     await noted((name, error, number) => log(name, error, number >= 3 && number < 9), "randomInt",
       (done) => crypto.randomInt(3, 9, done));
     const into = Buffer.alloc(9);
-    await noted((name, error, filled) => log(name, error, filled === into, into.some((byte) => byte > 0)), "randomFill", (done) => crypto.randomFill(into, 1, 5, done));
+    await noted((name, error, filled) => log(name, error, filled === into, into.some((byte) => byte > 0)), "randomFill",
+      (done) => crypto.randomFill(into, 1, 5, done));
     await noted((name, error, key) => log(name, error, key.type), "generateKey",
       (done) => crypto.generateKey("hmac", { length: 64 }, done));
     await noted((name, error, prime) => log(name, error, prime.byteLength), "generatePrime",
       (done) => crypto.generatePrime(16, done));
-    const [, publicKey, privateKey] = await noted((name, error, one, two) => log(name, error, one.type, two.type), "generateKeyPair",
+    const ofPair = (name, error, one, two) => log(name, error, one.type, two.type);
+    const [, publicKey, privateKey] = await noted(ofPair, "generateKeyPair",
       (done) => crypto.generateKeyPair("ed25519", {}, done));
     const [, signature] = await noted((name, error, signed) => log(name, error, signed.length), "sign",
       (done) => crypto.sign(null, Buffer.from("x"), privateKey, done));
     await noted(log, "verify", (done) => crypto.verify(null, Buffer.from("x"), publicKey, signature, done));
     await noted(log, "verify", (done) => crypto.verify(null, Buffer.from("y"), publicKey, signature, done));
-    log(Object.keys(await util.promisify(crypto.generateKeyPair)("ed25519", {})), (await util.promisify(crypto.randomBytes)(3)).length);
+    log(Object.keys(await util.promisify(crypto.generateKeyPair)("ed25519", {})),
+      (await util.promisify(crypto.randomBytes)(3)).length);
     try { crypto.pbkdf2("a", "b", 1, 1, "sha256"); } catch (error) { log(error); }
   },
   "WebAssembly": async (at, log) => {
     const bytes = new Uint8Array([0, 97, 115, 109, 1, 0, 0, 0]);
     const importing = new Uint8Array([...bytes, 1, 4, 1, 96, 0, 0, 2, 7, 1, 1, 109, 1, 102, 0, 0]);
-    log(Object.keys(await WebAssembly.instantiate(bytes)), (await WebAssembly.compile(bytes)) instanceof WebAssembly.Module);
+    log(Object.keys(await WebAssembly.instantiate(bytes)),
+      (await WebAssembly.compile(bytes)) instanceof WebAssembly.Module);
     log((await WebAssembly.instantiate(new WebAssembly.Module(bytes))) instanceof WebAssembly.Instance);
-    for (const act of [() => WebAssembly.compile(new Uint8Array([1, 2])),
+    const acts = [() => WebAssembly.compile(new Uint8Array([1, 2])),
       () => WebAssembly.instantiate(new Uint8Array([1, 2])), () => WebAssembly.compile(5),
       () => WebAssembly.instantiate(importing, {}), () => WebAssembly.instantiate(importing, { m: { f: 1 } }),
-        () => WebAssembly.instantiate(importing),
-      () => WebAssembly.instantiate(importing, { m: { f() {} } }).then((made) => Object.keys(made))]) await settled(log, "wasm", act);
+      () => WebAssembly.instantiate(importing),
+      () => WebAssembly.instantiate(importing, { m: { f() {} } }).then((made) => Object.keys(made))];
+    for (const act of acts) await settled(log, "wasm", act);
   },
   "AsyncLocalStorage holds, and callbacks come later": async (at, log) => {
     const storage = new AsyncLocalStorage();

@@ -25,7 +25,8 @@ describe("timers in vain", () => {
       start();
       await Atomics.waitAsync(words, 1, 0).value;`, { "w.mjs": `${GETS} Atomics.notify(words, 0);` })(context);
     assert.equal(outcome.ending, "stuck");
-    assert.match(outcome.detail, /^agent 0 has nothing to do, and is kept alive by .*an interval of 1000 ms from \S*main\.mjs:4:7/);
+    assert.match(outcome.detail,
+      /^agent 0 has nothing to do, and is kept alive by .*an interval of 1000 ms from \S*main\.mjs:4:7/);
     assert.match(outcome.detail, /it awaits Atomics\.waitAsync from \S*main\.mjs:8:\d+$/);
     assert.ok(outcome.moves < 10_000, `${outcome.moves} moves`);
   });
@@ -51,7 +52,8 @@ describe("timers that aren't in vain", () => {
     "before a timer that is due much later": `const all = setInterval(() => {}, 1);
       setTimeout(() => { setTimeout(() => clearInterval(all), 4000); }, 3000);`,
     "that start another timer after long": `let turns = 0;
-      const all = setInterval(() => { turns += 1; if (turns === 1990) setTimeout(() => clearInterval(all), 500); }, 1);`,
+      const end = () => setTimeout(() => clearInterval(all), 500);
+      const all = setInterval(() => { turns += 1; if (turns === 1990) end(); }, 1);`,
     "beside a thread that sleeps for long": `${WORKER}
       const all = setInterval(() => {}, 1);
       start().on("exit", () => clearInterval(all));`,
@@ -70,11 +72,14 @@ describe("timers that aren't in vain", () => {
         worker.postMessage(0);
       }, 1);`,
     "that begin an immediate": `let turns = 0;
-      const all = setInterval(() => { turns += 1; setImmediate(() => { if (turns === 3000) clearInterval(all); }); }, 1);`,
+      const end = () => { if (turns === 3000) clearInterval(all); };
+      const all = setInterval(() => { turns += 1; setImmediate(end); }, 1);`,
   };
   const workers = {
     "beside a thread that sleeps for long": `${GETS} Atomics.wait(words, 0, 0, 5000);`,
-    "that write shared memory": `${GETS} parentPort.once("message", () => { if (words[1] !== 3000) throw new Error("less"); });`,
+    "that write shared memory": `${GETS} parentPort.once("message", () => {
+        if (words[1] !== 3000) throw new Error("less");
+      });`,
   };
   for (const [name, main] of Object.entries(FINISH)) {
     it(`${name} go on`, async (context) => {

@@ -50,7 +50,9 @@ describe("the line of waiters", () => {
           if (Atomics.notify(words, 0) !== 1) throw new Error("a notify counts promises of a thread that has ended");
           await own.value;
         });`,
-      "worker.mjs": `${WORKER}Atomics.waitAsync(words, 0, 0); Atomics.waitAsync(words, 0, 0, 1e6); parentPort.postMessage(0);
+      "worker.mjs": `${WORKER}Atomics.waitAsync(words, 0, 0);
+        Atomics.waitAsync(words, 0, 0, 1e6);
+        parentPort.postMessage(0);
         parentPort.on("message", () => {});`,
     }, { seeds: seedsTo(3) });
     assert.deepEqual(endingsOf(outcomes), ["finished: "]);
@@ -94,7 +96,8 @@ describe("time", () => {
     }, { seeds: seedsTo(3) });
     const [why, ...others] = endingsOf(outcomes);
     assert.deepEqual(others, []);
-    assert.match(why, /^failed: agent 0 exited with code 13: it has a top-level await that never settles, at main\.mjs:4:\d+$/);
+    assert.match(why,
+      /^failed: agent 0 exited with code 13: it has a top-level await that never settles, at main\.mjs:4:\d+$/);
   });
 });
 
@@ -122,7 +125,9 @@ ${then}`,
   it("doesn't have it before what doesn't await the promise: that is a race", async (context) => {
     const outcomes = await runsOf(context, files("", "await value;"), { seeds: seedsTo(3) });
     assert.deepEqual([...new Set(outcomes.map(({ ending }) => ending))], ["race"]);
-    for (const { races } of outcomes) assert.deepEqual(races.map(({ lines }) => lines), [["main.mjs:7:10", "worker.mjs:2:10"]]);
+    for (const { races } of outcomes) {
+      assert.deepEqual(races.map(({ lines }) => lines), [["main.mjs:7:10", "worker.mjs:2:10"]]);
+    }
   });
 });
 
@@ -136,21 +141,27 @@ describe("a run that uses it", () => {
         await Promise.all(all);`,
       "worker.mjs": `${WORKER}while (Atomics.load(words, 1) === 0); Atomics.notify(words, 0);`,
     });
-    const words = [RECORD, "--program", path, "--seeds", "1..12", "--jobs", "1", "--bounds", "allow"];
+    const words = [RECORD, "--program", path, "--seeds", "1..12", "--jobs", "1", "--limits", "allow"];
     const { stdout } = await execute(process.execPath, words).catch((error) => error);
-    const [, counted] = /^(\d+) runs have no script, and weren't replayed: it has more than 16 threads and waits of /m.exec(stdout) ?? [];
+    const LEFT = /^(\d+) runs have no script, and weren't replayed: it has more than 16 threads and waits of /m;
+    const [, counted] = LEFT.exec(stdout) ?? [];
     assert.ok(Number(counted) > 1 && Number(counted) < 12, stdout);
-    assert.match(stdout, new RegExp(`^${12 - Number(counted)} of 12 runs were replayed and judged by the simulator`, "m"));
+    assert.match(stdout,
+      new RegExp(`^${12 - Number(counted)} of 12 runs were replayed and judged by the simulator`, "m"));
   });
 
   it("is the same each time", async (context) => {
     const files = {
       "main.mjs": `${MAIN}started(); started();
         for (let round = 0; round < 3; round += 1) await Atomics.waitAsync(words, 0, 0, 20).value;`,
-      "worker.mjs": `${WORKER}for (let round = 0; round < 3; round += 1) { Atomics.add(words, 1, 1); Atomics.notify(words, 0, 1); }`,
+      "worker.mjs": `${WORKER}for (let round = 0; round < 3; round += 1) {
+        Atomics.add(words, 1, 1);
+        Atomics.notify(words, 0, 1);
+      }`,
     };
     const seeds = seedsTo(6);
-    const [once, again] = [await runsOf(context, files, { seeds }), await runsOf(context, files, { seeds: [...seeds].reverse() })];
+    const [once, again] = [await runsOf(context, files, { seeds }),
+      await runsOf(context, files, { seeds: [...seeds].reverse() })];
     const partsOf = ({ ending, trace, detail }) => ({ ending, trace, detail });
     assert.deepEqual(once.map(partsOf), again.reverse().map(partsOf));
     assert.ok(new Set(once.map(({ trace }) => trace)).size > 3);

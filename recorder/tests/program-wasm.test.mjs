@@ -1,5 +1,5 @@
-// Whole programs with shared memory of WebAssembly. What an instruction does is compared with what the engine does; what
-// wait and notify do is as the standard says.
+// Whole programs with shared memory of WebAssembly. What an instruction does is compared with what the engine does;
+// what wait and notify do is as the standard says.
 
 import assert from "node:assert/strict";
 import { spawnSync } from "node:child_process";
@@ -16,7 +16,8 @@ import { locks } from "./programs/wasm/locks.mjs";
 const { get, i32, load, store, atomic, loop, again, add } = code;
 
 /** @param {Uint8Array} bytes @returns {string} code that makes them */
-const shown = (bytes) => `Uint8Array.from(atob("${Buffer.from(bytes).toString("base64")}"), (byte) => byte.charCodeAt(0))`;
+const shown = (bytes) =>
+  `Uint8Array.from(atob("${Buffer.from(bytes).toString("base64")}"), (byte) => byte.charCodeAt(0))`;
 
 const MAIN = `import { Worker } from "node:worker_threads";
 const workerOf = (workerData) => new Worker(new URL("./worker.mjs", import.meta.url), { workerData });
@@ -33,7 +34,8 @@ const { exports } = new WebAssembly.Instance(module, { env: { memory } });
 const VARIANTS = [["i", 4], ["l", 8], ["i", 1], ["i", 2], ["l", 1], ["l", 2], ["l", 4]];
 const NAMES = ["load", "store", "add", "sub", "and", "or", "xor", "xchg", "cmpxchg"];
 const PLAIN_LOADS = [
-  ["i", 4], ["l", 8], ["f", 4], ["d", 8], ["i", 1], ["i", 1], ["i", 2], ["i", 2], ["l", 1], ["l", 1], ["l", 2], ["l", 2],
+  ["i", 4], ["l", 8], ["f", 4], ["d", 8], ["i", 1], ["i", 1], ["i", 2], ["i", 2], ["l", 1], ["l", 1], ["l", 2],
+  ["l", 2],
   ["l", 4], ["l", 4],
 ];
 const PLAIN_STORES = [["i", 4], ["l", 8], ["f", 4], ["d", 8], ["i", 1], ["i", 2], ["l", 1], ["l", 2], ["l", 4]];
@@ -59,7 +61,8 @@ const plainOnes = () => [
   body: [...get(0), ...(kind === "store" ? get(1) : []), number, Math.log2(Number(size)), 8 * OFFSET],
 }));
 
-const lanes = (/** @type {number} */ number, /** @type {number[]} */ ...more) => [0xfd, ...(number > 127 ? [number, 1] : [number]), 0, 8 * OFFSET, ...more];
+const lanes = (/** @type {number} */ number, /** @type {number[]} */ ...more) =>
+  [0xfd, ...(number > 127 ? [number, 1] : [number]), 0, 8 * OFFSET, ...more];
 
 /** @returns {Each[]} those on vectors, whose results are made numbers, and those on many bytes */
 const others = () => [
@@ -75,7 +78,8 @@ const others = () => [
   body: [...get(0), ...get(1), 0xfd, 18, ...lanes(number, ...(number === 11 ? [] : [0]))],
 }))).concat([
   { name: "fill", type: "ii>", size: 8, isAtomic: false, body: [...get(0), ...get(1), ...i32(7), 0xfc, 11, 0] },
-  { name: "copy", type: "ii>", size: 8, isAtomic: false, body: [...get(0), ...get(1), ...i32(63), 0x71, ...i32(9), 0xfc, 10, 0, 0] },
+  { name: "copy", type: "ii>", size: 8, isAtomic: false,
+    body: [...get(0), ...get(1), ...i32(63), 0x71, ...i32(9), 0xfc, 10, 0, 0] },
 ]);
 
 const EACH = [...atomicOnes(), ...plainOnes(), ...others()];
@@ -122,11 +126,14 @@ function addressFor({ size, isAtomic }, draw) {
   return kind < 4 || !isAtomic ? (draw() >>> 5) % 32 : ((draw() >>> 5) % (32 / size)) * size;
 }
 
+/** Those of a part of a word. */
+const PARTS = VARIANTS.filter(([value, size]) => size !== (value === "i" ? 4 : 8));
+
 /**
  * Exchanges of a part of a word: what is expected has the lower bits that are there, and others above them or none.
  * @returns {(string | number)[][]}
  */
-const partsExchanged = () => VARIANTS.filter(([value, size]) => size !== (value === "i" ? 4 : 8)).flatMap(([value, size]) => {
+const partsExchanged = () => PARTS.flatMap(([value, size]) => {
   const shown = (/** @type {bigint} */ number) => (value === "i" ? Number(number) : String(number));
   const variant = `${value}${size}`;
   return [1n << (8n * BigInt(size)), 0n].flatMap((above) => [
@@ -222,7 +229,8 @@ describe("wait and notify", () => {
         const { exports: { wait32, wait64 } } = new WebAssembly.Instance(module, { env });
         const worker = workerOf({ memory, module });
         const begun = performance.now();
-        const found = [wait32(16, 1, -1n), wait64(16, 1n << 40n, -1n), wait32(16, 0, 0n), wait32(16, 0, 7_000_000_000n)];
+        const found = [[wait32, 1, -1n], [wait64, 1n << 40n, -1n], [wait32, 0, 0n], [wait32, 0, 7_000_000_000n]]
+          .map(([wait, value, time]) => wait(16, value, time));
         const passed = performance.now() - begun;
         if (found.join() !== "1,1,2,2") throw new Error("it slept with " + found);
         if (passed < 7000 || passed > 7001) throw new Error("it took " + passed);`,
@@ -264,9 +272,12 @@ describe("a module's memory, data and start", () => {
     const outcomes = await runsOf(context, {
       "main.mjs": `${MAIN}const { instance, module } = await WebAssembly.instantiate(${shown(bytes)});
         const { exports } = instance;
-        if (Object.keys(exports).join() !== "begin,read,memory" || !Object.isFrozen(exports)) throw new Error("it exports " + Object.keys(exports));
-        if (WebAssembly.Module.exports(module).length !== 3 || !(module instanceof WebAssembly.Module)) throw new Error("not as it was");
-        if (!(instance instanceof WebAssembly.Instance) || instance.constructor !== WebAssembly.Instance) throw new Error("no instance");
+        const names = Object.keys(exports).join();
+        if (names !== "begin,read,memory" || !Object.isFrozen(exports)) throw new Error("it exports " + names);
+        const isAsItWas = WebAssembly.Module.exports(module).length === 3 && module instanceof WebAssembly.Module;
+        if (!isAsItWas) throw new Error("not as it was");
+        const { Instance } = WebAssembly;
+        if (!(instance instanceof Instance) || instance.constructor !== Instance) throw new Error("no instance");
         if (exports.read(64) !== 5 || exports.read(32) !== 0x64636261) throw new Error("it has " + exports.read(32));
         const worker = workerOf(exports.memory);
         await ended(worker);
@@ -305,9 +316,15 @@ new Int32Array(workerData.buffer)[8] = 9;`,
         if (exports.grow(0) !== 1 || exports.grow(9) !== -1 || memory.grow(0) !== 1) throw new Error("not 1");
         const worker = new Worker(new URL("./worker.mjs", import.meta.url), { workerData: { memory, module } });
         while (exports.look(0) === 0) Atomics.wait(new Int32Array(memory.buffer), 0, 0, 5);
-        if (exports.size() !== 2 || exports.look(65540) !== 8 || memory.buffer.byteLength !== 131072) throw new Error("it has " + exports.size());
+        const hasGrown = exports.size() === 2 && exports.look(65540) === 8 && memory.buffer.byteLength === 131072;
+        if (!hasGrown) throw new Error("it has " + exports.size());
         if (exports.grow(1) !== 2 || exports.grow(1) !== -1) throw new Error("it grew");
-        try { memory.grow(1); throw new Error("it grew"); } catch (error) { if (!(error instanceof RangeError)) throw error; }`,
+        try {
+          memory.grow(1);
+          throw new Error("it grew");
+        } catch (error) {
+          if (!(error instanceof RangeError)) throw error;
+        }`,
       "worker.mjs": `${WORKER}if (exports.grow(1) !== 1) throw new Error("not 1");
         exports.put(65540, 8);
         exports.put(0, 1);`,
@@ -384,12 +401,13 @@ describe("findings", () => {
   });
 
   it("show where a thread spins", async (context) => {
-    const bytes = moduleOf([{ name: "spin", type: "i>", body: loop(...get(0), ...atomic(ATOMIC.LOAD), 0x45, ...again(0)) }]);
+    const bytes = moduleOf([{ name: "spin", type: "i>",
+      body: loop(...get(0), ...atomic(ATOMIC.LOAD), 0x45, ...again(0)) }]);
     const outcomes = await runsOf(context, {
       "main.mjs": `${MAIN}workerOf({ memory, module: new WebAssembly.Module(${shown(bytes)}) });`,
       "worker.mjs": `${WORKER}exports.spin(64);`,
     });
-    assert.equal(outcomes[0].ending, "bound");
+    assert.equal(outcomes[0].ending, "limit");
     assert.match(outcomes[0].detail, /spins at wasm:spin:1:\d+/);
   });
 });
@@ -399,14 +417,16 @@ describe("--wasm-accesses", () => {
     const words = ["agents/naive-mutex.mjs", "--wasm-accesses", "relaxed"];
     const cwd = fileURLToPath(new URL("./", import.meta.url));
     const { status, stderr } = spawnSync(process.execPath, [RECORD, ...words], { cwd, encoding: "utf8" });
-    assert.deepEqual([status, stderr], [2, "record: --wasm-accesses needs --program: the shared memory of WebAssembly is "
-      + "recorded in programs alone\n"]);
+    const why = "record: --wasm-accesses needs --program: the shared memory of WebAssembly is recorded in programs "
+      + "alone\n";
+    assert.deepEqual([status, stderr], [2, why]);
   });
 });
 
 describe("modules of WebAssembly", () => {
   it("without shared memory stay the engine's", async (context) => {
-    const bytes = moduleOf([{ name: "count", type: "i>", body: [...get(0), ...get(0), ...load(4), ...i32(1), ...add, ...store(4)] }], { isShared: false });
+    const bytes = moduleOf([{ name: "count", type: "i>",
+      body: [...get(0), ...get(0), ...load(4), ...i32(1), ...add, ...store(4)] }], { isShared: false });
     assert.equal(hasSharedMemory(bytes), false);
     const outcomes = await runsOf(context, {
       "main.mjs": `const memory = new WebAssembly.Memory({ initial: 1, maximum: 1 });
@@ -425,7 +445,8 @@ describe("modules of WebAssembly", () => {
     const outcomes = await runsOf(context, {
       "main.mjs": `${MAIN}const bytes = ${shown(bytes)};\nnew WebAssembly.Module(bytes);`,
     });
-    assert.deepEqual(endingsOf(outcomes), ["failed: agent 0 compiled a module of WebAssembly that the recorder can't translate: "
-      + "it has data at a place that isn't constant, at main.mjs:7:1"]);
+    const why = "failed: agent 0 compiled a module of WebAssembly that the recorder can't translate: "
+      + "it has data at a place that isn't constant, at main.mjs:7:1";
+    assert.deepEqual(endingsOf(outcomes), [why]);
   });
 });

@@ -176,7 +176,8 @@ if (seen.join() !== "7,1,3,7,7,7,0,5,6") throw new Error("it is " + seen);`,
 }`, "",
     ));
     assert.deepEqual([outcome.ending, outcome.checked, outcome.script], ["finished", false, undefined]);
-    assert.match(outcome.noScript ?? "", /^so many ordinary writes were made to its buffers.* judges only the trace of such a run$/);
+    assert.match(outcome.noScript ?? "",
+      /^so many ordinary writes were made to its buffers.* judges only the trace of such a run$/);
     const places = outcome.windows?.map(({ from, to, byte }) => [from, to, byte]);
     assert.deepEqual(places, [[0, 8_192, 0], [16_000, 16_064, 8_192]]);
     const lines = (outcome.trace ?? "").split("\n");

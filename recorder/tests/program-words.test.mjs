@@ -37,11 +37,13 @@ test("a program's run in words has its threads, its messages with their lines, a
   const module = pathToFileURL(program).href;
   const lines = wordsText(output, outcome, module).split("\n");
   const started = "too-soon-worker.mjs, started at too-soon.mjs:7:1";
-  assert.deepEqual(lines.slice(0, 4), [`seed ${outcome.seed} of too-soon.mjs: race`, "agent 0: too-soon.mjs", `agent 1: ${started}`, ""]);
+  assert.deepEqual(lines.slice(0, 4),
+    [`seed ${outcome.seed} of too-soon.mjs: race`, "agent 0: too-soon.mjs", `agent 1: ${started}`, ""]);
   assert.match(lines[4], /^1 0 sends message 0, at too-soon\.mjs:7:1$/);
   const acts = lines.slice(4).map((line) => line.replace(/^\S+ /, ""));
   assert.ok(acts.includes("1 receives message 0"));
-  assert.ok(acts.includes("1 writes Uint8_b0_at4[4], without Atomics: changes Uint8_b0_at4[4] from 0 to 111, at too-soon-worker.mjs:7:12"));
+  const wrote = "1 writes Uint8_b0_at4[4], without Atomics: changes Uint8_b0_at4[4] from 0 to 111";
+  assert.ok(acts.includes(`${wrote}, at too-soon-worker.mjs:7:12`));
   assert.equal(acts.filter((line) => /(?:sends|receives) message/.test(line)).length % 2, 0);
   assert.deepEqual(lines.slice(-2), [outcome.detail, ""]);
   assert.ok(!lines.some((line) => line.includes("Int32_b3")));
@@ -70,7 +72,8 @@ test("tasks are in the words, on the page and beside the trace, but in no script
   const { tasks = [], trace = "", script = "" } = outcome;
   const texts = tasks.map(({ agent, text, source }) => `${agent} ${text}, at ${source}`);
   assert.deepEqual([...texts].sort(), [
-    "0 has closed a port, at main.mjs:6:90", "0 has the result of readFile, at main.mjs:6:3", "0 runs an immediate, at main.mjs:6:44",
+    "0 has closed a port, at main.mjs:6:90", "0 has the result of readFile, at main.mjs:6:3",
+    "0 runs an immediate, at main.mjs:6:44",
     "0 runs an interval of 3 ms, at main.mjs:4:18", "1 runs a timer of 4 ms, at worker.mjs:2:1",
   ]);
   assert.doesNotMatch(trace + script, /timer|interval|readFile|immediate|task/);
@@ -89,10 +92,12 @@ test("tasks are in the words, on the page and beside the trace, but in no script
 });
 
 test("a task comes before its events, also if some of these aren't shown", () => {
-  const event = (number) => ({ event: number, agent: 0, call: 0, does: "read", block: 0, byte: 0, size: 4, read: true, write: false, source: null });
+  const event = (number) => ({ event: number, agent: 0, call: 0, does: "read", block: 0, byte: 0, size: 4, read: true,
+    write: false, source: null });
   const trace = [0, 3, 7].map((number) => `${JSON.stringify(event(number))}\n`).join("");
   const tasks = [0, 1, 4, 8].map((before) => ({ event: before, agent: 0, text: `task ${before}`, source: null }));
-  const outcome = { seed: 1, ending: "finished", detail: "", races: [], progress: [{ returned: 0, calls: 0 }], script: '{"blocks":[4],"views":[]}' };
+  const outcome = { seed: 1, ending: "finished", detail: "", races: [], progress: [{ returned: 0, calls: 0 }],
+    script: '{"blocks":[4],"views":[]}' };
   const data = pageData(/** @type {any} */ ({ ...outcome, trace, tasks }), "", "file:///main.mjs");
   const what = new Stepper(data, new Views(data)).all().map(({ what: each, text }) => (each === "task" ? text : each));
   assert.deepEqual(what, ["start", "task 0", "ordinary", "task 1", "ordinary", "task 4", "ordinary", "task 8", "end"]);

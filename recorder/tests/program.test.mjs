@@ -121,12 +121,13 @@ test("each wrong option is refused, with one line that names it", () => {
     [["m.mjs", "--seeds", "a..b"], /--seeds/],
     [["m.mjs", "--seeds", "9007199254740992"], /--seeds/],
     [["m.mjs", "--switch", "0.5"], /^there is no option --switch: use --strategy switch:P$/],
+    [["m.mjs", "--bounds", "allow"], /^there is no option --bounds: use --limits$/],
+    [["m.mjs", "--until-covered"], /^there is no option --until-covered: for a module of agents --all tries every/],
     [["m.mjs", "--strategy", "random"], /^--strategy must be mixed, uniform, .* or switch:P, .*, but is "random"$/],
     [["m.mjs", "--strategy", "switch:1.1"], /^--strategy must be .*, but is "switch:1.1"$/],
     [["m.mjs", "--strategy", "switch:"], /^--strategy/],
     [["m.mjs", "--strategy", "Mixed"], /^--strategy/],
     [["m.mjs", "--everywhere=no"], /--everywhere/],
-    [["m.mjs", "--until-covered=5"], /--until-covered/],
     [["m.mjs", "--jobs", "0"], /--jobs/],
     [["m.mjs", "--jobs", "65"], /--jobs/],
     [["m.mjs", "--check", "-1"], /--check/],
@@ -141,7 +142,7 @@ test("each wrong option is refused, with one line that names it", () => {
     [["m.mjs", "--ordinary"], /--ordinary/],
     [["m.mjs", "--ordinary", ""], /^--ordinary must be watch, store or refuse, but is ""$/],
     [["m.mjs", "--races", "ignore"], /^--races must be fail or allow, but is "ignore"$/],
-    [["m.mjs", "--bounds", "Allow"], /^--bounds must be fail or allow, but is "Allow"$/],
+    [["m.mjs", "--limits", "Allow"], /^--limits must be fail or allow, but is "Allow"$/],
     [["m.mjs", "--unrecorded", "ignore"], /^--unrecorded must be fail or allow, but is "ignore"$/],
     [["m.mjs", "--clock", "toString"], /^--clock must be run or real, but is "toString"$/],
     [["m.mjs", "--timeouts", "1.01"], /^--timeouts must be a number from 0 to 1, or never, but is "1.01"$/],
@@ -165,26 +166,24 @@ test("options that aren't given have their defaults", () => {
   assert.deepEqual([fresh, args, noBlock, strategy, out], [false, [], undefined, "mixed", undefined]);
   const { sabsim: path, checkEvery } = optionsOf(["m.mjs"]);
   assert.deepEqual([path, checkEvery], [undefined, 1]);
-  const { ordinary, races, bounds, clock, timeouts, failFast, everywhere, untilCovered } = optionsOf(["m.mjs"]);
-  assert.deepEqual([ordinary, races, bounds, clock], ["watch", "fail", "fail", "run"]);
+  const { ordinary, races, limits, clock, timeouts, failFast, everywhere } = optionsOf(["m.mjs"]);
+  assert.deepEqual([ordinary, races, limits, clock], ["watch", "fail", "fail", "run"]);
   assert.equal(optionsOf(["m.mjs"]).unrecorded, "fail");
-  assert.deepEqual([timeouts, failFast, everywhere, untilCovered], [0.05, false, false, false]);
+  assert.deepEqual([timeouts, failFast, everywhere], [0.05, false, false]);
   assert.equal(optionsOf(["m.mjs", "--seeds", "8"]).last, 8);
 });
 
 test("options of the command line have their values", () => {
-  const words = ["--ordinary=store", "--races", "allow", "--bounds=allow", "--clock", "real", "--timeouts", "0.25"];
+  const words = ["--ordinary=store", "--races", "allow", "--limits=allow", "--clock", "real", "--timeouts", "0.25"];
   assert.equal(optionsOf(["m.mjs", "--timeouts", "never"]).timeouts, "never");
-  const { ordinary, races, bounds, clock, timeouts, failFast } = optionsOf(["m.mjs", ...words, "--fail-fast"]);
-  assert.deepEqual([ordinary, races, bounds, clock], ["store", "allow", "allow", "real"]);
+  const { ordinary, races, limits, clock, timeouts, failFast } = optionsOf(["m.mjs", ...words, "--fail-fast"]);
+  assert.deepEqual([ordinary, races, limits, clock], ["store", "allow", "allow", "real"]);
   assert.deepEqual([timeouts, failFast], [0.25, true]);
   assert.equal(optionsOf(["m.mjs", "--unrecorded=allow"]).unrecorded, "allow");
   const strategyOf = (...more) => optionsOf(["m.mjs", ...more]).strategy;
   assert.equal(strategyOf("--strategy", "partial-order"), "partial-order");
   assert.equal(strategyOf("--strategy", "switch:0.25"), "switch:0.25");
-  const covered = optionsOf(["m.mjs", "--until-covered", "--everywhere"]);
-  assert.deepEqual([covered.untilCovered, covered.everywhere, covered.last], [true, true, 1_000_000]);
-  assert.equal(optionsOf(["m.mjs", "--until-covered", "--seeds", "5..9"]).last, 9);
+  assert.equal(optionsOf(["m.mjs", "--everywhere"]).everywhere, true);
 });
 
 test("help names each option that there is", () => {
@@ -192,8 +191,11 @@ test("help names each option that there is", () => {
   const refused = (word) => why(word).startsWith("there is no option");
   const named = [...USAGE.matchAll(/^ {2}(?:-\w, )?(--[a-z-]+)/gm)].map(([, word]) => word);
   assert.deepEqual(named.filter(refused), []);
-  for (const option of ["strategy", "everywhere", "until-covered", "ordinary", "races", "bounds", "unrecorded", "clock", "timeouts", "fail-fast", "out", "jobs", "buffers",
-    "check", "help", "version"]) {
+  const options = [
+    "strategy", "everywhere", "ordinary", "races", "limits", "unrecorded", "clock", "timeouts",
+    "fail-fast", "out", "jobs", "buffers", "check", "help", "version",
+  ];
+  for (const option of options) {
     assert.ok(named.includes(`--${option}`), option);
   }
   assert.ok(USAGE.split("\n").every((line) => line.length <= 120));
@@ -245,7 +247,7 @@ test("help is on standard output, with status 0", () => {
   assert.match(stdout, /^usage: node recorder\/record\.mjs MODULE /);
 });
 
-test("if standard output fails, the status is 3, and a line on standard error says so", withDevices, async (context) => {
+test("if standard output fails, the status is 3, and standard error says so", withDevices, async (context) => {
   const full = openSync("/dev/full", "w");
   context.after(() => closeSync(full));
   const stdio = ["ignore", full, "pipe"];
@@ -275,7 +277,8 @@ test("if standard output has no reader, the status is 3, and the failing run is 
 
 test("if the chosen native program isn't there, the status is 3; with --check 0 it isn't needed", () => {
   const inEnvironment = { env: WITHOUT_SABSIM };
-  for (const [words, options] of [[["--sabsim", NOWHERE], {}], [[], inEnvironment], [["--check", "7"], inEnvironment]]) {
+  const asked = [[["--sabsim", NOWHERE], {}], [[], inEnvironment], [["--check", "7"], inEnvironment]];
+  for (const [words, options] of asked) {
     const { status, stdout, stderr } = run(cases("nothing", ...words), options);
     assert.deepEqual([status, stdout, stderr], [3, "", `record: there is no program sabsim at ${NOWHERE}\n`]);
   }
@@ -309,7 +312,8 @@ test("a picture that sabsim doesn't make is reported", withShell, async (context
   assert.equal((await commandHere(cases("waitsForEver", ...unchecked, "--check", "0"))).status, 1);
   const { status, stdout } = await commandHere(cases("waitsForEver", ...unchecked, "--sabsim", half));
   assert.equal(status, 1, stdout);
-  assert.match(stdout, /^every run was replayed and judged by the simulator \(native program\): it agrees with the recorder$/m);
+  assert.match(stdout,
+    /^every run was replayed and judged by the simulator \(native program\): it agrees with the recorder$/m);
   const left = "\nnot kept: seed-1.svg: sabsim ended with status 4: no pictures\n" +
     "not kept: seed-1.html: what sabsim prints about the run is no JSON\n";
   assert.ok(stdout.endsWith(left), stdout);

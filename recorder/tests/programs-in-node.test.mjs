@@ -88,7 +88,7 @@ function codeOf({ ending, detail }) {
   return THREW;
 }
 
-describe("programs on the order of events print the same twice in node and under each seed", { concurrency: SIDE_BY_SIDE }, () => {
+describe("programs on the order of events print the same in node and each run", { concurrency: SIDE_BY_SIDE }, () => {
   /** @type {Promise<Map<string, import("./programs/order.mjs").InRecorder[]>>} */
   let recorded;
   before(() => { recorded = runsInRecorder(ORDER, SEEDS); });

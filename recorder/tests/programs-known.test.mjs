@@ -1,6 +1,6 @@
-// The programs of `programs/` under the recorder. A right one passes under each seed. Of a wrong one some run fails, and
-// each run that fails is a finding of the table: with its ending, thread, words and lines. What a program needs that
-// isn't simulated yet is refused by its name and line.
+// The programs of `programs/` under the recorder. A right one passes under each seed. Of a wrong one some run fails,
+// and each run that fails is a finding of the table: with its ending, thread, words and lines. What a program needs
+// that isn't simulated yet is refused by its name and line.
 
 import assert from "node:assert/strict";
 import { after, before, describe, it } from "node:test";
@@ -91,7 +91,7 @@ function testRare() {
 /** In the same threads one program is run after the other. */
 const IN_TURN = { concurrency: 1 };
 
-// One thread of a program goes on at a time. So that this file isn't left alone at the end, two parts go on side by side.
+// One thread of a program goes on at a time. So that this file isn't left alone at the end, two parts go side by side.
 // More would take longer, since each has threads of its own.
 describe("programs in the recorder", { concurrency: 2 }, () => {
   describe("with known answers", IN_TURN, () => testEach(OF_NODE));

@@ -9,7 +9,10 @@ import { programOf } from "./helpers/whole-programs.mjs";
 
 const BYTES = 12_000;
 
-/** Two threads write a part of the bytes each, one by one; the first writes one byte of the other's, by a line of its own. */
+/**
+ * Two threads write a part of the bytes each, one by one; the first writes one byte of the other's, by a line of its
+ * own.
+ */
 const OVERLAPS = `import { once } from "node:events";
 import { Worker, isMainThread, workerData } from "node:worker_threads";
 if (isMainThread) {
@@ -32,7 +35,8 @@ describe("unordered accesses among many", () => {
     for await (const outcome of explore({ program, seeds: "1..4", programOutput: "none" })) outcomes.push(outcome);
     for (const { ending, races } of outcomes) {
       assert.equal(ending, "race");
-      assert.deepEqual(races.map(({ lines }) => lines.map((line) => line.replace(/:\d+$/, ""))), [["main.mjs:11", "main.mjs:13"]]);
+      assert.deepEqual(races.map(({ lines }) => lines.map((line) => line.replace(/:\d+$/, ""))),
+        [["main.mjs:11", "main.mjs:13"]]);
     }
     const traced = outcomes.filter(({ trace }) => trace !== undefined);
     assert.equal(traced.length, 1);
@@ -47,8 +51,10 @@ describe("places whose accesses note their lines", () => {
   it("are those that were added, and some near them", () => {
     const places = new NotedPlaces(NotedPlaces.memory());
     places.add(2, 1_000, 1_001);
-    assert.deepEqual([places.has(2, 1_000, 1_001), places.has(2, 0, 1_000), places.has(2, 900, 1_008)], [true, true, true]);
-    assert.deepEqual([places.has(2, 0, 400), places.has(1, 1_000, 1_001), places.has(2, 1_008, 1_016)], [false, false, false]);
+    assert.deepEqual([places.has(2, 1_000, 1_001), places.has(2, 0, 1_000), places.has(2, 900, 1_008)],
+      [true, true, true]);
+    assert.deepEqual([places.has(2, 0, 400), places.has(1, 1_000, 1_001), places.has(2, 1_008, 1_016)],
+      [false, false, false]);
     places.clear();
     assert.equal(places.has(2, 1_000, 1_001), false);
     assert.equal(places.has(2, 0, 10_000), true);

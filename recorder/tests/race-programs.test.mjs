@@ -51,7 +51,10 @@ const ANEW = 5;
 /** The traces of the first wild runs. @type {string[] | undefined} undefined: they weren't recorded */
 let firstTraces;
 
-/** What is the same of a run whether its trace is wanted or not. @param {import("../lib/run/outcome.mjs").Outcome} of */
+/**
+ * What is the same of a run whether its trace is wanted or not.
+ * @param {import("../lib/run/outcome.mjs").Outcome} of
+ */
 const withoutTrace = ({ seed, ending, detail, moves, state, races }) => ({ seed, ending, detail, moves, state, races });
 
 /**

@@ -1,6 +1,6 @@
 // What agents find around them, and what they do to it: nothing of it may change how a run ends, and what a run
-// can't have is reported. Work that goes on later, a patched language, messages, arrays of their own, modules that break,
-// stacks that overflow, clocks and random numbers.
+// can't have is reported. Work that goes on later, a patched language, messages, arrays of their own, modules that
+// break, stacks that overflow, clocks and random numbers.
 
 import assert from "node:assert/strict";
 import { writeFileSync } from "node:fs";
@@ -218,7 +218,8 @@ describe("a patched language", () => {
   const FUNCTIONS = ["top", "agent"].flatMap((when) => ["throws", "lies"].map((how) => ["functions", when, how]));
   /** How the module's agents end, in the order of its cases, and what is said about it. */
   const ENDS = {
-    finished: "", deadlock: "waits at byte 20", failed: "threw Error: as it must be", refused: "the value 9007199254740992",
+    finished: "", deadlock: "waits at byte 20", failed: "threw Error: as it must be",
+    refused: "the value 9007199254740992",
     later: "goes on later, by setImmediate",
   };
 
@@ -299,7 +300,8 @@ test("messages to the thread that started the worker change nothing", async (con
     [["", posts], /^agent 0 calls parentPort\.postMessage at agents\.mjs:5:18, but nobody takes its messages: /],
     // The first one stands for all.
     [[posts, ""], /^agent 0 calls parentPort\.postMessage at agents\.mjs:3:16, but nobody .+\nagent 1 calls .+$/],
-    [["parentPort.on('message', () => {});", ""], /^agent 0 listens for messages, by parentPort\.on at agents\.mjs:3:16, /],
+    [["parentPort.on('message', () => {});", ""],
+      /^agent 0 listens for messages, by parentPort\.on at agents\.mjs:3:16, /],
   ];
   const failing = await madeOfEach(named, ([[top, body]]) => recordText(context, text(top, body), options));
   failing.forEach(({ ending, detail, state, calls, progress }, at) => {
@@ -627,7 +629,8 @@ describe("clocks", () => {
   test("what agents put in Object.prototype is no trap of a class that stands for the engine's", async (context) => {
     const found = timesIn(await recordText(context, text(`
       for (const name of ["get", "has", "apply", "set"]) Object.prototype[name] = () => "inherited";
-      const found = [Date.name, typeof Date.now(), SharedArrayBuffer.name, BroadcastChannel.name, WebAssembly.Memory.name];
+      const classes = [SharedArrayBuffer, BroadcastChannel, WebAssembly.Memory].map(({ name }) => name);
+      const found = [Date.name, typeof Date.now(), ...classes];
       for (const name of ["get", "has", "apply", "set"]) delete Object.prototype[name];
       throw new Error("times " + JSON.stringify(found));`), { agents: 1 }));
     assert.deepEqual(found, ["Date", "number", "SharedArrayBuffer", "BroadcastChannel", "Memory"]);

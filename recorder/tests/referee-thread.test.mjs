@@ -70,7 +70,7 @@ test("groups that come one after the other have one referee's thread, and nothin
   assert.equal(first.thread.ended, undefined);
 });
 
-test("a module that can't be loaded, and a single run of the library, leave the thread to the next group", async (context) => {
+test("a module that can't be loaded, and a single run of the library, leave the thread to others", async (context) => {
   const { thread } = await madeBy(ofAgents());
   const module = agentsOf(temporaryFolder(context), "}\nexport const setup = 5; {");
   await assert.rejects(ofAgents({ module: moduleUrl(module) }), Refused);

@@ -139,7 +139,8 @@ describe("runs that repeat", () => {
       export default ({ buffers: [buffer] }) => Atomics.add(new Int32Array(buffer), 0, 1);
     `);
     const native = join(folder, "native");
-    writeFileSync(native, `#!/bin/sh\necho asked >> '${folder}/asked'\nexec ${SIMULATOR_WORDS} "$@"\n`, { mode: 0o755 });
+    writeFileSync(native, `#!/bin/sh\necho asked >> '${folder}/asked'\nexec ${SIMULATOR_WORDS} "$@"\n`,
+      { mode: 0o755 });
     const asked = test.mock.method(ModuleSimulator.prototype, "run");
     const outcomes = [...await checkedRuns({ module }), ...await checkedRuns({ module, sabsim: native })];
     assert.deepEqual(outcomes.map(({ checked }) => checked), Array(2 * SEEDS.length).fill(true));

@@ -85,7 +85,8 @@ test("a kept run is made again, and the simulator says the same of it", async (c
     // What agent 1 has added is a random number of the seed.
     `  1 run check failed, seed 4 the first: ${outcome.bytes[0].slice(0, 48)}…`,
   ]);
-  assert.match(lines[6], /^every run was replayed and judged by the simulator \([\w ]+\): it agrees with the recorder$/);
+  assert.match(lines[6],
+    /^every run was replayed and judged by the simulator \([\w ]+\): it agrees with the recorder$/);
 });
 
 test("the seed is that of the file's name, or of --seeds, or else 1", async (context) => {

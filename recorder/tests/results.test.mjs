@@ -38,7 +38,8 @@ test("tests that pass, fail and are left out are counted one by one, in suites t
 });
 
 test("a file without a test, or that ends early, has failed", (context) => {
-  const failing = ["", 'test("one", () => process.exit(0));', "throw new Error('at once');", "syntax error", 'test("one", () => process.exit(3));',
+  const failing = ["", 'test("one", () => process.exit(0));', "throw new Error('at once');", "syntax error",
+    'test("one", () => process.exit(3));',
     'test("one", () => {}); setTimeout(() => process.exit(1), 300); test("two", () => new Promise(() => {}));'];
   for (const code of failing) {
     const { failed, problems } = resultOf(context, code);
@@ -55,7 +56,8 @@ const fileWith = (result) => ({ passed: 0, failed: 0, leftOut: [], failing: [], 
 
 const SEVEN = [fileWith({ passed: 5, leftOut: ["no sabsim", "no browser", "no sabsim"] }), fileWith({ passed: 2 })];
 const LEFT_OUT = "left out: 2 tests (no sabsim), 1 test (no browser)";
-const SECOND = [{ name: "jobs.test.mjs", failing: ["one is killed", "all, at last"] }, { name: "a.test.mjs", failing: [] }];
+const SECOND = [{ name: "jobs.test.mjs", failing: ["one is killed", "all, at last"] },
+  { name: "a.test.mjs", failing: [] }];
 const SECOND_LINE =
   "passed only the second time: jobs.test.mjs (one is killed), jobs.test.mjs (all, at last), a.test.mjs";
 

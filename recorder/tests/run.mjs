@@ -3,8 +3,8 @@
 // usage: node recorder/tests/run.mjs [NAME ..] [--unit] [--require-all]
 //
 // With words only the files whose names contain one of them are run. `--unit` runs only files that start no thread and
-// no process. If SABSIM in the environment names the built program, it checks the runs, except with `--unit`. Without it
-// the recorder is tested alone, with node and nothing else: the simulator's module checks the runs.
+// no process. If SABSIM in the environment names the built program, it checks the runs, except with `--unit`. Without
+// it the recorder is tested alone, with node and nothing else: the simulator's module checks the runs.
 //
 // The last line is `N passed, M failed`, and the status is 0 only if no test failed. The line before says which tests
 // were left out, since this machine lacks something. Some tests watch threads by the clock. So if tests fail, their

@@ -61,7 +61,8 @@ test("a run in which all agents return has finished", async () => {
 test("a run in which no agent calls Atomics is no pass, and its script has no calls", async () => {
   const outcome = await recordCase("nothing", { sabsim: CHECKER });
   assert.equal(outcome.ending, "failed");
-  assert.match(outcome.detail, /^no agent has made a call of Atomics, or another access that is seen, on the recorded buffers/);
+  assert.match(outcome.detail,
+    /^no agent has made a call of Atomics, or another access that is seen, on the recorded buffers/);
   assert.deepEqual(JSON.parse(outcome.script).agents.map((agent) => agent.calls), [[], []]);
 });
 
@@ -113,14 +114,14 @@ test("an agent that returns a promise fails the run", async () => {
 
 test("an agent that spins for ever meets the limit of calls, or of moves", async () => {
   const calls = await recordCase("spins", { sabsim: CHECKER });
-  assert.equal(calls.ending, "bound");
+  assert.equal(calls.ending, "limit");
   const [spin, other] = calls.detail.split("\n");
   assert.match(spin, /^agent [01] spins at cases\.mjs:35:\d+: it has made 1000 calls, and goes on$/);
   assert.match(other, /^agent [01] asks for its call \d+, at cases\.mjs:35:\d+$/);
   assert.equal(Math.max(...calls.progress.map((agent) => agent.calls)), 1_000);
   const moves = await recordCase("spins", { sabsim: CHECKER, maxMoves: 100 });
   const [limit, ...agents] = moves.detail.split("\n");
-  assert.deepEqual([moves.ending, limit, moves.moves], ["bound", "more than 100 moves would be made", 99]);
+  assert.deepEqual([moves.ending, limit, moves.moves], ["limit", "more than 100 moves would be made", 99]);
   assert.deepEqual(agents.map((line) => line.replace(/call \d+/, "call N")), [
     "agent 0 asks for its call N, at cases.mjs:35:20", "agent 1 asks for its call N, at cases.mjs:35:20",
   ]);
@@ -129,30 +130,32 @@ test("an agent that spins for ever meets the limit of calls, or of moves", async
 test("an agent that makes no call meets the limit of seconds", async () => {
   const outcome = await recordCase("loops", { sabsim: CHECKER, seconds: 1.5 });
   const detail = "agent 1 has made no call for 1.5 s: it is at cases.mjs:40:5";
-  assert.deepEqual([outcome.ending, outcome.detail], ["bound", detail]);
+  assert.deepEqual([outcome.ending, outcome.detail], ["limit", detail]);
 });
 
-test("more typed arrays than a script can have are a bound", async () => {
+test("more typed arrays than a script can have are a limit", async () => {
   const outcome = await recordCase("manyViews", { sabsim: CHECKER, agents: 1, buffers: [70] });
   const detail = "more than 64 different typed arrays were used: agent 0 is at cases.mjs:76:54";
-  assert.deepEqual([outcome.ending, outcome.detail], ["bound", detail]);
+  assert.deepEqual([outcome.ending, outcome.detail], ["limit", detail]);
   assert.equal(JSON.parse(outcome.script).views.length, 64);
 });
 
 /** @type {ReturnType<typeof recorded> | undefined} */
 let bySixteen;
 
-/** Two runs of sixteen agents in the same workers: in the first one they add, and in the second one they call at length. */
+/**
+ * Two runs of sixteen agents in the same workers: in the first one they add, and in the second one they call at length.
+ */
 const runsOfSixteen = () => {
   const asked = { module: agentsPath("cases"), args: ["addsThenCallsLong"], agents: 16, buffers: [65_536, 0, 8, 1] };
   bySixteen ??= recorded({ ...asked, everywhere: true }, [1, 1]);
   return bySixteen;
 };
 
-test("a script that would be too long is a bound", async () => {
+test("a script that would be too long is a limit", async () => {
   const [, outcome] = await runsOfSixteen();
   const [limit] = outcome.detail.split("\n");
-  assert.equal(outcome.ending, "bound");
+  assert.equal(outcome.ending, "limit");
   assert.match(limit, /^the script would be longer than 1048576 bytes: agent \d+ is at cases\.mjs:81:\d+$/);
   assert.ok(outcome.script.length > 900_000 && outcome.script.length <= 1_048_576, `${outcome.script.length} bytes`);
 });

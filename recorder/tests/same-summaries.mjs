@@ -107,10 +107,11 @@ async function isSame({ name, words }, nodes, seeds) {
   const [one, other] = await Promise.all(nodes.map((node) => madeBy(node, words, endsByTime ? FEW : seeds)));
   const isAlike = one.status === other.status && one.output === other.output;
   const exception = EXCEPTIONS[name];
+  const statuses = `status ${one.status} and ${other.status}`;
   const few = endsByTime ? `, seeds ${FEW}` : "";
   if (isAlike) console.log(`${name}: the same, status ${one.status}${one.status > 1 ? `, ${one.output}` : ""}${few}`);
   else if (exception !== undefined) console.log(`${name}: differs, as it may: ${exception}`);
-  else console.log(`${name} differs: status ${one.status} and ${other.status}\n${differenceOf(one.output, other.output)}`);
+  else console.log(`${name} differs: ${statuses}\n${differenceOf(one.output, other.output)}`);
   return isAlike || exception !== undefined;
 }
 

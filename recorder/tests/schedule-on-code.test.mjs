@@ -52,7 +52,7 @@ test("code that takes another path is reported with the place", async (context) 
 });
 
 test("the command has the options that the run depends on, as a shell takes them", () => {
-  const fails = { races: "fail", bounds: "fail", unrecorded: "fail" };
+  const fails = { races: "fail", limits: "fail", unrecorded: "fail" };
   const usual = { ordinary: "watch", clock: "run", timeouts: 0.05, ...fails };
   const { options, args } = replayCommand({ ...usual, module: "a b.mjs", clock: "real", args: ["one", "it's"] });
   assert.match(options, /^(?:node \S+|npx sabsim-record) 'a b\.mjs' --clock real$/);

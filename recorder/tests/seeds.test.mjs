@@ -105,7 +105,7 @@ test("state of a module stays from seed to seed, and with fresh workers it doesn
 });
 
 test("after an agent that has gone astray the next seeds are recorded all the same", async () => {
-  const astray = { exits: "failed", catchesAll: "failed", loops: "bound", manyViews: "bound" };
+  const astray = { exits: "failed", catchesAll: "failed", loops: "limit", manyViews: "limit" };
   for (const [name, ending] of Object.entries(astray)) {
     const options = { args: [name], agents: 2, buffers: [72], last: 2, seconds: 1, checkEvery: 1, everywhere: true };
     const { outcomes } = await outcomesOf("cases", options);

@@ -10,7 +10,6 @@ import { fileURLToPath } from "node:url";
 import { merged, partsOf } from "../lib/command/merging.mjs";
 import { optionsOf } from "../lib/command/options.mjs";
 import { Refused } from "../lib/options/refused.mjs";
-import { Coverage } from "../lib/seeds/coverage.mjs";
 import { shardOf, united, without } from "../lib/seeds/ranges.mjs";
 import { commandHere } from "./helpers/command-here.mjs";
 import { RECORD, agentsOf, agentsPath, temporaryFolder } from "./helpers/common.mjs";
@@ -182,7 +181,7 @@ test("merge.mjs refuses files that aren't summaries, or don't fit together, with
     [[write("text", "15 of 200 runs failed\n")], /^merge: line 1 of .*text is no summary .*: it is no JSON\n/],
     [[write("number", "5")], /it isn't what `record\.mjs --format json` writes\n/],
     [[write("null", "null")], /it isn't what `record\.mjs --format json` writes\n/],
-    [[changed("form", { summary: 99 })], /it is of form 99, and this recorder writes and reads form 3\n/],
+    [[changed("form", { summary: 99 })], /it is of form 99, and this recorder writes and reads form 4\n/],
     [[changed("runs", { runs: "5" })], /its member runs is missing, or isn't what it must be\n/],
     [[changed("endings", { endings: { failing: [{ ending: "race", runs: 1 }], passing: [] } })],
       /its member endings\.failing\[0\]\.first is missing/],
@@ -245,7 +244,7 @@ test("the JSON summary reports a job that died, in its member `problems`", withS
   assert.ok(runs < 9, stdout);
 });
 
-test("a shard whose job dies in its first run has a JSON summary, which is joined to the others", withSignals, async (context) => {
+test("a shard whose job dies in its first run has a JSON summary for merging", withSignals, async (context) => {
   const module = agentsOf(temporaryFolder(context), `
     Atomics.add(new Int32Array(buffers[0]), 0, 1);
     if (process.env.RECORDER_TEST === "dies") process.kill(process.pid, "SIGKILL");
@@ -288,16 +287,8 @@ test("GNU parallel runs the shards, as docs/RECORDER.md shows it", withParallel,
   assert.equal(stdout, spawnSync(process.execPath, words, { encoding: "utf8" }).stdout);
 });
 
-test("joined summaries join what the shards covered, and add up the accesses of unknown lines", () => {
-  const coverageOf = (pairs, unplaced, covered) => ({ pairs, last: 3, row: 500, unplaced, covered });
-  const one = Coverage.joined(undefined, coverageOf(["a > b"], 0, true));
-  assert.deepEqual(one.data(), { pairs: ["a > b"], last: null, row: null, unplaced: 0, covered: true });
-  const both = Coverage.joined(one, coverageOf(["b > a", "a > b"], 7, false));
-  assert.deepEqual(both.data(), { pairs: ["a > b", "b > a"], last: null, row: null, unplaced: 7, covered: false });
-});
-
 test("each part of a file is named by its line", (context) => {
   const folder = temporaryFolder(context);
-  writeFileSync(join(folder, "two"), '{"summary":3}\n{"summary":4}\n');
+  writeFileSync(join(folder, "two"), '{"summary":4}\n{"summary":5}\n');
   assert.throws(() => partsOf(join(folder, "two")), /^Error: line 1 of .*two is no summary .*: its member asked is /);
 });

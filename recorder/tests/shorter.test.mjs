@@ -181,8 +181,9 @@ test("the shortest run is made again once, or up to three times if it gets real 
 });
 
 test("a run that met a limit, or whose worker died, isn't shortened", async (context) => {
-  const bound = await shorten(undefined, { seed: 1, ending: "bound", detail: "agent 0 spins", calls: 1_000 });
-  assert.deepEqual([bound.shortest, bound.shortened.runs, bound.shortened.unchanged], [undefined, 0, "it met a limit"]);
+  const limited = await shorten(undefined, { seed: 1, ending: "limit", detail: "agent 0 spins", calls: 1_000 });
+  assert.deepEqual([limited.shortest, limited.shortened.runs, limited.shortened.unchanged],
+    [undefined, 0, "it met a limit"]);
   const group = await groupOf(context, MODULE, { args: ["dies"] });
   const { shortest, shortened } = await shorten(group, await firstFailing(group));
   assert.deepEqual([shortest, shortened.unchanged], [undefined, "an agent's worker died"]);
@@ -264,7 +265,8 @@ test("the summary's lines about a shortened run", () => {
     [`${start} 400 runs, the most that are made`]);
   assert.deepEqual(linesOf({ shortened: { ...about, runs: 0, unchanged: "it met a limit" } }),
     ["not shortened: it met a limit"]);
-  const needs = (onlyIf) => linesOf({ shortest: { ...failing, onlyIf }, shortened: about }, "only if 5 s pass").slice(1);
+  const needs = (onlyIf) =>
+    linesOf({ shortest: { ...failing, onlyIf }, shortened: about }, "only if 5 s pass").slice(1);
   assert.deepEqual([needs("only if 5 s pass"), needs("only if 1 ms passes"), needs(undefined)],
     [[], ["  only if 1 ms passes"], ["  no timed wait ends early in it"]]);
 });

@@ -197,5 +197,6 @@ test("the file beside the module says what it was made of", () => {
 
 test("the module and its loader import nothing, so a page can have them", () => {
   assert.deepEqual(WebAssembly.Module.imports(new WebAssembly.Module(BYTES)), []);
-  assert.doesNotMatch(readFileSync(new URL("simulator.mjs", WASM), "utf8"), /^import\b|\bimport\(|\bprocess\.|\bBuffer\b/m);
+  assert.doesNotMatch(readFileSync(new URL("simulator.mjs", WASM), "utf8"),
+    /^import\b|\bimport\(|\bprocess\.|\bBuffer\b/m);
 });

@@ -7,8 +7,8 @@ import { agentsPath } from "./helpers/common.mjs";
 import { placesOf, recorded, seedsTo, summaryLines } from "./helpers/recorded.mjs";
 
 /**
- * The outcomes of some ways to go on, by their names. With a trace each run is made once, and is the next way. There are
- * no pilots, in which the agents would go on as long.
+ * The outcomes of some ways to go on, by their names. With a trace each run is made once, and is the next way. There
+ * are no pilots, in which the agents would go on as long.
  */
 async function outcomesOf(ways, seconds) {
   const options = { module: agentsPath("spins"), args: ways, agents: 2, everywhere: true, trace: true, seconds };
@@ -30,7 +30,7 @@ const { calls: MOST } = SCRIPT_LIMITS;
 
 /** An agent that makes progress has met the limit of calls at a place. */
 function meetsBound({ ending, detail, progress }, text) {
-  assert.equal(ending, "bound");
+  assert.equal(ending, "limit");
   assert.equal(firstLine(detail), `agent 1 has made ${MOST} calls, and goes on at ${placeOf(text)}`);
   assert.deepEqual(progress[1], { returned: MOST, calls: MOST });
 }
@@ -54,21 +54,21 @@ describe("agents that go on and on", () => {
     it(`a spin is reported with its place: ${way}`, () => {
       const { ending, fails, detail } = outcomes[way];
       const [, place, rest] = /^agent 1 spins at (\S+:\d+:\d+): (.*)$/m.exec(detail) ?? assert.fail(detail);
-      assert.deepEqual([ending, fails, rest], ["bound", true, what]);
+      assert.deepEqual([ending, fails, rest], ["limit", true, what]);
       assert.equal(withoutColumn(place), withoutColumn(placeOf(text)));
     });
   }
 
   it("an agent that reads several elements in turn reports its place when its time is up", () => {
     const { ending, detail } = outcomes.alternately;
-    assert.equal(ending, "bound");
+    assert.equal(ending, "limit");
     const [, place] = /^agent 1 spins at (\S+): it has made no call for too long$/m.exec(detail) ?? assert.fail(detail);
     assert.equal(withoutColumn(place), withoutColumn(placeOf("[at] === 0")));
   });
 
   it("an agent that accesses nothing is found by the inspector, and it isn't called a spin", () => {
     const { ending, fails, detail } = outcomes.nothing;
-    assert.deepEqual([ending, fails], ["bound", true]);
+    assert.deepEqual([ending, fails], ["limit", true]);
     const [, place] = /^agent 1 has made no call for 0.5 s: it is at (\S+)$/m.exec(detail) ?? assert.fail(detail);
     assert.equal(withoutColumn(place), withoutColumn(placeOf("for (let turns = 0; ; turns += 1)")));
   });
@@ -77,7 +77,7 @@ describe("agents that go on and on", () => {
     const [{ ending, detail, failure }] = await recorded({
       module: agentsPath("sleeps-beside"), agents: 3, everywhere: true, timeouts: "never",
     });
-    assert.equal(ending, "bound");
+    assert.equal(ending, "limit");
     const [spin, ...sleepers] = detail.split("\n");
     const at = (text) => {
       const [{ line, column }] = placesOf("sleeps-beside", text);
@@ -108,8 +108,8 @@ describe("agents that go on and on", () => {
   });
 
   it("an allowed limit that is met is no failure, and is reported all the same", async () => {
-    const [outcome] = await recorded({ module: agentsPath("spins"), args: ["load"], bounds: "allow" });
-    assert.deepEqual([outcome.ending, outcome.fails, outcome.detail], ["bound", false, outcomes.load.detail]);
+    const [outcome] = await recorded({ module: agentsPath("spins"), args: ["load"], limits: "allow" });
+    assert.deepEqual([outcome.ending, outcome.fails, outcome.detail], ["limit", false, outcomes.load.detail]);
     const [first, ...others] = summaryLines([outcome]);
     assert.equal(first, "1 run: 1 limit met (allowed)");
     assert.ok(!others.some((line) => line.includes("first failing seed")));

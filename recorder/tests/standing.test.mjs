@@ -77,7 +77,7 @@ test("an outcome has what each agent is at, in a deadlock and at a limit", async
   const module = moduleIn(context);
   for (const [way, expected] of Object.entries(WAYS)) {
     const { ending, standing } = await waitingOutcome({ module, args: [way] });
-    assert.equal(ending, way === "deadlock" ? "deadlock" : "bound");
+    assert.equal(ending, way === "deadlock" ? "deadlock" : "limit");
     assert.deepEqual(inOrder(standing), expected, way);
   }
   const body = "export const setup = { agents: 1, buffers: [4] };\n"

@@ -1,5 +1,5 @@
-// The order in which the agents of a module begin, and when: drawn in some seeds, so that what depends on a late start is
-// found where accesses aren't watched. Other seeds are as they were.
+// The order in which the agents of a module begin, and when: drawn in some seeds, so that what depends on a late start
+// is found where accesses aren't watched. Other seeds are as they were.
 
 import assert from "node:assert/strict";
 import { writeFileSync } from "node:fs";
@@ -45,8 +45,9 @@ const seeds = Array.from({ length: SEEDS }, (_, at) => at + 1);
 const agentsOf = (/** @type {ReturnType<typeof begun>} */ order) => order.map(({ agent }) => agent).join("");
 
 describe("agents of a module begin", () => {
-  it("in turn and before all calls in three of four seeds and in pilots, and else in an order that the seed draws", () => {
-    const others = seeds.filter((seed) => agentsOf(begun(seed)) !== "0123" || begun(seed).some(({ draws }) => draws > 0));
+  it("in turn and before all calls in three of four seeds and in pilots, else in an order that the seed draws", () => {
+    const others = seeds.filter((seed) => agentsOf(begun(seed)) !== "0123"
+      || begun(seed).some(({ draws }) => draws > 0));
     assert.ok(others.length > 28 && others.length <= SEEDS / 4, `${others.length}`);
     assert.ok(others.every((seed) => seed % 4 === 2));
     assert.ok(new Set(others.map((seed) => agentsOf(begun(seed)))).size > 12);
@@ -83,7 +84,8 @@ export default function agent({ agent, buffers, args }) {
 
 describe("what depends on a late start", () => {
   for (const how of ["ordinary", "call"]) {
-    it(`is found after ${how === "call" ? "a call" : "an ordinary write"} of another agent, and made again`, async (context) => {
+    const act = how === "call" ? "a call" : "an ordinary write";
+    it(`is found after ${act} of another agent, and made again`, async (context) => {
       const module = join(temporaryFolder(context), "late.agents.mjs");
       writeFileSync(module, MODULE);
       const options = { module, args: [how], ordinary: /** @type {const} */ ("store") };

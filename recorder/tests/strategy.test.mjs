@@ -11,7 +11,6 @@ import { PHASE } from "../lib/memory/layout.mjs";
 import { FLAG } from "../lib/memory/log.mjs";
 import { OPTIONS } from "../lib/options/table.mjs";
 import { Pilots } from "../lib/run/pilots.mjs";
-import { Coverage } from "../lib/seeds/coverage.mjs";
 import { emptyMemory } from "./helpers/boards.mjs";
 import { logOf } from "./helpers/logs.mjs";
 
@@ -254,13 +253,4 @@ test("calls that threw show nothing of places, whatever their index was", () => 
   const pilots = new Pilots(1, new KnownPlaces(KnownPlaces.memory()));
   pilots.add(log);
   assert.deepEqual([...pilots.users.slice(0, 5)], [1, 1, 1, 1, 0]);
-});
-
-test("coverage is enough when 500 seeds in a row have shown nothing new", () => {
-  const coverage = new Coverage();
-  for (let seed = 1; seed <= 40; seed += 1) coverage.add({ seed, meetings: [`a > ${seed % 20}`] });
-  assert.deepEqual([coverage.pairs.size, coverage.last, coverage.row], [20, 20, 20]);
-  const enough = [];
-  for (let seed = 41; seed <= 600; seed += 1) if (coverage.add({ seed, meetings: [] })) enough.push(seed);
-  assert.equal(enough[0], 520);
 });

@@ -76,7 +76,7 @@ test("a summary reports failures first, and is the same in whatever order the ru
 test("if no run failed, the first line says how the runs ended", () => {
   assert.equal(linesOf(seeds(1, 200))[0], "200 runs: 200 finished");
   assert.equal(linesOf([outcome(5)])[0], "1 run: 1 finished");
-  const allowed = [...seeds(1, 197), ...seeds(198, 200, { ending: "bound", fails: false })];
+  const allowed = [...seeds(1, 197), ...seeds(198, 200, { ending: "limit", fails: false })];
   const lines = linesOf(allowed);
   assert.equal(lines[0], "200 runs: 197 finished, 3 limit met (allowed)");
   assert.ok(lines.includes("  3 runs limit met (allowed), seed 198 the first: 01"));
@@ -85,12 +85,12 @@ test("if no run failed, the first line says how the runs ended", () => {
 
 test("if all runs failed, the summary says that none has finished", () => {
   assert.equal(linesOf([outcome(5, { ending: "failed" })])[0], "1 of 1 run failed: 1 stopped");
-  const both = [outcome(1, { ending: "check" }), outcome(2, { ending: "bound", detail: "too much" })];
+  const both = [outcome(1, { ending: "check" }), outcome(2, { ending: "limit", detail: "too much" })];
   assert.equal(linesOf(both)[0], "2 of 2 runs failed: 1 check failed, 1 limit met");
 });
 
-test("bounds that are allowed stand behind the runs that finished, and those that fail before", () => {
-  const mixed = [outcome(1), outcome(2, { ending: "bound", fails: false }), outcome(3, { ending: "race" })];
+test("limits that are allowed stand behind the runs that finished, and those that fail before", () => {
+  const mixed = [outcome(1), outcome(2, { ending: "limit", fails: false }), outcome(3, { ending: "race" })];
   assert.equal(linesOf(mixed)[0], "1 of 3 runs failed: 1 race; 1 finished, 1 limit met (allowed)");
 });
 
@@ -145,7 +145,7 @@ test("a summary lists races that are allowed too, and races of runs that failed 
 test("a summary reports scripts that hold only a part, and runs without a script", () => {
   const holding = { scriptHolds: "touched" };
   const whole = { scriptHolds: "all" };
-  const none = { ending: "bound", detail: "it is too long", noScript: "it would have 2,000 calls" };
+  const none = { ending: "limit", detail: "it is too long", noScript: "it would have 2,000 calls" };
   const lines = linesOf([outcome(1, holding), outcome(2, holding), outcome(3, whole), outcome(4, none)]);
   assert.deepEqual(lines.slice(1, 4), [
     "first failing seed: 4, limit met", "  it is too long", "  it has no script: it would have 2,000 calls",
@@ -275,7 +275,6 @@ test("the object of a summary has all that its text has, and what the text leave
     },
     sabsim: { asked: true, versions: ["module 123"], checked: 1, judges: true },
     scripts: { parts: 0, none: { listed: [{ why: "it is too long", runs: 1, first: 4 }], others: 0 } },
-    coverage: null,
     calls: 17,
     accesses: 21,
     unseen: [],
@@ -295,7 +294,7 @@ test("the object of a summary has all that its text has, and what the text leave
   assert.deepEqual(lines.slice(-3), ["kept in found: seed-4.report", "not kept: this", ""]);
   const options = { ...SEEN, unrecorded: "fail", args: [], preloads: false };
   const asked = { module: "m.mjs", digest: "", seeds: [], shard: null, options };
-  assert.equal(whyNoSummary({ summary: 3, asked, seeds: [], ...data }), undefined);
+  assert.equal(whyNoSummary({ summary: 4, asked, seeds: [], ...data }), undefined);
 });
 
 /** Runs with races and states of which some come only after an early end of a timed wait. */
@@ -306,7 +305,8 @@ function earlyRuns() {
   return [
     raced(1, [one], "01", { onlyIf }), raced(2, [one], "01", { onlyIf }), raced(3, [both], "03", { onlyIf }),
     raced(4, [both], "03", { onlyIf }), raced(5, [other], "02"), raced(6, [both], "03"), outcome(7, { shown: ["07"] }),
-    ...[8, 9].map((seed) => thrown(seed, { message: ["agent 0 threw 1"], sources: [] }, "failed", { onlyIf, shown: ["08"] })),
+    ...[8, 9].map((seed) =>
+      thrown(seed, { message: ["agent 0 threw 1"], sources: [] }, "failed", { onlyIf, shown: ["08"] })),
     thrown(10, { message: ["agent 0 threw no"], sources: [] }, "failed", { shown: ["09"] }),
   ];
 }
@@ -365,7 +365,7 @@ test("failures are grouped by message and line, those of most runs first, with t
   const spin = { message: ["agent 1 spins at c.mjs:5:18: it goes on"], sources: ["c.mjs:5:18"] };
   const outcomes = [
     ...seeds(1, 4), thrown(9, inside(1)), thrown(8, inside(0)), thrown(10, other), thrown(11, check, "check"),
-    thrown(12, check, "check"), thrown(13, check, "check"), thrown(14, waits, "deadlock"), thrown(15, spin, "bound"),
+    thrown(12, check, "check"), thrown(13, check, "check"), thrown(14, waits, "deadlock"), thrown(15, spin, "limit"),
   ];
   const expected = [
     "8 of 12 runs failed: 1 deadlock, 3 threw, 3 check failed, 1 limit met; 4 finished",
@@ -433,7 +433,7 @@ function mixed(seed) {
   const early = { onlyIf: "only if 5 s pass" };
   if (draw < 3) return outcome(seed, { ending: "deadlock", detail: `seed ${seed}`, shown: [`d${draw}`], ...early });
   if (draw > 90) return thrown(seed, { message: [`agent 0 threw Error: ${seed}`], sources: [`a.mjs:${draw % 3}:1`] });
-  if (draw < 9) return outcome(seed, { ending: "bound", fails: false, noScript: `why ${draw % 2}` });
+  if (draw < 9) return outcome(seed, { ending: "limit", fails: false, noScript: `why ${draw % 2}` });
   const races = draw < 40 ? [race(`a.mjs:${draw % 5}:1`, "b.mjs:1:1"), race("c.mjs:1:1", "d.mjs:1:1")] : [];
   const shown = [`f${draw % 17}`];
   const onlyByTime = [{ agent: 0, line: "a.mjs:1:1", milliseconds: 5, block: 0, byte: draw }];

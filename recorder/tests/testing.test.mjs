@@ -111,7 +111,8 @@ test("a failing test shows seed, ending, its explained end, and where its files 
   assert.notEqual(from, -1, output);
   assert.deepEqual(lines.slice(from + 1, from + 4), [
     '  agent 0 waits at byte 4 of block 0: its call 19, ["wait", "Int32", 1, 0], at agents.mjs:12:60', "",
-    "Its last acts, as sabsim explains them (the move, the agent, how many of its calls had returned), and their lines:",
+    "Its last acts, as sabsim explains them (the move, the agent, how many of its calls had returned), "
+      + "and their lines:",
   ]);
   const end = lines.indexOf("", from + 4);
   assert.deepEqual(lines.slice(end - shown.length, end), shown.map((line) => `  ${line}`));
@@ -181,7 +182,8 @@ test("the failing test of a race marks its two accesses among the last acts, wit
   assert.ok(lines.some((line) => line.endsWith("and their lines; > marks two accesses that nothing orders:")));
   // The reporter shows a failure twice.
   const [read, write, ...more] = new Set(lines.filter((line) => line.startsWith("> ")));
-  assert.match(read, /^> - 1 \d+ read +reads slots\[0\], which is 10, without Atomics, at ring-frees-first\.mjs:43:17$/);
+  assert.match(read,
+    /^> - 1 \d+ read +reads slots\[0\], which is 10, without Atomics, at ring-frees-first\.mjs:43:17$/);
   assert.match(write, /^> \d+ 0 \d+ write +writes slots\[0\], without Atomics: .*, at ring-frees-first\.mjs:31:32$/);
   assert.deepEqual(more, []);
   const load = /^\d+ \d \d+ act .* load\(TAIL, 0\) .*, at ring-frees-first\.mjs:\d+:\d+$/;

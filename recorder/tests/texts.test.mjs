@@ -112,7 +112,8 @@ test("a schedule has 24 moves on a line, an end of a time among them", () => {
 test("a trace has a line for each event, however many there are, as JSON.stringify writes it", () => {
   const sources = [["", 'an "é".mjs:1:2'], ["", "b.mjs:3:4"]];
   const events = Array.from({ length: 2_500 }, (_, at) => ({
-    agent: at % 2, call: at % 999, block: at % 3, byte: at % 701, size: 1 + (at % 8), read: at % 5 > 0, write: at % 7 > 0,
+    agent: at % 2, call: at % 999, block: at % 3, byte: at % 701, size: 1 + (at % 8), read: at % 5 > 0,
+    write: at % 7 > 0,
     atomic: at % 4 > 1, waiters: at % 11 === 0, source: at % 6 > 2 ? 1 : 0,
   }));
   const lines = events.map(({ agent, call, block, byte, size, read, write, atomic, waiters, source }, event) => {

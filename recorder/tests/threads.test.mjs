@@ -173,7 +173,9 @@ export function main() {
   for (const thread of threads) thread.give(root);
   const [first, other, another] = await Promise.all(threads.map(async (thread) => (await thread.next()).message));
   const inNode = Number(stdout);
-  for (const depth of [first, another]) assert.ok(depth > 0.95 * inNode && depth < 1.2 * inNode, `${depth} and ${inNode}`);
+  for (const depth of [first, another]) {
+    assert.ok(depth > 0.95 * inNode && depth < 1.2 * inNode, `${depth} and ${inNode}`);
+  }
   assert.ok(other > 2 * first, `${other} and ${first}`);
 });
 

@@ -1,5 +1,5 @@
-// Runs with timed waits: in which order they end, what is reported of a run that fails only after an early end, and of a
-// lost wake-up that a time hides.
+// Runs with timed waits: in which order they end, what is reported of a run that fails only after an early end, and of
+// a lost wake-up that a time hides.
 
 import assert from "node:assert/strict";
 import { mkdtempSync, readFileSync, readdirSync, rmSync } from "node:fs";
@@ -146,7 +146,8 @@ describe("runs with timed waits", { concurrency: 2 }, () => {
       assert.deepEqual(endingsOf(outcomes), ["finished"]);
       const count = outcomes.filter(({ onlyByTime = [] }) => onlyByTime.length > 0).length;
       assert.ok(count > 0 && count < 50, `${count} runs`);
-      const line = `agent ${agent} went on at ${placeOf(text)} only because its 500 ms were over, in ${count} of 50 runs`;
+      const line = `agent ${agent} went on at ${placeOf(text)} only because its 500 ms were over, `
+        + `in ${count} of 50 runs`;
       assert.deepEqual(hiddenOf(outcomes), [line]);
     }
     const asleep = await outcomesOf("sleeps", 10);
@@ -216,7 +217,8 @@ describe("joined, kept and stopped", { concurrency: 2 }, () => {
 
   it("a test of agents fails by such a run, or by an early one if there is no other", async () => {
     const failed = async (args, seeds) => {
-      const options = { ...FEW_WORKERS, module: both.module, args, seeds, shorten: false, out: join(folder, `${args}`) };
+      const options = { ...FEW_WORKERS, module: both.module, args, seeds, shorten: false,
+        out: join(folder, `${args}`) };
       return assertAgents(options).then(() => assert.fail("none failed"), ({ message }) => message);
     };
     const message = await failed(["both"], "1..100");
@@ -244,7 +246,8 @@ describe("joined, kept and stopped", { concurrency: 2 }, () => {
   });
 
   it("the command line keeps the first one, by one job and by two", async () => {
-    const words = [both.module, "--seeds", "1..100", "--no-shorten", "--format", "json", "--agents", "2", "--everywhere"];
+    const words = [both.module, "--seeds", "1..100", "--no-shorten", "--format", "json", "--agents", "2",
+      "--everywhere"];
     const summaries = await Promise.all([1, 2].map(async (jobs) => {
       const out = join(folder, `jobs-${jobs}`);
       const more = ["--jobs", `${jobs}`, "--out", out, "--", "both"];

@@ -41,7 +41,8 @@ export default function agent({ buffers }: Given): void {
 `;
 
 /** What is a type in these files, and becomes spaces. */
-const TYPES = /^type .*|^  words: Words;$|: (?:Words|void|Given|Int32Array|\{ agents: number, buffers: number\[\] \})/gm;
+const OF_NAMES = String.raw`(?:Words|void|Given|Int32Array|\{ agents: number, buffers: number\[\] \})`;
+const TYPES = new RegExp(String.raw`^type .*|^  words: Words;$|: ${OF_NAMES}`, "gm");
 
 /** @param {string} code @returns {string} of the same length, without types */
 const stripped = (code) => code.replace(TYPES, (type) => " ".repeat(type.length));

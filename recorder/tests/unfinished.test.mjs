@@ -46,8 +46,10 @@ it("what comes after a promise from before is left too, where the run settles th
 const LINES = {
   "async function agent({ buffers }) {\n  call(buffers);\n  await 5;\n  call(buffers);\n}": "returned a promise, 3:3",
   "async function agent({ buffers }) {\n  call(buffers);\n}": "returned a promise, ",
-  "({ buffers }) => {\n  call(buffers);\n  return Promise.resolve(1)\n    .then(() => call(buffers));\n}": "returned a promise, 4:6",
-  "async function agent({ buffers }) {\n  for await (const buffer of buffers) call([buffer]);\n}": "returned a promise, 2:20",
+  "({ buffers }) => {\n  call(buffers);\n  return Promise.resolve(1)\n    .then(() => call(buffers));\n}":
+    "returned a promise, 4:6",
+  "async function agent({ buffers }) {\n  for await (const buffer of buffers) call([buffer]);\n}":
+    "returned a promise, 2:20",
   "({ buffers }) => {\n  call(buffers);\n  void later();\n}": "goes on later, by a promise, 6:3",
   "({ buffers }) => {\n  call(buffers);\n  void later();\n  call(buffers);\n}": "goes on later, by a promise, 7:3",
   "({ buffers }) => {\n  call(buffers);\n  queueMicrotask(\n    () => {});\n}": "goes on later, by queueMicrotask, 3:3",
@@ -56,13 +58,15 @@ const LINES = {
 it("the line of the code that goes on is in the message, and failures are counted by it", async (context) => {
   for (const [agent, said] of Object.entries(LINES)) {
     const module = join(temporaryFolder(context), "agents.mjs");
-    const others = "async function later() {\n  await null;\n}\nconst call = ([b]) => Atomics.add(new Int32Array(b), 0, 1);";
+    const others = "async function later() {\n  await null;\n}\n"
+      + "const call = ([b]) => Atomics.add(new Int32Array(b), 0, 1);";
     writeFileSync(module, `export default ${agent}\n${others}\n`);
     const { ending, detail, failure } = await record({ module, agents: 1, buffers: [4], sabsim: false });
     const [, what, at] = /^(.*), ([\d:]*)$/.exec(said);
     const place = at === "" ? [] : [`agents.mjs:${at}`];
     const message = `agent 0 ${what}, but an agent must be synchronous`;
-    assert.deepEqual([ending, detail], ["failed", [message, ...place.map((each) => `    at ${each}`)].join("\n")], agent);
+    assert.deepEqual([ending, detail], ["failed", [message, ...place.map((each) => `    at ${each}`)].join("\n")],
+      agent);
     assert.deepEqual(failure, { message: [message], sources: place });
   }
 });

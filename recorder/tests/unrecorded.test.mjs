@@ -110,7 +110,8 @@ describe("shared memory that isn't recorded", SIDE_BY_SIDE, () => {
   test("in agents that each have a lock of their own is no race of what they lock", async () => {
     const { ending, detail, races } = await outcomeOf("lock", { agents: 2 });
     assert.deepEqual([ending, races], ["failed", []]);
-    const lines = detail.split("\n").map((line) => /^agent (\d) uses a SharedArrayBuffer of its own, made at /.exec(line)[1]);
+    const lines = detail.split("\n")
+      .map((line) => /^agent (\d) uses a SharedArrayBuffer of its own, made at /.exec(line)[1]);
     assert.deepEqual(lines, ["0", "1"]);
   });
 
@@ -125,7 +126,8 @@ describe("shared memory that isn't recorded", SIDE_BY_SIDE, () => {
       assert.match(allowed.unrecorded[0], /^(a|another) .*, (made at|by .* at) unrecorded\.mjs:\d+:\d+$/);
       const lines = summaryLines([allowed], { unrecorded: "allow" });
       assert.deepEqual(lines.slice(1, 3), [
-        "agents used what isn't recorded, which is allowed: 1 run", `  seed 1 the first, 1 run: ${allowed.unrecorded[0]}`,
+        "agents used what isn't recorded, which is allowed: 1 run",
+        `  seed 1 the first, 1 run: ${allowed.unrecorded[0]}`,
       ]);
     });
   }
@@ -154,12 +156,13 @@ describe("recorded memory in another thread is refused, whatever is done with or
   }
 });
 
-test("a test of agents fails at once where an agent would wait on memory of its own, and shows no acts", async (context) => {
+test("a test of agents fails at once where an agent would wait on its own memory, without acts", async (context) => {
   const out = temporaryFolder(context);
   const options = { module: MODULE, agents: 1, buffers: [16], args: ["waits"], seeds: 3, seconds: 600, out };
   const start = Date.now();
   await assert.rejects(assertAgents(options), ({ message }) => {
-    assert.match(message, /^seed 1: stopped\n {2}agent 0 would wait at unrecorded\.mjs:\d+:\d+ on a SharedArrayBuffer /);
+    assert.match(message,
+      /^seed 1: stopped\n {2}agent 0 would wait at unrecorded\.mjs:\d+:\d+ on a SharedArrayBuffer /);
     assert.match(message, /\n\nnot kept: seed-1\.json: agents did what nobody saw$/);
     assert.ok(!message.includes("Its last acts"), message);
     return true;
@@ -177,14 +180,16 @@ test("`init` and `check` of a module can't give recorded memory to a Worker eith
       const options = { module, agents: 1, buffers: [4], sabsim: CHECKER, unrecorded: "allow", ordinary };
       const { ending: is, detail } = await record(options);
       assert.equal(is, ending, detail);
-      assert.match(detail, new RegExp(`^${name} threw Error: a new Worker was given recorded memory, [^]*agents\\.mjs:2:`));
+      assert.match(detail,
+        new RegExp(`^${name} threw Error: a new Worker was given recorded memory, [^]*agents\\.mjs:2:`));
     }
   }
 });
 
 /** @type {(what: string, line: number) => RegExp} */
 const abroad = (what, line) =>
-  new RegExp(`^agent 0 .* another thread, by ${what} at unrecorded\\.mjs:${line}:\\d+: nobody sees what that thread does; `);
+  new RegExp(`^agent 0 .* another thread, by ${what} at unrecorded\\.mjs:${line}:\\d+: `
+    + "nobody sees what that thread does; ");
 
 /** @type {(what: string, way: string, off?: number) => RegExp} */
 const untaken = (what, way, off = 0) =>
@@ -233,7 +238,8 @@ describe("what other threads and messages do", SIDE_BY_SIDE, () => {
       for (const unrecorded of ["fail", "allow"]) {
         const { ending, detail } = await record({ module, agents: 1, buffers: [4], sabsim: CHECKER, unrecorded });
         assert.equal(ending, "failed", detail);
-        assert.match(detail, new RegExp(`^agent 0 calls ${what} at agents\\.mjs:2:\\d+, but nobody takes its messages`));
+        assert.match(detail,
+          new RegExp(`^agent 0 calls ${what} at agents\\.mjs:2:\\d+, but nobody takes its messages`));
       }
     });
   }

@@ -171,7 +171,8 @@ describe("a script that is full of views", () => {
         if (reads === "reads") words.at(1);
       };
     `);
-    const [[named], [unnamed]] = await Promise.all([[], ["reads"]].map((args) => recorded({ module, args, agents: 1 })));
+    const both = [[], ["reads"]].map((args) => recorded({ module, args, agents: 1 }));
+    const [[named], [unnamed]] = await Promise.all(both);
     assert.deepEqual(namesOf(named), Object.keys(names));
     assert.deepEqual(namesOf(unnamed), ["Int32", EMPTY.name]);
   });

@@ -36,7 +36,8 @@ test("a value is written as JavaScript writes it, whatever its kind", () => {
   const cases = [
     [Float64Array, 0.25, "0.25"], [Float64Array, -0, "-0"], [Float64Array, NaN, "NaN"], [Float32Array, 0.5, "0.5"],
     [Float64Array, -1.7976931348623157e308, "-1.7976931348623157e+308"], [Int8Array, -3, "-3"],
-    [Uint8ClampedArray, 300, "255"], [BigInt64Array, -5n, "-5n"], [BigUint64Array, 2n ** 64n - 1n, `${2n ** 64n - 1n}n`],
+    [Uint8ClampedArray, 300, "255"], [BigInt64Array, -5n, "-5n"],
+    [BigUint64Array, 2n ** 64n - 1n, `${2n ** 64n - 1n}n`],
   ];
   for (const [Kind, value, text] of cases) {
     assert.equal(elementText(Kind.name.replace("Array", ""), bytesOf(Kind, value)), text);
@@ -67,7 +68,8 @@ test("a store that stands for an ordinary write shows the array and the value of
   const view = (name, kind, offset = 0, length = 4) => ({ name, kind, block: 0, offset, length });
   const list = [
     view("samples", "Float64", 8), view("ordinary_samples", "BigUint64", 8), view("LAST", "Float32", 0, 1),
-    view("init_LAST", "Uint32", 0, 1), view("ordinary_Float64_b1", "BigUint64"), view("ordinary_BigUint64", "BigUint64"),
+    view("init_LAST", "Uint32", 0, 1), view("ordinary_Float64_b1", "BigUint64"),
+    view("ordinary_BigUint64", "BigUint64"),
     view("ordinary_Int8", "Int8"), view("ordinary_odd", "Uint8"), view("odd", "Int32"),
   ];
   const views = new Map(list.map((each) => [each.name, each]));
@@ -103,11 +105,13 @@ test("a test that fails, and --replay, have the values of the code", async (cont
   const module = join(folder, "ring.mjs");
   writeFileSync(module, readFileSync(RING, "utf8"));
   const out = join(folder, "found");
-  await assert.rejects(assertAgents({ module, ...SMALL, seeds: "1..40", strategy: "uniform", out, jobs: 1 }), ({ message }) => {
+  const given = { module, ...SMALL, seeds: "1..40", strategy: "uniform", out, jobs: 1 };
+  await assert.rejects(assertAgents(given), ({ message }) => {
     const [, acts] = message.split("Its last acts");
     assert.match(acts, /^[ >]+\d+ 0 \d+ write +writes samples\[[01]\], .+ from [\d.]+ to \d\.25, at .+$/m);
     assert.doesNotMatch(message, /ordinary_|\d{12}n/);
-    assert.match(message, /\nin seed-\d+\.explained and seed-\d+\.svg a float [^\n]+ is the whole number with the same bits$/);
+    assert.match(message,
+      /\nin seed-\d+\.explained and seed-\d+\.svg a float [^\n]+ is the whole number with the same bits$/);
     return true;
   });
   const [, seed] = /seed-(\d+)\.html/.exec(readdirSync(out).join());
@@ -178,12 +182,13 @@ test("what an ordinary read has read is in no trace: sabsim's judge takes no suc
   assert.deepEqual(accesses.made.map(([event]) => event), ordinary.map(({ event }) => event));
 });
 
-test("the headline of a page and its timeline name an element in the same way, with names and without", async (context) => {
+test("the headline of a page and its timeline name an element alike, with names and without", async (context) => {
   const code = readFileSync(RING, "utf8");
   const nameless = join(temporaryFolder(context), "ring.mjs");
   writeFileSync(nameless, code.replace(/, names: .*\} \};/, " };"));
   for (const names of [true, false]) {
-    const { outcome: { detail, races: [{ sides }] }, run } = await ringRun("race", names ? undefined : { module: nameless });
+    const { outcome: { detail, races: [{ sides }] }, run } = await ringRun("race",
+      names ? undefined : { module: nameless });
     const name = names ? "samples" : "Float64_at8";
     for (const [at, step] of run.racing[0].map((index) => run.steps[index]).entries()) {
       assert.match(sides[at].element, new RegExp(`^${name}\\[[01]\\]$`));
@@ -320,8 +325,9 @@ test("a kept page says its module, options and versions, and its command makes t
   assert.equal(made.status, 1, made.stderr);
   const name = readdirSync(join(folder, "found")).find((each) => each.endsWith(".html"));
   // The explained report has bits there. A line beside the kept files says so.
-  assert.match(made.stdout, new RegExp("\\nin seed-(\\d+)\\.explained and seed-\\1\\.svg a float that was written without " +
-    "Atomics is the whole number with the same bits\\n$"));
+  const said = "\\nin seed-(\\d+)\\.explained and seed-\\1\\.svg a float that was written without "
+    + "Atomics is the whole number with the same bits\\n$";
+  assert.match(made.stdout, new RegExp(said));
   const { about, command, seed } = dataOf(join(folder, "found", name));
   assert.deepEqual([about.module, about.options], ["src/ring.mjs", "--strategy uniform --timeouts 0.5"]);
   const { version } = JSON.parse(readFileSync(new URL("../../package.json", import.meta.url), "utf8"));

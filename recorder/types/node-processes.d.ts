@@ -25,10 +25,12 @@ declare module "node:child_process" {
     windowsHide: boolean;
   }
   interface SyncOptions {
-    input: string;
+    input?: string;
     encoding: "utf8";
-    maxBuffer: number;
-    timeout: number;
+    env?: Record<string, string | undefined>;
+    maxBuffer?: number;
+    stdio?: string[];
+    timeout?: number;
   }
   interface SyncEnd {
     error?: Error;
@@ -41,6 +43,7 @@ declare module "node:child_process" {
   export function fork(program: string, words: string[], options: ForkOptions): Child;
   export function spawn(program: string, words: string[], options: { stdio: "inherit" }): Child;
   export function spawn(program: string, words: string[], options: PipedOptions): PipedChild;
+  export function execFileSync(program: string, words: string[], options: object): unknown;
   export function spawnSync(program: string, words: string[], options: SyncOptions): SyncEnd;
   const all: object;
   export default all;

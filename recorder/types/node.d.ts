@@ -49,6 +49,7 @@ declare namespace NodeJS {
     readonly features: Record<string, unknown>;
     readonly platform: string;
     readonly argv: string[];
+    readonly execPath: string;
     readonly execArgv: string[];
     readonly env: Record<string, string | undefined>;
     readonly pid: number;
@@ -103,7 +104,10 @@ declare class Buffer extends Uint8Array {
   write(text: string, encoding?: string): number;
 }
 
-interface URL { readonly href: string }
+interface URL {
+  readonly href: string;
+  readonly pathname: string;
+}
 
 declare var URL: { readonly prototype: URL; new (url: string, base?: string | URL): URL };
 
@@ -225,6 +229,7 @@ declare module "node:fs" {
   export function existsSync(path: string | URL): boolean;
   export function lstatSync(path: string): Stats;
   export function mkdtempSync(prefix: string): string;
+  export function readdirSync(path: string | URL): string[];
   export function mkdirSync(path: string, options?: { recursive: true; mode?: number }): void;
   export function openSync(path: string, flags?: string): number;
   export function readFileSync(file: string | URL | number, encoding: "base64" | "latin1" | "utf8"): string;
@@ -332,12 +337,13 @@ declare module "node:util" {
   interface Option {
     type: "string" | "boolean";
     multiple?: boolean;
+    default?: string;
   }
   interface Words {
-    args: string[];
+    args?: string[];
     options: Record<string, Option>;
-    allowPositionals: boolean;
-    strict: boolean;
+    allowPositionals?: boolean;
+    strict?: boolean;
     tokens?: boolean;
   }
   interface Token {

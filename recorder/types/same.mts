@@ -11,7 +11,9 @@ import * as again from "../lib/seeds/first-again.mjs";
 import * as native from "../lib/simulator/native.mjs";
 import * as declaredTesting from "../testing.mjs";
 import * as writtenTesting from "../lib/suite/tests.mjs";
-import type { ExploreOptions, ProgramTrialOptions, TrialOptions, WithBuffers } from "../lib/library/library-options.mjs";
+import type {
+  ExploreOptions, ProgramTrialOptions, TrialOptions, WithBuffers,
+} from "../lib/library/library-options.mjs";
 import type { Ending } from "../lib/run/outcome.mjs";
 import type { Side, RaceReport } from "../lib/run/findings.mjs";
 import type { Shortened } from "../lib/shorter/shorten.mjs";
@@ -47,7 +49,8 @@ export type Held = [
   Holds<Same<keyof declared.NoSabsim, keyof native.NoSabsim>>,
   Holds<Same<ConstructorParameters<typeof declared.LostJob>, ConstructorParameters<typeof remote.LostJob>>>,
   Holds<Same<ConstructorParameters<typeof declared.KeepsGlobals>, ConstructorParameters<typeof again.KeepsGlobals>>>,
-  Holds<Same<keyof typeof declared, "Difference" | "KeepsGlobals" | "LostJob" | "NoSabsim" | "NotAsLearned" | "Refused" | "everySchedule" | "explore" | "record">>,
+  Holds<Same<keyof typeof declared, "Difference" | "KeepsGlobals" | "LostJob" | "NoSabsim" | "NotAsLearned"
+    | "Refused" | "everySchedule" | "explore" | "record">>,
 ];
 
 export const record: typeof declared.record = recording.record;

@@ -1,5 +1,6 @@
 // The commands of README.md, CONTRIBUTING.md, recorder/README.md and docs/RECORDER.md. Each is run in a copy of the
-// repository, and prints what the document shows below it. If one is never run, the reason or another test is named here.
+// repository, and prints what the document shows below it. If one is never run, the reason or another test is named
+// here.
 
 import assert from "node:assert/strict";
 import { spawnSync } from "node:child_process";
@@ -45,9 +46,11 @@ const COMMANDS = [
   ["node recorder/sabsim.mjs replay --format explained --acts script.json", { status: 0 }],
   ["node recorder/record.mjs counter.agents.mjs --replay script.json --out found", { status: 1 }],
   ["npm pack", { by: INSTALLS, words: '"npm", ["pack",' }],
-  ["npm install ./sabsim-0.1.0.tgz", { by: "tests/install/installed.mjs", words: '"--no-fund", `./sabsim-${version}.tgz`' }],
+  ["npm install ./sabsim-0.1.0.tgz",
+    { by: "tests/install/installed.mjs", words: '"--no-fund", `./sabsim-${version}.tgz`' }],
   ["node --test", { by: INSTALLS, words: '"node", ["--test", "--test-reporter=tap", "readme.mjs"]' }],
-  ["npx sabsim-record --program some.test.mjs", { notRun: "recorder/tests/program-node-test.test.mjs runs such files" }],
+  ["npx sabsim-record --program some.test.mjs",
+    { notRun: "recorder/tests/program-node-test.test.mjs runs such files" }],
   ["npm test", { notRun: "tests/recorder runs the same tests" }],
   ["npm test -- nearest strategy", { status: 0 }],
   ["npm test -- --unit", { notRun: "npm test runs these tests, and refuses them threads and processes" }],
@@ -59,6 +62,7 @@ const COMMANDS = [
   ["node recorder/sabsim.mjs judge --trace found/seed-3.trace.jsonl", { status: 5 }],
   ["node --test recorder/tests/nearest.test.mjs", { status: 0 }],
   ["SABSIM=crates/sabsim/out/sabsim node --test recorder/tests/traces.test.mjs", { status: 0, ...built }],
+  ["node --test tests/docs/lines.test.mjs", { status: 0 }],
   ["cd crates/sab_refusal && rt check", PROVES],
   ["cd crates/sab_refusal && rt check --only ReadFault::number", PROVES],
   ["tools/edits sab_refusal", PROVES],
@@ -66,7 +70,8 @@ const COMMANDS = [
   ["tools/release .", { by: "tests/docs/release.test.mjs", words: '"tools/release"), [folder]' }],
   ["rt doc", { status: 0, ...withKit }],
   ["rt version", { status: 0, ...withKit }],
-  ["node recorder/bench/turns.mjs HEAD~1", { by: "recorder/tests/bench.test.mjs", words: 'turns("HEAD", "mutex-naive", ' }],
+  ["node recorder/bench/turns.mjs HEAD~1",
+    { by: "recorder/tests/bench.test.mjs", words: 'turns("HEAD", "mutex-naive", ' }],
   ["./build", { by: "tests/build", words: "building\n" }],
   ["./build --package", { by: "tests/build", words: "building --package --jobs 1\n" }],
   ["./check", RUNS_THIS],

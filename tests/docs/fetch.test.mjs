@@ -23,13 +23,15 @@ function fetched(context, says, names = ["sqlite", "sqlite-now"]) {
   writeFileSync(join(folder, "apt-get"), `#!/bin/sh\necho "E: ${says}" >&2\nexit 100\n`, { mode: 0o755 });
   const into = join(folder, "published");
   mkdirSync(into);
-  const env = { ...process.env, SABSIM_PUBLISHED: into, PATH: `${folder}${delimiter}${dirname(process.execPath)}:/usr/bin:/bin` };
+  const env = { ...process.env, SABSIM_PUBLISHED: into,
+    PATH: `${folder}${delimiter}${dirname(process.execPath)}:/usr/bin:/bin` };
   const { status, stdout, stderr } = spawnSync(process.execPath, [FETCH, ...names], { env, encoding: "utf8" });
   const left = readdirSync(into).flatMap((name) => readdirSync(join(into, name)));
   return { status, stdout, stderr, left };
 }
 
-for (const says of ["You must put some 'deb-src' URIs in your sources.list", "Unable to find a source package for sqlite3"]) {
+const LACKS = ["You must put some 'deb-src' URIs in your sources.list", "Unable to find a source package for sqlite3"];
+for (const says of LACKS) {
   test(`without sources it names the lines to add: ${says}`, (context) => {
     const { status, stdout, stderr, left } = fetched(context, says);
     assert.equal(status, 1);

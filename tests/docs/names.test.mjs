@@ -105,7 +105,8 @@ for (const path of [...DOCUMENTS, "recorder/examples/README.md"]) {
 }
 
 test("fragments are made of headings as GitHub makes them", () => {
-  const headings = ["# The map", "## The package, `./check` and the tests", "## Agents", "### Agents", "## It can't be [so](x)"];
+  const headings = ["# The map", "## The package, `./check` and the tests", "## Agents", "### Agents",
+    "## It can't be [so](x)"];
   const text = headings.join("\ntext\n    $ #no\n");
   const fragments = ["the-map", "the-package-check-and-the-tests", "agents", "agents-1", "it-cant-be-so"];
   assert.deepEqual(fragmentsOf(text), fragments);

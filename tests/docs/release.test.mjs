@@ -1,4 +1,5 @@
-// tools/release (CONTRIBUTING.md), in a clone of its own: it names whatever speaks against a release, and makes nothing.
+// tools/release (CONTRIBUTING.md), in a clone of its own: it names whatever speaks against a release, and makes
+// nothing.
 
 import assert from "node:assert/strict";
 import { spawnSync } from "node:child_process";

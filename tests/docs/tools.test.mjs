@@ -19,7 +19,8 @@ const PYTHON = spawnSync("python3", ["-c", "import sys; print(sys.executable)"],
 const APT_GET = `#!/bin/sh
 echo "$*" >> "$CALLS"
 case "$*" in
-*indextargets*--no-release-info*) echo 'http://mirror/debian/ bookworm main'; echo 'http://elsewhere/other nodistro main' ;;
+*indextargets*--no-release-info*)
+    echo 'http://mirror/debian/ bookworm main'; echo 'http://elsewhere/other nodistro main' ;;
 *--print-uris*) echo "'http://mirror/a.deb' node-typescript_1%3a\${VERSION}_all.deb 100 SHA256:00"
     echo "'http://mirror/b.deb' libc6_2.0_amd64.deb 100 SHA256:00" ;;
 *download*) touch "node-typescript_1%3a\${VERSION}_all.deb" ;;
@@ -147,7 +148,8 @@ test("without apt-get it says that the tools come from Debian; an unknown part i
   assert.equal(stderr, `not fetched: types (tsc): ${why}\n`);
   const unknown = fetch(["type"]);
   assert.equal(unknown.status, 2);
-  assert.match(unknown.stderr, /there is no part type: it is one of types, runners, pictures, browsers, slurm, parallel, binaryen, node/);
+  assert.match(unknown.stderr,
+    /there is no part type: it is one of types, runners, pictures, browsers, slurm, parallel, binaryen, node/);
 });
 
 /** A folder of tools with a part of one program. @param {import("node:test").TestContext} context */

@@ -22,7 +22,8 @@ const withCompiler = needing("tsc", spawnSync("tsc", ["--version"]).status === 0
 
 /** What a summary says about runs that the module has checked. */
 const CHECKED =
-  /^every run was replayed and judged by the simulator \(WebAssembly module\), except exact repeats: it agrees with the recorder$/m;
+  new RegExp("^every run was replayed and judged by the simulator \\(WebAssembly module\\), except exact repeats: "
+    + "it agrees with the recorder$", "m");
 
 const npx = (folder, words, input) => run(folder, "npx", ["--no-install", ...words], input);
 

@@ -1,6 +1,6 @@
-// Uses `sabsim/test` of the installed package in node's own test runner, in mocha, in jest and in ava: by the lines that
-// the guide shows, as ES modules and as CommonJS, with a lock that is right and with one that is wrong. `tools/fetch
-// runners` fetches the runners.
+// Uses `sabsim/test` of the installed package in node's own test runner, in mocha, in jest and in ava: by the lines
+// that the guide shows, as ES modules and as CommonJS, with a lock that is right and with one that is wrong.
+// `tools/fetch runners` fetches the runners.
 
 import assert from "node:assert/strict";
 import {

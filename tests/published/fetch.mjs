@@ -3,8 +3,8 @@
 // usage: node tests/published/fetch.mjs [NAME ..]
 //
 // Debian's packages come by apt-get. Its sources need lines for `deb-src` in apt's own list, for bookworm and sid. What
-// is larger than 100 MB is fetched only if it is named. TypeScript needs tsc. What can't be fetched is reported, and the
-// status is 1 then.
+// is larger than 100 MB is fetched only if it is named. TypeScript needs tsc. What can't be fetched is reported, and
+// the status is 1 then.
 
 import { NotFetched, fetchSource } from "./fetching.mjs";
 import { productsOf } from "./table.mjs";

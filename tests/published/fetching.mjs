@@ -132,7 +132,8 @@ const FETCH = {
     const { name, files, strip = 0 } = source;
     downloadPackages((name ?? "").split(" "), room);
     const words = ["-C", into, `--strip-components=${strip}`, ...files];
-    run("sh", ["-c", `for deb in *.deb; do dpkg-deb --fsys-tarfile "$deb" | tar x "$@" || exit; done`, "sh", ...words], room);
+    run("sh", ["-c", `for deb in *.deb; do dpkg-deb --fsys-tarfile "$deb" | tar x "$@" || exit; done`, "sh", ...words],
+      room);
     finish(source, into);
   },
   source: (source, into, room) => {

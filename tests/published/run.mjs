@@ -3,9 +3,9 @@
 // usage: npm run published [-- NAME ..]
 //
 // A program fails here if a run of a right one fails, if the known bug of another isn't found, or if a run fails by
-// anything else. A test of an engine's fails if it isn't as engines/table.mjs has it. What isn't fetched is skipped, and
-// mended code of node's, if this node has it mended itself. Tests that don't pass for a known reason aren't counted. The
-// last line is `N passed, M failed`. The status is 0 if none failed.
+// anything else. A test of an engine's fails if it isn't as engines/table.mjs has it. What isn't fetched is skipped,
+// and mended code of node's, if this node has it mended itself. Tests that don't pass for a known reason aren't
+// counted. The last line is `N passed, M failed`. The status is 0 if none failed.
 
 import { spawnSync } from "node:child_process";
 import { dirname } from "node:path";

@@ -1,5 +1,5 @@
-"""Debian's packages, by apt-get with lists and archives in a folder of their own. Nothing of this machine is changed, and
-nobody has to be root."""
+"""Debian's packages, by apt-get with lists and archives in a folder of their own. Nothing of this machine is changed,
+and nobody has to be root."""
 import os
 import re
 import shutil

@@ -93,7 +93,7 @@ def part_task(part, tasks, tally):
 
 
 def run_part(part, tally):
-    """Runs a part, counts what it counted, and shows what it printed if something failed."""
+    """Runs a part, counts what it counted, and shows what it printed if something failed, also if only at first."""
     begun = time.monotonic()
     with tempfile.TemporaryFile("w+", errors="replace") as out:
         how = {"stdin": subprocess.DEVNULL, "stdout": out, "stderr": subprocess.STDOUT}
@@ -104,7 +104,8 @@ def run_part(part, tally):
     said = said_by(text)
     why = why_bad(said, status)
     is_well = not said.failed and not why
-    shown = text.rpartition("\n")[2] if is_well else f"{text}\n{why}".rstrip("\n")
+    is_brief = is_well and not said.second
+    shown = text.rpartition("\n")[2] if is_brief else f"{text}\n{why}".rstrip("\n")
     tally.say(f"== {part.name}, {time.monotonic() - begun:.0f} s: {shown}")
     tally.add(said.passed, [] if is_well else [f"{part.name}: {why or f'{said.failed} failed'}"])
     tally.add_left_out(said.left_out, said.second)

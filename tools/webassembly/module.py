@@ -10,9 +10,11 @@ HERE = os.path.dirname(os.path.realpath(__file__))
 CLANG, ARCHIVER = f"{rtlib.KIT}/toolchain/bin/clang", f"{rtlib.KIT}/toolchain/bin/llvm-ar"
 LINKER = f"{rtlib.KIT}/bin/rattle-link"
 TARGET = "wasm64-unknown-unknown"
-# As the kit compiles for this target, but with vectors: those of the code itself, as in its reader of JSON, and no others.
+# As the kit compiles for this target, but with vectors: those of the code itself, as in its reader of JSON, and no
+# others.
 FLAGS = f"""--target={TARGET} -mcpu=lime1 -msimd128 -fno-vectorize -fno-slp-vectorize
--mllvm -expand-div-rem-bits=64 -mllvm -expand-fp-convert-bits=64 -ffunction-sections -fdata-sections -mllvm -trap-unreachable -mllvm -disable-machine-licm
+-mllvm -expand-div-rem-bits=64 -mllvm -expand-fp-convert-bits=64 -ffunction-sections -fdata-sections
+-mllvm -trap-unreachable -mllvm -disable-machine-licm
 -mllvm -disable-postra-machine-licm -mllvm -sink-common-insts=false --no-default-config -no-canonical-prefixes
 -fno-crash-diagnostics -Werror""".split()
 # Nothing of a C library is there, so no loop is made into a call of it.

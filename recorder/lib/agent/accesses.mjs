@@ -80,7 +80,12 @@ export class Accesses {
     return NOTED.YES;
   }
 
-  /** @param {number} block @param {number} from @param {number} to @returns {boolean} whether an access there notes its line */
+  /**
+   * @param {number} block
+   * @param {number} from
+   * @param {number} to
+   * @returns {boolean} whether an access there notes its line
+   */
   #notesLine(block, from, to) {
     const { board: { noted, words } } = this.table;
     if (words[WORD.LINES_LEFT] === 0) return noted.has(block, from, to);

@@ -8,12 +8,15 @@ const { Error: EngineError, String: text } = globalThis;
 const includes = uncurried(String.prototype.includes);
 const plainTitle = uncurried(Error.prototype.toString);
 
+/** What can't be put into words. */
+export const NOT_SHOWN = "a value that can't be shown";
+
 /**
  * An error's title as its own `toString` returns it, or as the engine does if the agents' code has broken that.
  * @param {Error} error
  * @returns {string}
  */
-function titleOf(error) {
+export function titleOf(error) {
   const plain = plainTitle(error);
   try {
     const own = text(error);
@@ -71,6 +74,6 @@ export function described(thrown, depth = 0) {
     const whole = includes(stack, title) ? stack : `${title}\n${stack}`;
     return `${stack === "" ? title : whole}${causeOf(thrown, depth)}`;
   } catch {
-    return "a value that can't be shown";
+    return NOT_SHOWN;
   }
 }

@@ -35,19 +35,36 @@ const sites = (_error, frames) => frames;
  * @returns {NodeJS.CallSite[]}
  */
 export function framesHere(from = framesHere, most = MOST_FRAMES) {
-  const { stackTraceLimit, prepareStackTrace } = EngineError;
+  return framesIn(stackHere(from, most));
+}
+
+/** @typedef {{ stack?: any }} Stack frames that the engine has kept: what shows them is made when it is asked for */
+
+/** @param {Function} from as above @param {number} most @returns {Stack} */
+function stackHere(from, most) {
+  const { stackTraceLimit } = EngineError;
+  /** @type {Stack} */
+  const holder = {};
   try {
-    // Neither throws if the agents' code has made them constant: then no frames are known.
+    // It doesn't throw if the agents' code has made it constant: then no frames are known.
     set(EngineError, "stackTraceLimit", most);
-    set(EngineError, "prepareStackTrace", sites);
-    /** @type {{ stack?: any }} */
-    const holder = {};
     captureStackTrace(holder, from);
-    const { stack } = holder;
-    return typeof stack === "object" ? stack : [];
   } finally {
     // If the stack has run out, nothing can be called.
     if (EngineError.stackTraceLimit !== stackTraceLimit) EngineError.stackTraceLimit = stackTraceLimit;
+  }
+  return holder;
+}
+
+/** @param {Stack} holder @returns {NodeJS.CallSite[]} */
+function framesIn(holder) {
+  const { prepareStackTrace } = EngineError;
+  try {
+    // The same as above.
+    set(EngineError, "prepareStackTrace", sites);
+    const { stack } = holder;
+    return typeof stack === "object" ? stack : [];
+  } finally {
     if (EngineError.prepareStackTrace !== prepareStackTrace) EngineError.prepareStackTrace = prepareStackTrace;
   }
 }
@@ -144,6 +161,26 @@ export const sourceHere = () => placeOf(agentsFrame(sourceHere));
 
 /** @returns {string | undefined} the same, of code that makes no ordinary access now: that takes half the time */
 export const sourceOfCall = () => placeOf(farFrame(sourceOfCall));
+
+/** @typedef {() => string | undefined} Later finds a place of the agent's own code when it is called */
+
+/**
+ * The same place, found later: that takes most of the time. As a rule the agent's frame is near the one of what its
+ * code has called.
+ * @param {Function} called the frames above its own are left out
+ * @param {number} [near] how many frames are looked at now
+ * @returns {Later}
+ */
+export function sourceLater(called, near = FEW_FRAMES) {
+  const frame = firstOfAgents(framesHere(called, near));
+  const stack = frame === undefined ? stackHere(sourceLater, MOST_FRAMES) : {};
+  /** @type {string | undefined} */
+  let place;
+  return () => {
+    place ??= placeOf(frame ?? firstOfAgents(framesIn(stack)));
+    return place;
+  };
+}
 
 /**
  * Whether the agents' code has called a function, perhaps by functions of the recorder, and not node.

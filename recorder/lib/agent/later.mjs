@@ -39,7 +39,8 @@ const LISTENERS = Object.freeze({
   type: "TickObject", file: "node:internal/event_target", throwing: "emitUncaughtException",
 });
 
-// Node loads some of its own modules when they are asked for first. What their code does then is nothing of the agent's.
+// Node loads some of its own modules when they are asked for first. What their code does then is nothing of the
+// agent's.
 const LOADING = "node:internal/bootstrap/realm";
 
 // The frames of this file come before those of its caller.

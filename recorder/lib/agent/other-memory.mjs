@@ -1,14 +1,17 @@
 // Shared memory that the agents' code makes itself. The place where it makes some is remembered, so that a message can
 // say so.
 
-import { apply, construct, getOwnPropertyDescriptor, proxyOf, put, uncurried, weakGet, weakSet } from "../primordials.mjs";
+import {
+  apply, construct, getOwnPropertyDescriptor, proxyOf, put, uncurried, weakGet, weakSet,
+} from "../primordials.mjs";
 import { isCalledByAgents, sourceHere } from "./frames.mjs";
 import { Unseen } from "./unseen.mjs";
 
 const { WeakMap: EngineWeakMap, Object: EngineObject } = globalThis;
 const { values } = EngineObject;
 const EngineMemory = WebAssembly.Memory;
-const { get: bufferGetter } = /** @type {{ get: Function }} */ (getOwnPropertyDescriptor(EngineMemory.prototype, "buffer"));
+const ofBuffer = /** @type {{ get: Function }} */ (getOwnPropertyDescriptor(EngineMemory.prototype, "buffer"));
+const { get: bufferGetter } = ofBuffer;
 const memoryBuffer = uncurried(bufferGetter);
 const growable = getOwnPropertyDescriptor(SharedArrayBuffer.prototype, "growable")?.get;
 /** @type {(buffer: object) => unknown} older engines have none that grow */

@@ -147,25 +147,25 @@ export class Part {
   meetsMostCalls() {
     const { calls } = SCRIPT_LIMITS;
     if (this.table.records.endsAlike(this.made)) this.spins(`it has made ${calls} calls, and goes on`);
-    return this.bound(`agent ${this.agent} has made ${calls} calls, and goes on${whereText()}`, false);
+    return this.endAtLimit(`agent ${this.agent} has made ${calls} calls, and goes on${whereText()}`, false);
   }
 
   /** @param {string} what it does again and again @returns {never} */
   spins(what) {
-    return this.bound(`agent ${this.agent} spins${whereText()}: ${what}`, true);
+    return this.endAtLimit(`agent ${this.agent} spins${whereText()}: ${what}`, true);
   }
 
   /** @param {string} detail @param {boolean} spins whether the agent does the same again and again @returns {never} */
-  bound(detail, spins) {
+  endAtLimit(detail, spins) {
     this.table.board.end.meets(this.agent, spins);
     this.#mark();
-    return this.end("bound", detail);
+    return this.end("limit", detail);
   }
 
   /** @param {string} limit that is met; where the agent is, is added to it @returns {never} */
   meetsLimit(limit) {
     const where = whereText();
-    return this.bound(where === "" ? limit : `${limit}: agent ${this.agent} is${where}`, false);
+    return this.endAtLimit(where === "" ? limit : `${limit}: agent ${this.agent} is${where}`, false);
   }
 
   /** The run has ended while this agent's code went on, or the referee asks where it is. */

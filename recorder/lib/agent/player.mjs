@@ -165,10 +165,11 @@ export class Player {
     if (part.isOver || this.table.board.words[WORD.ENDED] !== 0) part.interrupted();
     const noted = part.accesses.note(place, from, to, writes, part.made);
     if (noted === NOTED.SPINS) part.spins("it reads the same bytes again and again without a call of Atomics");
-    if (noted === NOTED.FULL) part.meetsLimit(`more than ${this.table.log.most} reads and writes were made that differ`);
+    if (noted !== NOTED.FULL) return;
+    part.meetsLimit(`more than ${this.table.log.most} reads and writes were made that differ`);
   }
 
-  /** @returns {boolean} whether the agent prints nothing: its run is made to learn from or to compare alone, or is over */
+  /** @returns {boolean} whether the agent prints nothing: its run is made only to learn or to compare, or is over */
   isSilent() {
     const { isOver, isPlaying } = this.part;
     const { words } = this.table.board;

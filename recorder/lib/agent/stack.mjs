@@ -9,7 +9,10 @@ const slice = uncurried(String.prototype.slice);
 
 const OWN = new URL("../", import.meta.url).href;
 
-/** @param {string} line of a stack, with the line break before it @returns {boolean} whether it is a frame of node's own */
+/**
+ * @param {string} line of a stack, with the line break before it
+ * @returns {boolean} whether it is a frame of node's own
+ */
 const isOfNode = (line) => begins(line, "\n    at ") && (includes(line, "(node:") || includes(line, " node:"));
 
 /**

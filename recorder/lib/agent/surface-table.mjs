@@ -19,8 +19,8 @@ import { missingNames } from "../processes/node-versions.mjs";
 export const SURFACE = Object.freeze({
   globalThis: {
     watched: `Int8Array Uint8Array Uint8ClampedArray Int16Array Uint16Array Int32Array Uint32Array Float16Array
-      Float32Array Float64Array BigInt64Array BigUint64Array DataView Buffer SharedArrayBuffer ArrayBuffer structuredClone
-      TextDecoder TextEncoder WebAssembly Blob File`,
+      Float32Array Float64Array BigInt64Array BigUint64Array DataView Buffer SharedArrayBuffer ArrayBuffer
+      structuredClone TextDecoder TextEncoder WebAssembly Blob File`,
     simulated: "Atomics Date Math performance crypto process console",
     later: "setTimeout setInterval setImmediate queueMicrotask fetch Promise WebSocket",
     machine: "Intl",

@@ -26,7 +26,10 @@ export class Unseen {
     this.notes = undefined;
     /** @type {WeakMap<object, Memory>} by their buffers */
     this.memories = new EngineWeakMap();
-    /** @type {WeakMap<object, boolean>} buffers that aren't watched: whether they are the recorder's or node's, or copies */
+    /**
+     * @type {WeakMap<object, boolean>} buffers that aren't watched: whether they are the recorder's or node's, or
+     * copies
+     */
     this.others = new EngineWeakMap();
     /** @type {Note[]} what stays from run to run */
     this.lasting = [];

@@ -101,7 +101,9 @@ export class Answers {
     words[WORD.SILENT_SINCE] = words[WORD.MOVES];
   }
 
-  /** If nothing else can move, an agent that has looked in vain looks again if anything has moved since, or for longer. */
+  /**
+   * If nothing else can move, an agent that has looked in vain looks again if anything has moved since, or for longer.
+   */
   renew() {
     const { words } = this;
     const hasMoved = words[WORD.SILENT_SINCE] !== words[WORD.MOVES];

@@ -154,7 +154,7 @@ export class Board {
       return false;
     }
     if (!strategy.hasMoves() && this.#anyAgent((each) => line.canMove(each) || answers.mayCome(each))) {
-      end.end("bound", `more than ${rules.maxMoves} moves would be made`);
+      end.end("limit", `more than ${rules.maxMoves} moves would be made`);
       return false;
     }
     if (this.vain?.isAll() && !answers.areExpected) {

@@ -8,7 +8,7 @@ const { load, store, compareExchange, wait, notify } = Atomics;
 const encode = uncurried(TextEncoder.prototype.encodeInto);
 const encoder = new TextEncoder();
 
-/** @typedef {"finished" | "deadlock" | "failed" | "bound" | "stuck"} Ended how a run ends by itself */
+/** @typedef {"finished" | "deadlock" | "failed" | "limit" | "stuck"} Ended how a run ends by itself */
 
 /**
  * @typedef {object} Met who has met a limit
@@ -17,7 +17,7 @@ const encoder = new TextEncoder();
  */
 
 /** @type {readonly Ended[]} */
-const ENDINGS = Object.freeze(["finished", "deadlock", "failed", "bound", "stuck"]);
+const ENDINGS = Object.freeze(["finished", "deadlock", "failed", "limit", "stuck"]);
 
 // The word ENDED.
 const GOES_ON = 0;
@@ -69,6 +69,12 @@ export class End {
   /** @returns {boolean} whether the agents of this run are sent home */
   isOver() {
     return load(this.words, WORD.OVER) === 1;
+  }
+
+  /** @returns {boolean} whether agents are sent home since none could move any more, though not all had ended */
+  isStandstill() {
+    const ending = ENDINGS[this.words[WORD.ENDING]];
+    return this.isOver() && (ending === "stuck" || ending === "deadlock");
   }
 
   /** Sends home the agents of a run that has ended. */

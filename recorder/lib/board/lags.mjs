@@ -1,7 +1,7 @@
 // How far the clock of a program's run is ahead of each thread that could move. If a time ends early, the clock goes on
 // though threads can move, and these lag by so much more. A thread that is woken lags as much as the one that wakes it,
-// and one whose time is up as much as when its wait began. A time may end early only if nothing lags by more than a bound
-// then. So what passes early doesn't add up from move to move.
+// and one whose time is up as much as when its wait began. A time may end early only if nothing lags by more than a
+// bound then. So what passes early doesn't add up from move to move.
 
 import { AGENT_WORD, LOOP, PHASE, WORD, wordOf } from "../memory/layout.mjs";
 
@@ -56,7 +56,11 @@ export class Lags {
     return true;
   }
 
-  /** @param {number} milliseconds @param {number} agent whose loop has tasks @returns {boolean} the same of its own timer */
+  /**
+   * @param {number} milliseconds
+   * @param {number} agent whose loop has tasks
+   * @returns {boolean} the same of its own timer
+   */
   allowOwn(milliseconds, agent) {
     return this.lags[agent] + milliseconds <= this.most && this.allow(this.clock.now() + milliseconds, agent);
   }

@@ -74,8 +74,8 @@ const REASONS = Object.freeze(["call", "leaves", "waits", "ended", "goes on", "c
 /**
  * @typedef {object} Stray how a run that was forced exactly has strayed from its row
  * @property {StrayReason} reason the agent makes another call; or it leaves a wait and is to make a call; or it is
- * to move, and waits or has ended; or the row has ended, and the agent goes on; or the agent gets a real answer, and the
- * row has none there
+ * to move, and waits or has ended; or the row has ended, and the agent goes on; or the agent gets a real answer, and
+ * the row has none there
  * @property {number} agent
  * @property {number} draw how many draws had been made by the row
  * @property {number} [wanted] what the row has as the next draw, if it has one
@@ -169,7 +169,8 @@ export class Row {
     const { state } = this;
     if (state[STRAY] === 0) return undefined;
     const draw = state[AT];
-    const able = Array.from({ length: this.agents }, (_, agent) => agent).filter((agent) => state[STRAY_ABLE] & (1 << agent));
+    const everyone = Array.from({ length: this.agents }, (_, agent) => agent);
+    const able = everyone.filter((agent) => state[STRAY_ABLE] & (1 << agent));
     const stray = { reason: REASONS[state[STRAY] - 1], agent: state[STRAY_AGENT], draw, able };
     return draw < state[LENGTH] ? { ...stray, wanted: this.forced[draw] } : stray;
   }
@@ -243,7 +244,7 @@ export class Row {
     return false;
   }
 
-  /** An agent that was drawn for a real answer has seen that something has closed, and is drawn for the answer once more. */
+  /** An agent that was drawn for a real answer has seen that something has closed, and is drawn for it once more. */
   takesBack() {
     if (this.due !== DUE.NOT) this.state[AT] -= 1;
     this.state[IS_DUE] = DUE.NOT;
@@ -306,7 +307,7 @@ export class Row {
     return this.state[AT] < this.state[LENGTH] && this.forced[this.state[AT]] === drawn;
   }
 
-  /** @param {number} at where the row has an answer @returns {boolean} whether its agent moves on it, and not on one before */
+  /** @param {number} at where the row has an answer @returns {boolean} whether its agent moves on just this one */
   #isNeeded(at) {
     const drawn = this.forced[at];
     return drawn !== this.state[LAST_DRAWN] && this.#movesItself(moverOf(drawn), at + 1);

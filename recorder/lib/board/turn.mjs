@@ -286,6 +286,6 @@ export class Turn {
     }
     this.silent = agent;
     this.end.meets(agent, false);
-    this.end.close("bound", `agent ${agent} has made no call for ${seconds} s`);
+    this.end.close("limit", `agent ${agent} has made no call for ${seconds} s`);
   }
 }

@@ -1,7 +1,8 @@
 // Whether a program's run can do nothing more, though its timers go on. That is so if for many turns in a row only
-// callbacks of timers have run, and none of them has done anything that matters: changed shared memory, made a call, sent
-// or printed something, begun anything, or looked at the clock. And each timer that is still to be due must come from a
-// line of code whose timers were among these lately: another one may still do something else, so it is waited for.
+// callbacks of timers have run, and none of them has done anything that matters: changed shared memory, made a call,
+// sent or printed something, begun anything, or looked at the clock. And each timer that is still to be due must come
+// from a line of code whose timers were among these lately: another one may still do something else, so it is waited
+// for.
 
 import { AGENT_WORD, LOOP, PHASE, WORD, wordOf } from "../memory/layout.mjs";
 
@@ -19,8 +20,8 @@ const MOST_SHOWN = 50;
 /** In place of a row: the agent has other timers, or none was noted. */
 const NEVER = -1;
 
-// Which row of turns in vain it is, of those in which it was noted what runs; and for each agent the one in which it has
-// rested last with no other timers.
+// Which row of turns in vain it is, of those in which it was noted what runs; and for each agent the one in which it
+// has rested last with no other timers.
 const ROW = 0;
 const FIRST_RESTED = 1;
 
@@ -61,14 +62,14 @@ export class Vain {
 
   /**
    * The callback of a timer begins: it is in vain if there is no news until the thread rests.
-   * @param {unknown} place where the timer was made
+   * @param {() => unknown} place where the timer was made
    */
   turns(place) {
     this.words[WORD.VAIN] += 1;
     if (this.words[WORD.VAIN] < HALF) return;
     if (this.#row !== this.rows[ROW]) this.#places = new EngineSet();
     this.#row = this.rows[ROW];
-    this.#places.add(place);
+    this.#places.add(place());
   }
 
   /** Whether the turn is shown that begins now. */
@@ -94,7 +95,10 @@ export class Vain {
     return true;
   }
 
-  /** @param {number} agent @returns {boolean} whether it has ended, waits for others, or has only timers that run in vain */
+  /**
+   * @param {number} agent
+   * @returns {boolean} whether it has ended, waits for others, or has only timers that run in vain
+   */
   #isDone(agent) {
     const phase = this.words[wordOf(agent, AGENT_WORD.PHASE)];
     if (phase === PHASE.FINISHED || phase === PHASE.WAITS) return true;

@@ -2,12 +2,13 @@
 
 import { dataOf } from "../every/data.mjs";
 import { Every } from "../every/every.mjs";
+import { MOST_SHOWN } from "../every/showing.mjs";
 import { everyText } from "../every/text.mjs";
 import { howMade } from "../keeping/how-made.mjs";
 import { Keeper } from "../keeping/keep.mjs";
 import { keepPictures } from "../keeping/pictures.mjs";
-import { digits } from "../run/words.mjs";
 import { chosenProgram, simulatorAt } from "../simulator/chosen.mjs";
+import { EveryProgress } from "./every-progress.mjs";
 import { Interruption } from "./interruption.mjs";
 import { print } from "./print.mjs";
 import { Session } from "./session.mjs";
@@ -20,9 +21,6 @@ import { Session } from "./session.mjs";
 const WITHIN = 60;
 const STATES = 1_000_000;
 
-/** A line of progress is shown if it takes longer. */
-const SHOWN_AFTER_MILLISECONDS = 1_000;
-
 /** The number of the form of what is printed as JSON. */
 const FORM = 1;
 
@@ -30,29 +28,30 @@ export class EverySession {
   /**
    * @param {Options} options
    * @param {string} module its URL
+   * @param {number} [after] after how many milliseconds the line of progress is shown, if it isn't a second
    */
-  constructor(options, module) {
+  constructor(options, module, after) {
     const { within = WITHIN, states = STATES } = /** @type {any} */ (options);
     this.options = options;
     this.module = module;
     this.every = { ...options, module, within, states };
     this.interruption = new Interruption();
-    this.begun = performance.now();
+    this.after = after;
   }
 
   /** @returns {Promise<{ failed: boolean, problems: unknown[] }>} */
   async run() {
-    const { checkEvery, format, sabsim } = this.options;
+    const { checkEvery, first, format, last, sabsim } = this.options;
     const chosen = checkEvery > 0 ? chosenProgram(sabsim) : undefined;
-    const every = new Every(/** @type {any} */ ({ ...this.every, sabsim: chosen }), {
-      signal: this.interruption.signal, onProgress: (states) => this.#show(states),
-    });
+    const given = /** @type {any} */ ({ ...this.every, sabsim: chosen });
+    const every = new Every(given, { signal: this.interruption.signal });
+    const progress = new EveryProgress(every, last - first + 1, this.after);
     /** @type {Tried} */
     let tried;
     try {
       tried = await every.run();
     } finally {
-      clear();
+      progress.end();
       await this.interruption.end();
     }
     const data = dataOf(tried);
@@ -74,25 +73,19 @@ export class EverySession {
     return { failed: failed || isShown, problems };
   }
 
-  /** @param {number} states */
-  #show(states) {
-    if (!process.stderr.isTTY || performance.now() - this.begun < SHOWN_AFTER_MILLISECONDS) return;
-    process.stderr.write(`\r\x1b[K${digits(states)} states`);
-  }
-
   /**
    * Keeps the automata, if they are whole, and each run that is shown.
    * @param {Tried} tried
    * @param {import("../simulator/chosen.mjs").Simulator} simulator
    * @returns {Files | undefined}
    */
-  #keep({ open, report, shown }, simulator) {
+  #keep({ onlyRuns, open, report, shown }, simulator) {
     const { out } = this.options;
     const isWhole = open === undefined;
     if (out === undefined || !(isWhole || shown.length > 0)) return undefined;
     const keepers = [new Keeper(out, "--out", "all")];
     if (isWhole) keepers[0].keepAll(0, { "automata.json": `${JSON.stringify(report?.file)}\n` });
-    shown.forEach(({ outcome }, at) => {
+    [...shown, ...onlyRuns].slice(0, MOST_SHOWN).forEach(({ outcome }, at) => {
       const keeper = new Keeper(out, "--out", `all-${at + 1}`);
       keeper.keepFirst(outcome);
       keepPictures(keeper, outcome, { simulator, ...howMade({ ...this.options, module: this.module }) });
@@ -100,11 +93,6 @@ export class EverySession {
     });
     return { folder: out, files: keepers.flatMap(({ names }) => names) };
   }
-}
-
-/** Takes the line of progress away. */
-function clear() {
-  if (process.stderr.isTTY) process.stderr.write("\r\x1b[K");
 }
 
 /** @param {Files | undefined} files */

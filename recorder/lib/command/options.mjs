@@ -66,10 +66,11 @@ const SHAPE = Object.fromEntries(ROWS.map(([name, { kind: { text, multiple = fal
 /** The runs that are compared with what was learned of agents. */
 const SEEDS_OF_ALL = Object.freeze({ first: 1, last: 300 });
 
-const SEEDS_UNTIL_COVERED = Object.freeze({ first: 1, last: 1_000_000 });
-
 /** For words that are no options any more: what they are, or what there is in their place. */
-const INSTEAD = new Map([["switch", "use --strategy switch:P"], ["v", "is -V meant?"]]);
+const INSTEAD = new Map([
+  ["switch", "use --strategy switch:P"], ["v", "is -V meant?"], ["bounds", "use --limits"],
+  ["until-covered", "for a module of agents --all tries every schedule"],
+]);
 
 /**
  * The words of a command line, by option.
@@ -140,7 +141,6 @@ function replayOf(given) {
  * @property {string[]} args for the agents, or for the program
  * @property {import("../seeds/ranges.mjs").Range} asked the seeds of all shards
  * @property {import("../seeds/ranges.mjs").Shard | undefined} shard
- * @property {boolean} untilCovered
  * @property {string} [sabsim] where the native program must be
  * @property {string} format
  * @property {string} [out]
@@ -159,16 +159,6 @@ function replayOf(given) {
  */
 
 /**
- * @param {Record<string, any>} all options
- * @param {import("../seeds/ranges.mjs").Range} seeds that serve as a rule
- * @returns {import("../seeds/ranges.mjs").Range} the seeds, if none are given
- */
-function unlessGiven(all, seeds) {
-  if (all.untilCovered) return SEEDS_UNTIL_COVERED;
-  return all.all ? SEEDS_OF_ALL : seeds;
-}
-
-/**
  * @param {string[]} words after the program's name
  * @returns {Options | { text: string }} what a command line asks for; only a text, if it asks for help or the version
  */
@@ -181,7 +171,7 @@ export function optionsOf(words) {
   /** @type {Record<string, any>} */
   const chosen = { ...defaultsOf("command"), ...given };
   const { seeds, shard, noShorten, help: _help, version: _version, ...all } = chosen;
-  const asked = given.seeds ?? unlessGiven(all, seeds);
+  const asked = given.seeds ?? (all.all ? SEEDS_OF_ALL : seeds);
   return /** @type {Options} */ ({
     ...all, ...runFrom(given, positionals), args: end < 0 ? [] : words.slice(end + 1),
     ...shardFrom(asked, shard), shorten: !noShorten, replay: replayOf(given),

@@ -53,7 +53,7 @@ export class ProgramReplay extends Replaying {
     const other = this.script && now && firstOtherText(this.script, now);
     if (other !== undefined || stray !== undefined) return other ?? (stray && rowStrayedText(stray));
     // At a limit the run is broken off.
-    const isWhole = ending !== "bound" && row !== undefined;
+    const isWhole = ending !== "limit" && row !== undefined;
     return isWhole ? rowEndedText(this.row, firstOtherMove(this.row, row)) : undefined;
   }
 

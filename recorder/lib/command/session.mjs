@@ -7,7 +7,6 @@ import { Refused } from "../options/refused.mjs";
 import { collectGarbage, onceMore, stopGrowth } from "../processes/garbage.mjs";
 import { preloads } from "../processes/preloads.mjs";
 import { isFirstOfAll } from "../run/order.mjs";
-import { Coverage } from "../seeds/coverage.mjs";
 import { Runs } from "../seeds/runs.mjs";
 import { chosenProgram, simulatorAt } from "../simulator/chosen.mjs";
 import { askedOf } from "./asked.mjs";
@@ -38,11 +37,9 @@ export class Session {
     this.simulator = simulatorAt(sabsim);
     this.options = { ...options, module, sabsim };
     this.wanted = options.last - options.first + 1;
-    this.coverage = options.untilCovered ? new Coverage() : undefined;
     this.keeper = options.out === undefined ? undefined : new Keeper(options.out);
     this.summary = new Summary({
       ordinary: options.ordinary, races: options.races, unrecorded: options.unrecorded, preloads: isPreloaded,
-      coverage: this.coverage,
       checkedBy: isChecked ? this.simulator.version : undefined,
     });
     /** @type {string[]} what isn't kept, and why */
@@ -53,9 +50,8 @@ export class Session {
     this.interruption = new Interruption();
     /** @type {Promise<void> | undefined} settled when nothing is left of the jobs */
     this.closed = undefined;
-    const { asked: { first: origin }, untilCovered: wantsMeetings } = options;
     const shortens = options.shorten && this.keeper !== undefined;
-    const how = { isBrief: true, shortens, goesOn: true, origin, wantsMeetings };
+    const how = { isBrief: true, shortens, goesOn: true, origin: options.asked.first };
     this.runs = new Runs({ ...this.options, ...how }, { signal: this.interruption.signal, job });
   }
 
@@ -127,12 +123,12 @@ export class Session {
    * @returns {boolean} whether it is the last one
    */
   #isLast(outcome) {
-    const { coverage, keeper, options: { failFast }, progress, summary } = this;
+    const { keeper, options: { failFast }, progress, summary } = this;
     summary.add(outcome);
     progress.show(summary);
     if (outcome.fails) keeper?.keepFirst(outcome);
     onceMore();
-    return coverage?.add(outcome) === true || (failFast === true && isFirstOfAll(outcome));
+    return failFast === true && isFirstOfAll(outcome);
   }
 
   /** Prepares the pictures of the run that is kept, while its job works. */
@@ -194,8 +190,8 @@ export class Session {
   }
 
   /**
-   * Whether no summary is printed, since what went wrong says all. One in JSON reports that itself, and can be joined to
-   * those of other shards.
+   * Whether no summary is printed, since what went wrong says all. One in JSON reports that itself, and can be joined
+   * to those of other shards.
    * @param {unknown} stopped why not all runs were made, if so
    */
   #isWithoutSummary(stopped) {

@@ -4,7 +4,8 @@
 
 /** @typedef {import("../run/outcome.mjs").Outcome & { checked?: boolean }} Outcome */
 
-/** @typedef {Pick<Outcome, "seed" | "ending" | "detail" | "noScript" | "onlyIf" | "standing"> & Partial<Outcome>} Failing */
+/** @typedef {"seed" | "ending" | "detail" | "noScript" | "onlyIf" | "standing"} Always what each failing run has */
+/** @typedef {Pick<Outcome, Always> & Partial<Outcome>} Failing */
 
 /** @typedef {{ ending: string, shown: string[], named: string | null }} State how a run ended, and its bytes */
 
@@ -49,7 +50,6 @@
  * @property {Record<"failing" | "passing", FailingListed<State & { hash: string }>>} states
  * @property {CheckedBy} sabsim
  * @property {{ parts: number, none: Listed<{ why: string }> }} scripts
- * @property {import("../seeds/coverage.mjs").Covered | null} coverage null: it wasn't looked for
  * @property {number} calls
  * @property {number | null} accesses null: they weren't seen
  * @property {string[]} unseen

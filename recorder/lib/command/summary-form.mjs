@@ -7,7 +7,7 @@
  */
 
 /** The number of this form: another form has another number. */
-export const FORM = 3;
+export const FORM = 4;
 
 /** @typedef {(value: unknown, place: string) => string | undefined} Check it returns where a value isn't right */
 
@@ -98,9 +98,6 @@ const MEMBERS = object({
   states: object({ failing: states, passing: states }),
   sabsim: object({ asked: flag, versions: texts, checked: whole, judges: flag }),
   scripts: object({ parts: whole, none: listed({ why: text }) }),
-  coverage: orNull(object({
-    pairs: texts, last: orNull(whole), row: orNull(whole), unplaced: whole, covered: flag,
-  })),
   calls: whole,
   accesses: orNull(whole),
   unseen: texts,

@@ -25,7 +25,7 @@ export function summaryText(summary) {
     lines.push(...hiddenLines(summary), ...unrecordedLines(summary), ...realLines(summary));
     lines.push(...rememberingLines(summary));
     lines.push(...stateLines(summary));
-    lines.push(...coverageLines(summary), ...checkLines(summary), ...scriptLines(summary), accessLine(summary));
+    lines.push(...checkLines(summary), ...scriptLines(summary), accessLine(summary));
     lines.push(...unseen, ...untriedNodes.map(untriedText));
   }
   if (kept !== null) lines.push(`kept in ${kept.folder}: ${kept.files.join(", ")}`, ...kept.notes ?? []);
@@ -102,13 +102,15 @@ function raceLines({ races: { allowed, runs, pairs } }) {
 /** @param {SummaryData} summary */
 function unrecordedLines({ unrecorded: { allowed, runs, used } }) {
   if (runs === 0) return [];
-  return [`agents used what isn't recorded${allowed ? ", which is allowed" : ""}: ${counted(runs, "run")}`, ...usedLines(used)];
+  const that = allowed ? ", which is allowed" : "";
+  return [`agents used what isn't recorded${that}: ${counted(runs, "run")}`, ...usedLines(used)];
 }
 
 /** @param {SummaryData} summary @returns {string[]} what programs used that the machine answers */
 function realLines({ real: { runs, used } }) {
   if (runs === 0) return [];
-  const title = `${counted(runs, "run")} used sockets, pipes or child processes, and repeat only as far as their input does`;
+  const title = `${counted(runs, "run")} used sockets, pipes or child processes, `
+    + "and repeat only as far as their input does";
   return [runs === 1 ? title.replace(/repeat (.*)their/, "repeats $1its") : title, ...usedLines(used)];
 }
 
@@ -136,19 +138,6 @@ function stateLines(summary) {
   const many = countedOf(failed.length + passed.length, "final state", others);
   const what = [...failed, ...passed].some(({ named }) => named !== null) ? "the values" : "the bytes";
   return [`${many}: how it ended, and ${what}`, ...lines.map(indented), ...othersLines(others)];
-}
-
-/** @param {SummaryData} summary */
-function coverageLines({ coverage }) {
-  if (coverage === null) return [];
-  const { pairs, last, row, unplaced, covered } = coverage;
-  const seen = `${counted(pairs.length, "pair")} of lines that different agents ran one after the other at a place`;
-  const newest = last === null ? "" : `the last new one in seed ${last}, `;
-  const since = row === null ? "" : `none in ${counted(row, "seed")} since: `;
-  const enough = indented(`${newest}${since}${covered ? "" : "not "}covered`);
-  if (unplaced === 0) return [seen, enough];
-  const accesses = counted(unplaced, "access", "accesses");
-  return [seen, indented(`of ${accesses} the line isn't known, so pairs may be missing`), enough];
 }
 
 /** The forms of the simulator, by the first word of a version. */

@@ -4,7 +4,6 @@
 
 import { hasThrown } from "../../page/endings.mjs";
 import { comesBefore } from "../run/order.mjs";
-import { Coverage } from "../seeds/coverage.mjs";
 import { OnlyByTime } from "./only-by-time.mjs";
 import { shorteningOf } from "./shortened.mjs";
 import {
@@ -30,12 +29,10 @@ import { Uses } from "./uses.mjs";
  * @property {"fail" | "allow"} [unrecorded]
  * @property {string} [checkedBy] which simulator checks runs; undefined: they aren't checked
  * @property {boolean} [preloads] whether node's own options load code before the recorder
- * @property {import("../seeds/coverage.mjs").Coverage} [coverage] which pairs of lines the runs have shown, if that is
- * looked for
  */
 
 // In the order in which they are reported.
-const FAILING = ["deadlock", "stuck", "failed", "check", "race", "bound"];
+const FAILING = ["deadlock", "stuck", "failed", "check", "race", "limit"];
 const PASSING = ["finished", ...FAILING];
 
 const CHANGES_ALONE =
@@ -47,7 +44,8 @@ const UNSEEN = { watch: [], store: [CHANGES_ALONE], refuse: [CHANGES_ALONE] };
 
 /** What else a run may not have seen, if other code was loaded before the recorder. */
 const UNSEEN_BEFORE =
-  "node's own options, as --require, loaded code first: accesses by typed arrays and Atomics that it kept were not seen";
+  "node's own options, as --require, loaded code first: "
+  + "accesses by typed arrays and Atomics that it kept were not seen";
 
 /** @type {("failing" | "passing")[]} */
 const BOTH = ["failing", "passing"];
@@ -57,10 +55,9 @@ export class Summary {
   untriedNodes = new Set();
 
   /** @param {SummaryOptions} options */
-  constructor({ ordinary, races, unrecorded = "fail", checkedBy, preloads = false, coverage }) {
+  constructor({ ordinary, races, unrecorded = "fail", checkedBy, preloads = false }) {
     this.ordinary = ordinary;
     this.unrecorded = unrecorded;
-    this.coverage = coverage;
     this.preloads = preloads;
     this.races = races;
     /** Which simulators check runs. */
@@ -151,7 +148,6 @@ export class Summary {
     this.uses.real.join(data.real);
     for (const version of data.untriedNodes ?? []) this.untriedNodes.add(version);
     if (data.remembers !== null) this.#addRemembering(data.remembers);
-    if (data.coverage !== null) this.coverage = Coverage.joined(this.coverage, data.coverage);
     if (firstFailing !== null) this.#addFailing(failingOf(firstFailing));
   }
 
@@ -176,7 +172,8 @@ export class Summary {
       failures: failingListOf(this.failures, (_, { ending, message, sources }) => ({ ending, message, sources })),
       shortened: this.shortened === undefined ? null : shorteningOf(this.shortened, this.failing),
       races: {
-        allowed: this.races === "allow", runs: this.raced, pairs: failingListOf(this.pairs, (_, { lines }) => ({ lines })),
+        allowed: this.races === "allow", runs: this.raced,
+        pairs: failingListOf(this.pairs, (_, { lines }) => ({ lines })),
       },
       unrecorded: { allowed: this.unrecorded === "allow", ...this.uses.unrecorded.data() },
       real: this.uses.real.data(),
@@ -184,7 +181,6 @@ export class Summary {
       states: { failing: statesData(this.states.failing), passing: statesData(this.states.passing) },
       sabsim: this.#checksData(),
       scripts: { parts: this.parts, none: listedOf(this.scriptless, (why) => ({ why })) },
-      coverage: this.coverage?.data() ?? null,
       calls: this.calls,
       accesses: this.ordinary === "watch" ? this.accesses : null,
       unseen: this.preloads ? [...UNSEEN[this.ordinary], UNSEEN_BEFORE] : UNSEEN[this.ordinary],

@@ -14,7 +14,10 @@ import { comesBefore } from "../run/order.mjs";
  * @property {T} about what else the summary says about the first of them
  */
 
-/** @template T @typedef {Omit<Entry<T>, "early"> & { early?: number }} Joined of other tallies; `early` is 0 if it isn't given */
+/**
+ * @template T
+ * @typedef {Omit<Entry<T>, "early"> & { early?: number }} Joined of other tallies; `early` is 0 if it isn't given
+ */
 
 /** @param {{ runs: number, early: number }} entry @returns {boolean} whether all of its runs need an early end */
 export const isOnlyEarly = ({ runs, early }) => early === runs;

@@ -19,8 +19,8 @@ const spelled = (name) => `--${wordOf(name)}`;
 export function runFrom(given, positionals) {
   const { program } = given;
   if (program !== undefined && positionals.length > 0) {
-    throw new Refused(`--program ${program} runs a program, so there can't be a module of agents, ${positionals[0]}, too: `
-      + "arguments for the program follow --");
+    throw new Refused(`--program ${program} runs a program, so there can't be a module of agents, ${positionals[0]}, `
+      + "too: arguments for the program follow --");
   }
   const isKept = positionals.length === 0 && given.replay?.endsWith(`.${PROGRAM_ENDING}`) === true;
   needFitting(isKept ? { program: given.replay, ...given } : given, spelled);

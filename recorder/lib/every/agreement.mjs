@@ -3,6 +3,7 @@
 
 import { SCRIPT_KINDS, SIZES } from "../../script/kinds.mjs";
 import { OF_STORES } from "../../script/written.mjs";
+import { unseenLine } from "../run/trace.mjs";
 import { DOES, isCall, isEnd } from "./search/nodes.mjs";
 import { World } from "./search/world.mjs";
 import { answerText, callData, nodeText, Views } from "./search/text.mjs";
@@ -24,6 +25,8 @@ import { NotAsLearned } from "./not-as-learned.mjs";
 /** So many reads that are acts of their own an agent makes in a row at most. */
 const MOST_ALONE = 100_000;
 
+/** How a trace begins that may lack accesses. */
+const UNSEEN = unseenLine("").slice(0, 10);
 
 export class Agreement {
   /** @param {import("./search/world.mjs").Program} program */
@@ -37,12 +40,14 @@ export class Agreement {
   }
 
   /**
-   * @param {Outcome} outcome of a real run, with its script, answers and trace
+   * @param {Outcome} outcome of a real run
+   * @returns {boolean} whether it was compared: only if it has its script, its answers and a whole trace
    * @throws {NotAsLearned}
    */
   needs(outcome) {
     const { answers, script, seed, trace } = outcome;
-    if (answers === undefined || script === undefined || trace === undefined) return;
+    if (answers === undefined || script === undefined || trace === undefined) return false;
+    if (trace.startsWith(UNSEEN)) return false;
     const way = new Way(this.world, callsOf(script), answers);
     try {
       for (const line of trace.split("\n")) if (line !== "") way.step(JSON.parse(line));
@@ -54,6 +59,7 @@ export class Agreement {
       throw new NotAsLearned(`the run of seed ${seed} ${how}. ${why}`);
     }
     this.compared += 1;
+    return true;
   }
 }
 

@@ -7,10 +7,13 @@ import { FinalStates } from "../run/final-state.mjs";
 
 /**
  * @typedef {object} FoundData
- * @property {"deadlock" | "threw" | "check" | "race" | "no way out"} kind
- * @property {string} text what was thrown, what `check` found, or which lines race; empty if the kind says all
- * @property {number} states in how many states it is
- * @property {number} acts of the schedule that is shown
+ * @property {"deadlock" | "threw" | "check" | "race" | "no way out" | "limit" | "failed"} kind
+ * @property {string} text what was thrown, what `check` found, which lines race, or how a real run ended; empty if the
+ * kind says all
+ * @property {number} states in how many states it is; 0: only real runs have shown it
+ * @property {number} runs how many real runs have shown it, if they alone have; else 0
+ * @property {number | null} seed of the first of these runs
+ * @property {number} acts of the schedule that is shown; 0 if real runs alone have shown it
  * @property {number} changes of agents in it
  * @property {boolean} isEarly whether a timed wait ends in it while something else can move
  * @property {string[] | null} detail how the real run by that schedule ended; null: it isn't shown
@@ -34,6 +37,7 @@ import { FinalStates } from "../run/final-state.mjs";
  * @property {number} edgesByOne of these, both times by the same history
  * @property {{ why: string, nodes: number }[]} hidden moments that were compared with no others, and why
  * @property {number} realRuns that agree with what was learned
+ * @property {number} notCompared real runs that have no whole trace, and so weren't compared
  * @property {boolean} searchProved whether the proved search has found the same: the numbers are its own then
  * @property {string | null} notProved why there was no proved search
  * @property {{ automaton: number, nodes: number, line: string | null, answers: number } | null} widest the automaton
@@ -48,22 +52,33 @@ const NOTHING = Object.freeze({
 });
 
 /** @param {Tried} tried @returns {EveryData} */
-export function dataOf({ report, open, realRuns, isProved, notProved, shown, milliseconds }) {
+export function dataOf({ report, open, realRuns, made, isProved, notProved, shown, onlyRuns, milliseconds }) {
   const closed = open === undefined;
   const proved = { searchProved: isProved, notProved: notProved ?? null };
-  const common = { closed, open: open ?? null, realRuns, ...proved, milliseconds };
+  const common = { closed, open: open ?? null, realRuns, notCompared: made - realRuns, ...proved, milliseconds };
   if (report === undefined) return { ...NOTHING, agents: 0, ...common };
   const { counts, depth = null, edges, findings, hidden, plan, result, widest } = report;
-  const found = findings.map(({ row: _row, goesOn: _goesOn, ...finding }) => {
+  const found = findings.map(({ row: _row, goesOn: _goesOn, spins: _spins, ...finding }) => {
     const { outcome } = shown.find((each) => each.finding.row === _row) ?? {};
-    return { ...finding, detail: outcome?.detail.split("\n") ?? null, onlyIf: outcome?.onlyIf ?? null };
+    return { ...finding, runs: 0, seed: null, ...endOf(outcome) };
   });
   return {
     ...common, agents: plan.agents, states: result.states, acts: result.acts, depth, finals: finalsOf(report),
-    finalCount: result.final.count, found, moments: counts.moments, edges: counts.edges,
+    finalCount: result.final.count, found: [...found, ...onlyRuns.map(dataOfRuns)],
+    moments: counts.moments, edges: counts.edges,
     edgesByOne: edges.filter(({ from, besides }) => from !== undefined && besides === undefined).length, hidden,
     widest: { ...widest, line: widest.line ?? null },
   };
+}
+
+/** @param {import("../seeds/job.mjs").Checked} [outcome] @returns {Pick<FoundData, "detail" | "onlyIf">} */
+const endOf = (outcome) => ({ detail: outcome?.detail.split("\n") ?? null, onlyIf: outcome?.onlyIf ?? null });
+
+/** @param {import("./only-runs.mjs").OnlyRun} found @returns {FoundData} */
+function dataOfRuns({ kind, text, runs, outcome }) {
+  const { seed, onlyIf } = outcome;
+  const byRun = { states: 0, runs, seed, acts: 0, changes: 0, isEarly: onlyIf !== undefined };
+  return { kind, text, ...byRun, ...endOf(outcome) };
 }
 
 /** @param {Report} report @returns {EveryData["finals"]} */

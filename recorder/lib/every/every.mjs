@@ -1,10 +1,14 @@
 // Tries every schedule of a module of agents: learns the agents, searches, checks what was learned, and shows what was
 // found.
 
+import { Refused } from "../options/refused.mjs";
+import { preloads } from "../processes/preloads.mjs";
 import { Runs } from "../seeds/runs.mjs";
+import { simulatorAt } from "../simulator/chosen.mjs";
 import { Agreement } from "./agreement.mjs";
 import { DoesOtherwise, Unlearned, beginAgain, learnAgain, learnApart } from "./learning/apart.mjs";
 import { NotAsLearned } from "./not-as-learned.mjs";
+import { OnlyRuns } from "./only-runs.mjs";
 import { programOf } from "./search/file.mjs";
 import { beginSearch } from "./proved.mjs";
 import { comparedBySecond, needFound } from "./second.mjs";
@@ -24,25 +28,35 @@ import { firstNotShown, shown } from "./showing.mjs";
  * @property {Report | undefined} report undefined: nothing could be learned
  * @property {string | undefined} open why not every schedule was tried; undefined: every one was
  * @property {number} realRuns how many real runs agree with what was learned
+ * @property {number} made how many there were
+ * @property {import("./only-runs.mjs").OnlyRun[]} onlyRuns what they have shown and the search hasn't found
  * @property {boolean} isProved whether the proved search has found the same: the report's result is its own then
  * @property {string | undefined} notProved why there was no proved search
  * @property {Shown[]} shown
  * @property {number} milliseconds
  */
 
+/** @typedef {Pick<Tried, "realRuns" | "made" | "onlyRuns">} OfRuns */
+
+/** @type {OfRuns} */
+const NO_RUNS = Object.freeze({ realRuns: 0, made: 0, onlyRuns: [] });
+
 const KEEPS = "Its modules keep something from run to run: with --fresh, which begins them anew, it does as learned";
 const NOT_KNOWN = "It may go by chance, by a clock, or by something that isn't shown";
+const PRELOADED = "not every schedule can be tried if --require or --import of node loads code first: nobody sees what "
+  + "that keeps";
 const CHANGES_BUILTINS = "an agent changes the language's own objects, so what was learned may be wrong";
 
 export class Every {
   /**
    * @param {EveryOptions} options
-   * @param {{ signal?: AbortSignal, onProgress?: (states: number) => void }} how
+   * @param {{ signal?: AbortSignal }} how
    */
-  constructor(options, { signal, onProgress }) {
+  constructor(options, { signal }) {
     this.options = options;
     this.signal = signal;
-    this.onProgress = onProgress;
+    /** How many states were found so far. */
+    this.states = 0;
     /** @type {import("../seeds/job.mjs").Checked[]} of the real runs */
     this.outcomes = [];
     /** @type {{ again: Thread, search: Thread | undefined } | undefined} */
@@ -51,6 +65,7 @@ export class Every {
 
   /** @returns {Promise<Tried>} */
   async run() {
+    if (preloads()) throw new Refused(PRELOADED);
     const begun = performance.now();
     const tried = await this.#tried();
     return { ...tried, milliseconds: performance.now() - begun };
@@ -67,7 +82,7 @@ export class Every {
     this.threads = { again: beginAgain(), search: this.options.sabsim ? undefined : beginSearch() };
     try {
       const report = await this.#report();
-      const nothing = { realRuns: 0, isProved: false, notProved: undefined };
+      const nothing = { ...NO_RUNS, isProved: false, notProved: undefined };
       if (typeof report === "string") return { report: undefined, open: report, ...nothing, shown: [] };
       if (report.changesBuiltins) throw new NotAsLearned(CHANGES_BUILTINS);
       if (!report.isClosed) {
@@ -76,12 +91,12 @@ export class Every {
       const again = this.#learnAgain(report);
       // The second learning knows more about why a run differs.
       const agreeing = this.#agreeing(report, running).catch((problem) => again.then(() => Promise.reject(problem)));
-      const [{ result = report.result, why }, realRuns] = await Promise.all([
+      const [{ result = report.result, why }, ofRuns] = await Promise.all([
         this.#second(report, ending.signal), agreeing, again,
       ]);
       const shown = await this.#shown(report);
       const proved = { isProved: why === undefined, notProved: why };
-      return { report: { ...report, result }, open: undefined, realRuns, ...proved, shown };
+      return { report: { ...report, result }, open: undefined, ...ofRuns, ...proved, shown };
     } finally {
       ending.abort();
       const { again, search } = this.threads;
@@ -115,9 +130,10 @@ export class Every {
     const { agents, args, buffers, module, noBlock, seconds, states, timeouts, within } = this.options;
     /** @type {"early" | "never"} */
     const choice = timeouts === "never" ? "never" : "early";
+    const onProgress = (/** @type {number} */ found) => void (this.states = found);
     const wanted = { module, args, place: { agents, buffers, noBlock }, timeouts: choice, limit: states, within };
     try {
-      return await learnApart(wanted, { seconds, onProgress: this.onProgress, signal: this.signal });
+      return await learnApart(wanted, { seconds, onProgress, signal: this.signal });
     } catch (problem) {
       if (problem instanceof DoesOtherwise) throw new NotAsLearned(problem.message);
       if (problem instanceof Unlearned) return problem.message;
@@ -127,11 +143,11 @@ export class Every {
 
   /** @param {Report} report */
   async #learnAgain({ edges, isShared, nodes, plan }) {
-    const { args, fresh, module } = this.options;
+    const { args, fresh, module, seconds } = this.options;
     const given = { module, args, plan, isShared, isFresh: fresh === true, nodes, edges };
-    const differs = await learnAgain(given, this.threads?.again);
+    const differs = await learnAgain(given, { seconds, thread: this.threads?.again });
     if (differs === undefined) return;
-    const keeps = fresh !== true && await learnAgain({ ...given, isFresh: true }) === undefined;
+    const keeps = fresh !== true && await learnAgain({ ...given, isFresh: true }, { seconds }) === undefined;
     throw new NotAsLearned("the code as it is written, loaded anew, does something else than was learned. "
       + `${differs}. ${keeps ? KEEPS : NOT_KNOWN}`);
   }
@@ -140,15 +156,16 @@ export class Every {
    * Compares the real runs, those that were made first.
    * @param {Report} report
    * @param {Promise<void>} running
-   * @returns {Promise<number>} how many are ways through the automata
+   * @returns {Promise<OfRuns>} how many are ways through the automata, and what they alone have shown
    */
-  async #agreeing({ file }, running) {
+  async #agreeing({ file, findings }, running) {
     const agreement = new Agreement(programOf(file));
+    const only = new OnlyRuns(findings, simulatorAt(this.options.sabsim || undefined));
     const early = this.outcomes.length;
-    for (const outcome of this.outcomes.slice(0, early)) agreement.needs(outcome);
+    for (const outcome of this.outcomes.slice(0, early)) only.take(outcome, agreement.needs(outcome));
     await running;
-    for (const outcome of this.outcomes.slice(early)) agreement.needs(outcome);
-    return agreement.compared;
+    for (const outcome of this.outcomes.slice(early)) only.take(outcome, agreement.needs(outcome));
+    return { realRuns: agreement.compared, made: this.outcomes.length, onlyRuns: [...only.found.values()] };
   }
 
   /** @param {Report} report that isn't closed @returns {Promise<Shown[]>} what real runs show of it */

@@ -43,27 +43,32 @@ export async function shown(findings, options) {
 }
 
 /**
- * Behind a race, real runs may differ from a search that makes all accesses of a segment at once. So if a race is shown,
- * nothing else has to be. The first race has none before it, so it has to be shown.
+ * Behind a race, real runs may differ from a search that makes all accesses of a segment at once. So if a race is
+ * shown, nothing else has to be. The first race has none before it, so it has to be shown, unless a real run goes on in
+ * a loop of reads, where a search changes agents.
  * @param {Shown[]} found
  * @returns {Shown | undefined} the first that has to be shown and isn't
  */
 export function firstNotShown(found) {
   const isRaceShown = found.some(({ finding: { kind }, isSame }) => kind === "race" && isSame);
-  return isRaceShown ? undefined : found.find(({ isSame }) => !isSame);
+  const hasToBe = (/** @type {Shown} */ { finding, outcome }) => !(finding.spins && outcome.ending === "limit");
+  return isRaceShown ? undefined : found.find((each) => !each.isSame && hasToBe(each));
 }
 
 /** @param {string} text @returns {string} without its numbers */
-const plain = (text) => text.replace(/-?\d+/g, "#");
+export const plain = (text) => text.replace(/-?\d+/g, "#");
+
+/** @param {string} text @param {string} detail @returns {boolean} whether it says the same, except for numbers */
+const isText = (text, detail) => plain(detail).includes(plain(text));
 
 /** @param {Finding} finding @param {Outcome} outcome @returns {boolean} whether the run fails in that way */
-function isShownBy({ kind, text, goesOn }, { ending, detail, races, stray }) {
+export function isShownBy({ kind, text, goesOn }, { ending, detail, races, stray }) {
   if (stray !== undefined && !goesOn) return false;
   switch (kind) {
     case "deadlock": return ending === "deadlock";
     case "race": return races.length > 0;
-    case "no way out": return ending === "bound";
-    case "check": return ending === "check";
-    default: return ending === "failed" && plain(detail).includes(plain(text));
+    case "no way out": return ending === "limit";
+    case "check": return ending === "check" && isText(text, detail);
+    default: return ending === "failed" && isText(text, detail);
   }
 }

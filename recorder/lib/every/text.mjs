@@ -10,6 +10,7 @@ const MOST_LISTED = 8;
 /** What agents can do wrong, in the words of the first line. */
 const WORDS = Object.freeze({
   deadlock: "deadlock", threw: "throw", race: "race", check: "fail check", "no way out": "go on for ever",
+  limit: "meet a limit", failed: "fail in another way",
 });
 
 /** @param {EveryData} data @returns {string} lines, each with its end */
@@ -25,7 +26,7 @@ function closedLines(data) {
   const none = "none deadlocks, throws, has a data race or fails check; from every state all agents can still end";
   return [
     `${title}: ${found.length === 0 ? none : foundText(found)}`,
-    ...foundLines(found),
+    ...foundLines(data),
     indented(`${counted(states, "state")}, ${counted(acts, "act")}; ${finalText(data)}`),
     indented(learnedText(data)),
     indented(mergedText(data)),
@@ -39,20 +40,30 @@ function foundText(found) {
   return `agents can ${kinds.length > 1 ? `${kinds.slice(0, -1).join(", ")} or ${kinds[kinds.length - 1]}` : kinds[0]}`;
 }
 
-/** @param {FoundData[]} found @returns {string[]} the first ones, each with how it is shown */
-const foundLines = (found) => [
-  ...found.slice(0, MOST_LISTED).flatMap(findingLines).map(indented),
-  ...(found.length > MOST_LISTED ? [indented(`and ${digits(found.length - MOST_LISTED)} more`)] : []),
-];
-
-/** @param {FoundData} found */
-function findingLines({ acts, changes, detail, kind, onlyIf, states, text }) {
-  const what = text === "" ? kind : `${kind}: ${text}`;
-  const by = `${counted(acts, "act")} with ${counted(changes, "change")} of agents`;
-  const how = `${counted(states, "state")}; shown by ${by}`;
-  const lines = detail === null ? ["not shown by a real run"] : detail.slice(0, 4);
-  return [`${what}, in ${how}`, ...lines.map(indented), ...(onlyIf === null ? [] : [indented(onlyIf)])];
+/** @param {EveryData} data @returns {string[]} the first ones, each with how it is shown */
+function foundLines({ found, notCompared, realRuns }) {
+  const lines = found.slice(0, MOST_LISTED).flatMap((each) => findingLines(each, realRuns + notCompared));
+  const more = found.length - MOST_LISTED;
+  return [...lines, ...(more > 0 ? [`and ${digits(more)} more`] : [])].map(indented);
 }
+
+/** @param {FoundData} found @param {number} made how many real runs */
+function findingLines(found, made) {
+  const { detail, kind, onlyIf, text } = found;
+  const what = text === "" || text === detail?.[0] ? kind : `${kind}: ${text}`;
+  const lines = detail === null ? ["not shown by a real run"] : detail.slice(0, 4);
+  const how = found.seed === null ? bySearch(found) : byRuns(found, made);
+  return [`${what}, ${how}`, ...lines.map(indented), ...(onlyIf === null ? [] : [indented(onlyIf)])];
+}
+
+/** @param {FoundData} found by the search */
+function bySearch({ acts, changes, detail, states }) {
+  const by = `${counted(acts, "act")} with ${counted(changes, "change")} of agents`;
+  return `in ${counted(states, "state")}; ${detail === null ? "the first one after" : "shown by"} ${by}`;
+}
+
+/** @param {FoundData} found by real runs alone @param {number} made how many there were */
+const byRuns = ({ runs, seed }, made) => `in ${digits(runs)} of ${counted(made, "real run")}, seed ${seed} the first`;
 
 /** @param {EveryData} data */
 function finalText({ finalCount, finals }) {
@@ -61,11 +72,12 @@ function finalText({ finalCount, finals }) {
 }
 
 /** @param {EveryData} data */
-function learnedText({ edges, moments, notProved, realRuns, searchProved }) {
+function learnedText({ edges, moments, notCompared, notProved, realRuns, searchProved }) {
   const search = searchProved ? "the search is proved" : `the search isn't proved (${notProved})`;
   const runs = realRuns === 1 ? "1 real run agrees" : `${digits(realRuns)} real runs agree`;
   const learned = `what the agents do was learned from their code: ${counted(moments, "moment")} of an agent`;
-  return `${search}; ${learned}, each of ${counted(edges, "edge")} twice; ${runs}`;
+  const others = notCompared === 0 ? "" : `, and ${digits(notCompared)} couldn't be compared`;
+  return `${search}; ${learned}, each of ${counted(edges, "edge")} twice; ${runs}${others}`;
 }
 
 /** @param {EveryData} data */
@@ -76,9 +88,10 @@ function mergedText({ hidden }) {
 }
 
 /** @param {EveryData} data */
-function openLines({ found, open, widest }) {
+function openLines(data) {
+  const { found, open, widest } = data;
   const some = found.length === 0 ? [] : [indented(`among those that were tried, ${foundText(found)}`)];
-  const lines = [`not every schedule was tried: ${open}`, ...some, ...foundLines(found)];
+  const lines = [`not every schedule was tried: ${open}`, ...some, ...foundLines(data)];
   if (widest === null) return lines;
   const { answers, automaton, line, nodes } = widest;
   const branches = line === null ? "" : `; ${counted(answers, "answer")} at ${line} lead on`;

@@ -44,7 +44,8 @@ export function eventsInScript(events, entries) {
     while (handOverOf(calls[next]?.does ?? [])?.begins === begins) {
       const { place } = calls[next];
       const inScript = taken();
-      all.push({ ...event, ...inScript, inScript, does: "notify", ...place, size: WORD_BYTES, read: false, atomic: false });
+      const notify = { does: "notify", ...place, size: WORD_BYTES, read: false, atomic: false };
+      all.push({ ...event, ...inScript, inScript, ...notify });
     }
     return all;
   };

@@ -28,7 +28,8 @@ export class NotKept extends Error {}
  * @returns {string[]} a sentence each
  */
 export function missingFiles({ seed, script, noScript, trace, noTrace }) {
-  const noneOf = (/** @type {string} */ ending, /** @type {string} */ why) => `not kept: seed-${seed}.${ending}: ${why}`;
+  const noneOf = (/** @type {string} */ ending, /** @type {string} */ why) =>
+    `not kept: seed-${seed}.${ending}: ${why}`;
   return [
     ...(script === undefined && noScript !== undefined ? [noneOf("json", noScript)] : []),
     ...(trace === undefined && noTrace !== undefined ? [noneOf("trace.jsonl", noTrace)] : []),

@@ -34,6 +34,9 @@ const digestOf = (row) => createHash("sha256").update(row.join()).digest("hex").
 const RULES = Object.entries({ ...Object.fromEntries(optionsOf("record")), fresh: OPTIONS.fresh })
   .filter(([name, { isShared }]) => isShared && name !== "program");
 
+/** Options that files of earlier versions have by another name. */
+const FORMER = new Map([["bounds", "limits"]]);
+
 /**
  * Keeps what makes a run of a program again.
  * @param {import("./keep.mjs").Keeper} keeper
@@ -141,9 +144,10 @@ function windowsFrom(given, refuse) {
 function optionsFrom(given, refuse) {
   if (!isObject(given)) return refuse("its options must be an object");
   const rules = new Map(RULES);
-  return Object.fromEntries(Object.entries(given).map(([name, value]) => {
-    const kind = rules.get(name)?.kind ?? refuse(`there is no option ${name} of a run`);
-    return [name, kind.value(value, `${name} of its options`)];
+  return Object.fromEntries(Object.entries(given).map(([written, value]) => {
+    const name = FORMER.get(written) ?? written;
+    const kind = rules.get(name)?.kind ?? refuse(`there is no option ${written} of a run`);
+    return [name, kind.value(value, `${written} of its options`)];
   }));
 }
 

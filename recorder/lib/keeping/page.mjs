@@ -129,7 +129,8 @@ export function pageData(outcome, facts, module) {
 export function pageOf(data, simulator) {
   const { script, ...rest } = data;
   const shown = simulator === undefined ? rest : data;
-  return documentOf("page", `seed ${data.seed} of ${data.module}: ${endingText(data.ending, data.detail)}`, shown, simulator);
+  const title = `seed ${data.seed} of ${data.module}: ${endingText(data.ending, data.detail)}`;
+  return documentOf("page", title, shown, simulator);
 }
 
 /**

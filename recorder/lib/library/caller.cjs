@@ -37,13 +37,17 @@ function isOwn(frame) {
   return path.startsWith(LIBRARY) || FILES.includes(path);
 }
 
-/** @param {Function} called @returns {NodeJS.CallSite[]} the frames of the code that has called it, the innermost first */
+/**
+ * @param {Function} called
+ * @returns {NodeJS.CallSite[]} the frames of the code that has called it, the innermost first
+ */
 function framesAbove(called) {
   const { stackTraceLimit, prepareStackTrace } = Error;
   try {
     // None of these throws if a program has made them constant: then no frames are known.
     Reflect.set(Error, "stackTraceLimit", MOST_FRAMES);
-    Reflect.set(Error, "prepareStackTrace", (/** @type {Error} */ _, /** @type {NodeJS.CallSite[]} */ frames) => frames);
+    const kept = (/** @type {Error} */ _, /** @type {NodeJS.CallSite[]} */ frames) => frames;
+    Reflect.set(Error, "prepareStackTrace", kept);
     /** @type {{ stack?: any }} */
     const holder = {};
     Error.captureStackTrace(holder, called);

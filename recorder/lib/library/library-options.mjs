@@ -24,7 +24,7 @@ import { moduleUrlOf } from "./module-url.mjs";
  * @property {number} [maxMoves] at most 100,000
  * @property {number} [seconds] for how long an agent may make no call
  * @property {"fail" | "allow"} [races] whether a run with unordered accesses fails; else "fail"
- * @property {"fail" | "allow"} [bounds] whether a run that meets a bound fails; else "fail"
+ * @property {"fail" | "allow"} [limits] whether a run that meets a limit fails; else "fail"
  * @property {string | boolean} [sabsim] the path of the native program, which then checks in place of the module;
  * false: runs aren't checked
  * @property {boolean} [trace] whether the outcome has its trace
@@ -51,12 +51,12 @@ import { moduleUrlOf } from "./module-url.mjs";
  * @property {string | URL} program its main module: a URL, or a path, from the folder of the file that calls `record`
  * @property {undefined} [module]
  * @property {"fail" | "allow"} [stuck] whether a run that is stuck fails; else "fail"
- * @property {number} [early] by how many milliseconds the run's clock may be ahead of what waits, since a timer or a timed
- * wait has ended early; 0: none does; else 100
+ * @property {number} [early] by how many milliseconds the run's clock may be ahead of what waits, since a timer or a
+ * timed wait has ended early; 0: none does; else 100
  * @property {boolean} [web] whether the program is one for browsers; else it is one of node
  * @property {"all" | "none"} [programOutput] for which runs it is shown what the program prints; else for the first one
- * @property {"ordinary" | "relaxed"} [wasmAccesses] what plain aligned accesses of WebAssembly to shared memory are: C's
- * `volatile` is relaxed; else "ordinary"
+ * @property {"ordinary" | "relaxed"} [wasmAccesses] what plain aligned accesses of WebAssembly to shared memory are:
+ * C's `volatile` is relaxed; else "ordinary"
  */
 
 /**
@@ -88,6 +88,9 @@ import { moduleUrlOf } from "./module-url.mjs";
 /** @typedef {TrialRuns & OfModule} TrialOptions */
 /** @typedef {TrialRuns & OfProgram} ProgramTrialOptions */
 
+/** What there is in place of options that earlier versions had. */
+const INSTEAD = new Map([["switch", 'use `strategy: "switch:P"`'], ["bounds", "use `limits`"]]);
+
 /**
  * @param {unknown} options
  * @param {import("../options/table.mjs").Taker} taker
@@ -101,7 +104,7 @@ function checkedBy(options, taker, callersFolder) {
   for (const [name, value] of Object.entries(options)) {
     const kind = rows.get(name)?.kind;
     if (kind === undefined) {
-      const instead = name === "switch" ? 'use `strategy: "switch:P"`' : meant(name, [...rows.keys()]);
+      const instead = INSTEAD.get(name) ?? meant(name, [...rows.keys()]);
       throw new Refused(`there is no option \`${name}\`: ${instead}`);
     }
     if (value !== undefined) checked[name] = kind.value(value, `\`${name}\``);

@@ -11,8 +11,8 @@ import { FIRST_MORE, MoreBlocks } from "./more-blocks.mjs";
 const { Int32Array, Uint8Array, SharedArrayBuffer } = globalThis;
 
 /**
- * The block for messages, how many bytes it has, and how many places. Few runs have more than a quarter of these: others
- * have only as many.
+ * The block for messages, how many bytes it has, and how many places. Few runs have more than a quarter of these:
+ * others have only as many.
  */
 export const MESSAGES = SCRIPT_LIMITS.blocks - 1;
 export const MESSAGE_BYTES = SCRIPT_LIMITS.bytes;
@@ -20,8 +20,8 @@ export const MESSAGE_PLACES = MESSAGE_BYTES / 4;
 export const FEW_MESSAGES = MESSAGE_PLACES / 4;
 
 /**
- * The places by which strategies know what a move of an event loop or a message conflicts with, before the message has a
- * number. They are in the block for messages: one for each thread's event loop, and the rest for ports that are being
+ * The places by which strategies know what a move of an event loop or a message conflicts with, before the message has
+ * a number. They are in the block for messages: one for each thread's event loop, and the rest for ports that are being
  * sent in a message.
  */
 export const LOOP_PLACES = 0;

@@ -44,8 +44,8 @@ export const WORD = Object.freeze({
   /** Of a program for browsers: whether the run is well if nothing can move any more. */
   MAY_REST: 35,
   /**
-   * Of a program: which threads wait for real answers, and which of them have looked in vain, a bit for each; how many moves
-   * there were then; whether they looked for long; and whether the agent that was drawn is to look.
+   * Of a program: which threads wait for real answers, and which of them have looked in vain, a bit for each; how many
+   * moves there were then; whether they looked for long; and whether the agent that was drawn is to look.
    */
   EXPECTS: 36,
   SILENT: 37,
@@ -53,15 +53,18 @@ export const WORD = Object.freeze({
   LOOKS_LONG: 39,
   LOOKS: 40,
   /**
-   * Of a program: which threads have a task and wait for real answers besides, and whose last moves were answers, a bit for
-   * each; and how many answers came to a thread right after others, which is no further move.
+   * Of a program: which threads have a task and wait for real answers besides, and whose last moves were answers, a bit
+   * for each; and how many answers came to a thread right after others, which is no further move.
    */
   OFFERS: 41,
   ANSWERED: 42,
   MORE_ANSWERS: 43,
   /** Which agent has met a limit, and whether it spins, as `End` keeps them. */
   MET: 44,
-  /** Of a program: which agents are held at a wait or a notify, and how many draws of one came in a row, as `Late` keeps them. */
+  /**
+   * Of a program: which agents are held at a wait or a notify, and how many draws of one came in a row, as `Late` keeps
+   * them.
+   */
   LATE: 45,
   /** Of a program: how many callbacks of timers have run in a row, in vain so far. */
   VAIN: 46,

@@ -137,9 +137,9 @@ export class Log {
   }
 
   /**
-   * Extends the agent's last access by the same view, if the new bytes follow it, so that no new event is needed. If the
-   * agent has read and written in turn, that is the last but one. Nobody else has moved since, so nothing is ordered
-   * otherwise.
+   * Extends the agent's last access by the same view, if the new bytes follow it, so that no new event is needed. If
+   * the agent has read and written in turn, that is the last but one. Nobody else has moved since, so nothing is
+   * ordered otherwise.
    * @param {number} what
    * @param {number} agent
    * @param {number} block

@@ -69,6 +69,8 @@ export class Memory {
   hasChanged(block) {
     const real = this.real[block];
     const known = this.known[block];
+    // A block that a program's thread doesn't know has no bytes: both are one array.
+    if (real === known) return false;
     const { length } = real;
     if (length !== known.length || length > SCRIPT_LIMITS.bytes) return false;
     return length > SHORT ? !areEqual(real, known) : areDifferent(real, known, length);

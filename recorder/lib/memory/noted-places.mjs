@@ -1,6 +1,6 @@
-// In which places ordinary accesses note their lines of code, in runs that are made for these. To find a line takes long,
-// so only the first accesses of such a run note theirs, and those in places where unordered accesses were found. In shared
-// memory: places next to each other, and some others, count as one.
+// In which places ordinary accesses note their lines of code, in runs that are made for these. To find a line takes
+// long, so only the first accesses of such a run note theirs, and those in places where unordered accesses were found.
+// In shared memory: places next to each other, and some others, count as one.
 
 const { imul } = Math;
 const { SharedArrayBuffer, Uint8Array } = globalThis;
@@ -38,7 +38,12 @@ export class NotedPlaces {
     for (let near = from >>> NEAR_BITS; near <= last; near += 1) this.noted[placeOf(block, near)] = 1;
   }
 
-  /** @param {number} block @param {number} from as above @param {number} to @returns {boolean} whether one of them is there */
+  /**
+   * @param {number} block
+   * @param {number} from as above
+   * @param {number} to
+   * @returns {boolean} whether one of them is there
+   */
   has(block, from, to) {
     const first = from >>> NEAR_BITS;
     const last = (to - 1) >>> NEAR_BITS;

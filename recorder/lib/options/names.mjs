@@ -26,7 +26,9 @@ export const MOST_CHARACTERS = 23;
 const RIGHT = new RegExp(`^[A-Za-z0-9_]{1,${MOST_CHARACTERS}}$`);
 
 /** What scripts name views by themselves. */
-const TAKEN = new RegExp(`^(?:ordinary_|init_|waitAsync_|unseen$)|^(?:${KINDS.join("|")})(?:_b\\d+)?(?:_at\\d+)?(?:_x\\d+)?$`);
+const TAKEN = new RegExp(
+  `^(?:ordinary_|init_|waitAsync_|unseen$)|^(?:${KINDS.join("|")})(?:_b\\d+)?(?:_at\\d+)?(?:_x\\d+)?$`,
+);
 
 const EXAMPLE = '{ LOCK: 0, slots: ["Uint8", 1], samples: { kind: "Float64", buffer: 0, offset: 8, length: 4 } }';
 

@@ -3,11 +3,10 @@
 import { Refused } from "./refused.mjs";
 
 const OF_PROGRAMS = "it is about a whole program, and only a module of agents can be learned";
-const OF_SEEDS = "it is about the runs of seeds";
 
 /** Options that never go with it; and why. */
 const WITHOUT = Object.freeze({
-  program: OF_PROGRAMS, web: OF_PROGRAMS, replay: "it makes one run", shard: OF_SEEDS, untilCovered: OF_SEEDS,
+  program: OF_PROGRAMS, web: OF_PROGRAMS, replay: "it makes one run", shard: "it is about the runs of seeds",
 });
 
 /** Values that don't go with it; and why. */
@@ -43,7 +42,7 @@ export function needFittingAll(given, spelled, isAll = given.all === true) {
     if (isRefused) throw new Refused(`${spelled(name)} ${given[name]} ${without}: ${why}`);
   }
   if (given.timeouts === 0) {
-    throw new Refused(`${spelled("timeouts")} 0 ${without}: it has no time that goes by. Above 0 any wait's time may be `
-      + "over at any moment, and never means that it never is");
+    throw new Refused(`${spelled("timeouts")} 0 ${without}: it has no time that goes by. Above 0 any wait's time may `
+      + "be over at any moment, and never means that it never is");
   }
 }

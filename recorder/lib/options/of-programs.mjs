@@ -8,12 +8,15 @@ const NOT_YET = "it isn't there for programs yet";
 /** Options that are about agents and their buffers, or that programs can't have yet; and why. */
 const WITHOUT = Object.freeze({
   agents: AGENTS_ONLY, buffers: AGENTS_ONLY, noBlock: AGENTS_ONLY, unrecorded: AGENTS_ONLY, init: AGENTS_ONLY,
-  check: AGENTS_ONLY, ordinary: NOT_YET, clock: NOT_YET, untilCovered: NOT_YET,
+  check: AGENTS_ONLY, ordinary: NOT_YET, clock: NOT_YET,
 });
 
 /** Options that are about programs alone; and why. */
 const OF_PROGRAMS = Object.freeze({
-  stuck: "only programs can be stuck", early: "agents have no timers", web: "agents aren't run as in a browser", programOutput: "what agents print is always shown",
+  stuck: "only programs can be stuck",
+  early: "agents have no timers",
+  web: "agents aren't run as in a browser",
+  programOutput: "what agents print is always shown",
   wasmAccesses: "the shared memory of WebAssembly is recorded in programs alone",
 });
 

@@ -69,9 +69,11 @@ export const OPTIONS = Object.freeze({
     help: ["A..B", "the seeds, or one seed"] },
   shard: { kind: SHARD, of: COMMAND, help: ["K/N", "only the K-th of N parts of these seeds, as for one of N machines: "
     + "merge.mjs joins their summaries"] },
-  all: { kind: FLAG, of: COMMAND, ifNone: false, help: ["", "tries every schedule of a module of agents. The seeds' runs "
-    + "are compared with what was learned; if not every schedule can be tried, it goes on with the seeds"] },
-  within: { kind: above0(MOST_SECONDS), of: OF_EVERY, help: ["S", "for how many seconds --all searches"], orElse: "60" },
+  all: { kind: FLAG, of: COMMAND, ifNone: false,
+    help: ["", "tries every schedule of a module of agents. The seeds' runs are compared with what was learned; if not "
+    + "every schedule can be tried, it goes on with the seeds"] },
+  within: { kind: above0(MOST_SECONDS), of: OF_EVERY, help: ["S", "for how many seconds --all searches"],
+    orElse: "60" },
   states: { kind: whole(1, MOST_STATES), of: OF_EVERY, help: ["N", "how many states --all finds at most"],
     orElse: "1000000" },
   strategy: rule(STRATEGY, "mixed",
@@ -92,11 +94,11 @@ export const OPTIONS = Object.freeze({
     ["HOW", "unordered accesses: two agents access a byte, at least one writes it, they don't both use Atomics on just "
     + "the same bytes, and nothing orders them. fail: a run that has some fails, with the ending race. allow: they are "
     + "only reported"]),
-  bounds: word(["fail", "allow"],
+  limits: word(["fail", "allow"],
     ["HOW", "a run that meets a limit, as one that spins. fail: it fails. allow: it is only reported"]),
   unrecorded: word(["fail", "allow"],
-    ["HOW", "shared memory that isn't recorded, as a SharedArrayBuffer that the code makes itself. fail: a run in which "
-    + "agents use some fails. allow: it is only reported"]),
+    ["HOW", "shared memory that isn't recorded, as a SharedArrayBuffer that the code makes itself. fail: a run in "
+    + "which agents use some fails. allow: it is only reported"]),
   stuck: { kind: choice(["fail", "allow"]), of: ALL, isShared: true, isReplayed: true,
     help: ["HOW", "a program's run that is stuck. fail: it fails. allow: it is only reported, as for a program that "
     + "people end by Ctrl-C"], orElse: "fail" },
@@ -117,8 +119,6 @@ export const OPTIONS = Object.freeze({
   fresh: { kind: FLAG, of: OF_MANY, ifNone: false, isShared: true,
     help: ["", "starts new workers for each seed"] },
   failFast: { kind: FLAG, of: OF_MANY, ifNone: false, isShared: true, help: ["", "ends at the first failing run"] },
-  untilCovered: { kind: FLAG, of: COMMAND, ifNone: false, isShared: true, help: ["", "ends when 500 seeds in a row "
-    + "have shown no new pair of lines that different agents ran one after the other at a place"] },
   checkEvery: { kind: whole(0, Number.MAX_SAFE_INTEGER), of: OF_MANY, ifNone: 1, isShared: true, word: "check",
     help: ["N", "the simulator checks every run that fails, and one in N of the others; 0: none at all"] },
   init: { kind: FUNCTION, of: LIBRARY },

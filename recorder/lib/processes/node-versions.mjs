@@ -59,8 +59,8 @@ export const LATER = Object.freeze([{
     "node:sqlite": { harmless: "DatabaseSync Session StatementSync constants", refused: "backup" },
   },
   globals: {
-    harmless: `AsyncDisposableStack CloseEvent DisposableStack Float16Array Iterator Navigator SuppressedError URLPattern
-      navigator`,
+    harmless: `AsyncDisposableStack CloseEvent DisposableStack Float16Array Iterator Navigator SuppressedError
+      URLPattern navigator`,
     refused: "WebSocket",
   },
   methods: {
@@ -130,9 +130,10 @@ function withNames(first, more) {
  * @type {Readonly<Record<string, string>>}
  */
 const SINCE = Object.freeze({
-  "21.0": `navigator Navigator navigator.constructor navigator.hardwareConcurrency navigator.language navigator.languages
-    navigator.platform navigator.userAgent ArrayBuffer.prototype.detached ArrayBuffer.prototype.transfer
-    ArrayBuffer.prototype.transferToFixedLength worker_threads.isMarkedAsUntransferable`,
+  "21.0": `navigator Navigator navigator.constructor navigator.hardwareConcurrency navigator.language
+    navigator.languages navigator.platform navigator.userAgent ArrayBuffer.prototype.detached
+    ArrayBuffer.prototype.transfer ArrayBuffer.prototype.transferToFixedLength
+    worker_threads.isMarkedAsUntransferable`,
   "22.0": "Iterator WebSocket Promise.withResolvers",
   "23.0": "CloseEvent Promise.try worker_threads.markAsUncloneable",
   "23.7": "worker_threads.isInternalThread",

@@ -1,7 +1,7 @@
 // What the process of a job begins with: workers, and meanwhile the module whose URL is its first word. The second word
 // is the URL of the referee's module; the third one that of the workers of agents or of a program. The fourth says how
-// many of these begin. The others are words of node's command line for them, and only those of a program have some. This
-// is a CommonJS module, since such a one is loaded sooner.
+// many of these begin. The others are words of node's command line for them, and only those of a program have some.
+// This is a CommonJS module, since such a one is loaded sooner.
 "use strict";
 
 const { pathToFileURL } = require("node:url");

@@ -156,7 +156,9 @@ export class Thread {
 
 const OWN_WORKER = new URL("./own-worker.cjs", import.meta.url);
 
-/** @type {Set<string>} options of the engine and of the whole process: no thread takes them, and each has them anyway */
+/**
+ * @type {Set<string>} options of the engine and of the whole process: no thread takes them, and each has them anyway
+ */
 const ofProcess = new Set();
 
 /** @param {any} error @param {string} word @returns {boolean} whether it is such an option, as node says */

@@ -1,5 +1,5 @@
-// Which top-level await a thread has begun last: if none of its modules goes on, that one never settles. The engine calls
-// back for each promise, which is slow, so only runs that note their lines of code have it.
+// Which top-level await a thread has begun last: if none of its modules goes on, that one never settles. The engine
+// calls back for each promise, which is slow, so only runs that note their lines of code have it.
 
 import v8 from "node:v8";
 import { framesHere, isAgentsFile } from "../agent/frames.mjs";

@@ -113,7 +113,7 @@ class BroadcastChannel extends EngineTarget {
     const { table, agent } = ports.world;
     moves.yield();
     this.#name = `${name}`;
-    this.#where = ports.world.here();
+    this.#where = ports.world.hereLater();
     this.#id = table.addPair(agent);
     ports.adopt(this, this.#id);
     const meta = ports.known(this);
@@ -167,7 +167,7 @@ class BroadcastChannel extends EngineTarget {
     const { ports } = world();
     const listens = typeof handler === "function";
     // What keeps the thread alive is named by the line that matters most to a reader.
-    Object.assign(ports.known(this), { listens, where: listens ? ports.world.here() : this.#where });
+    Object.assign(ports.known(this), { listens, where: listens ? ports.world.hereLater() : this.#where });
   }
 
   /** @param {unknown} value */

@@ -65,8 +65,8 @@ function hasBytes(buffer) {
  * @typedef {object} Shown
  * @property {(place: import("../agent/ordinary/context.mjs").Place, from: number, to: number, writes: boolean) => void}
  * seen gets an ordinary access that is about to be made
- * @property {(block: number, place: string, count: number) => void} named gets where the memory of a new block was made,
- * and how many were made there before
+ * @property {(block: number, place: string, count: number) => void} named gets where the memory of a new block was
+ * made, and how many were made there before
  * @property {(block: number) => void} began gets a new block that no script can have as it is
  * @property {(why: string) => never} refuse ends the run
  */
@@ -245,8 +245,8 @@ export class Buffers {
   /** @param {number} length of a buffer that another thread could reach @param {string} place where it was made */
   #refuseMore(length, place) {
     const where = place === "" ? "" : ` made at ${place}`;
-    this.shown.refuse(`gave another thread a SharedArrayBuffer of ${length} bytes${where}: a run has no room for more memory `
-      + "that several threads reach");
+    this.shown.refuse(`gave another thread a SharedArrayBuffer of ${length} bytes${where}: a run has no room for more `
+      + "memory that several threads reach");
   }
 
   /**

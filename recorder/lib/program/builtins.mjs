@@ -25,8 +25,8 @@ for (const owner of OWNERS) {
 const inherited = ownKeys(Object.prototype);
 
 /**
- * Gives the language its own functions back. What a program has added to all objects is gone, too: node's own code looks
- * there for options that aren't given, as `writable` of a stream.
+ * Gives the language its own functions back. What a program has added to all objects is gone, too: node's own code
+ * looks there for options that aren't given, as `writable` of a stream.
  */
 export function restoreBuiltins() {
   for (let at = 0; at < kept.length; at += 1) {

@@ -91,14 +91,18 @@ export class Ends {
       this.isOver = true;
       this.#report(problem);
       // Only the first thread has a code of its own for it.
-      this.#go(this.leaving.agent === 0 ? LISTENER_THREW : THREW, `threw in a listener of uncaughtException: ${described(problem)}`);
+      const code = this.leaving.agent === 0 ? LISTENER_THREW : THREW;
+      this.#go(code, `threw in a listener of uncaughtException: ${described(problem)}`);
     }
-    // What was thrown has left contexts of async_hooks open, in which listeners are called. Then node leaves all of them.
+    // What was thrown has left contexts of async_hooks open, in which listeners are called. Then node leaves all of
+    // them.
     leaveContexts();
     if (!isListenedTo) this.#fail(thrown, origin);
   }
 
-  /** @param {import("./test-runner.mjs").FailedTest} failed a test of `node:test`: the thread's exit code will say so */
+  /**
+   * @param {import("./test-runner.mjs").FailedTest} failed a test of `node:test`: the thread's exit code will say so
+   */
   testFailed({ name, place, thrown, isCancelled }) {
     const at = this.#failedTests.length - (isCancelled ? 0 : this.#cancelled);
     this.#failedTests.splice(at, 0, `failed the test "${name}", at ${place}: ${described(thrown)}`);
@@ -250,7 +254,10 @@ export class Ends {
     return printed === "" ? "" : `, after it wrote to standard error:\n${printed}`;
   }
 
-  /** @param {number} code of a thread that another one has started @param {string} text why, if that isn't its natural end */
+  /**
+   * @param {number} code of a thread that another one has started
+   * @param {string} text why, if that isn't its natural end
+   */
   #depart(code, text) {
     const { agent, keepers, player: { part, table: { board } }, ports, threads } = this.leaving;
     if (code !== 0) keepers.setEnd(text);

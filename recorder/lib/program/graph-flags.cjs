@@ -1,5 +1,5 @@
-// What a thread needs to have a graph of modules. The thread that starts it reads this, and needs none of it itself. This
-// is a CommonJS module, since such a one is loaded sooner.
+// What a thread needs to have a graph of modules. The thread that starts it reads this, and needs none of it itself.
+// This is a CommonJS module, since such a one is loaded sooner.
 "use strict";
 
 /** The `execArgv` of a thread that has a graph. */

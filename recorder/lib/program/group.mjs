@@ -35,8 +35,8 @@ const { store, notify } = Atomics;
 const FLAGS = [...process.execArgv, ...GRAPH_FLAGS];
 
 /**
- * After so many runs threads are started anew: what a run leaves is little, but it grows. In a thread that has just begun
- * a run takes twice as long as in one that has made hundreds.
+ * After so many runs threads are started anew: what a run leaves is little, but it grows. In a thread that has just
+ * begun a run takes twice as long as in one that has made hundreds.
  */
 export const MOST_RUNS = 2_000;
 

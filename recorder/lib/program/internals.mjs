@@ -286,6 +286,9 @@ function readAtOnce(url, asked) {
   return found.format === "commonjs" ? { ...found, source: null } : found;
 }
 
+/** @param {string} file its path @returns {boolean} */
+export const isThere = (file) => statSync(file, { throwIfNoEntry: false })?.isFile() === true;
+
 /** So many are remembered: some programs make other URLs in each run. */
 const MOST_FILES = 1_000;
 
@@ -301,7 +304,7 @@ function rememberFiles(loader) {
   loader.defaultResolve = (/** @type {string} */ specifier, /** @type {string} */ parent, /** @type {object} */ given) => {
     const key = `${parent} ${specifier}`;
     const known = files.get(key);
-    if (known !== undefined && statSync(known.file, { throwIfNoEntry: false })?.isFile()) return known.found;
+    if (known !== undefined && isThere(known.file)) return known.found;
     const found = apply(find, loader, [specifier, parent, given]);
     if (files.size === MOST_FILES) files.clear();
     if (found.url.startsWith("file:")) files.set(key, { found, file: fileURLToPath(found.url) });

@@ -1,5 +1,5 @@
-// A thread looks for real answers: its real loop turns until node calls back for one, or the time is up. What node calls
-// then has the thread's turn, as a task has.
+// A thread looks for real answers: its real loop turns until node calls back for one, or the time is up. What node
+// calls then has the thread's turn, as a task has.
 
 import { AsyncResource, createHook, executionAsyncResource } from "node:async_hooks";
 import { MessagePort } from "node:worker_threads";

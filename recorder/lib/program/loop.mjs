@@ -5,6 +5,7 @@
 import { WORD } from "../memory/layout.mjs";
 import { Random } from "../memory/random.mjs";
 import { runTicks, underWay } from "./internals.mjs";
+import { KeptAlive } from "./kept-alive.mjs";
 import { READING } from "./reading.mjs";
 import { never, turnLater } from "./real-loop.mjs";
 import { isForeign, pendingOf } from "./real-work.mjs";
@@ -47,7 +48,9 @@ export class Loop {
   /** Whether the thread looks for real answers before it begins a task: it hasn't done so in vain since it rested. */
   #mayLook = true;
 
-  /** Whether the real loop has turned since the thread did something: node may do more then, as http2 when it begins. */
+  /**
+   * Whether the real loop has turned since the thread did something: node may do more then, as http2 when it begins.
+   */
   #hasAwaited = false;
 
   /** Whether an answer is held back that has come. */
@@ -59,6 +62,7 @@ export class Loop {
   /** @param {Served} served */
   constructor(served) {
     this.served = served;
+    this.kept = new KeptAlive(served, () => this.#tasks.length > 0);
     this.#isTurning = served.hasPhases;
     // A row of its own: so a thread does the same if only others are drawn in another order.
     this.random = new Random(new Int32Array(4));
@@ -80,6 +84,11 @@ export class Loop {
     if (this.#notes) notes.note({ event: player.table.log.length, agent, text, place });
   }
 
+  /** @param {import("./timers.mjs").Described} task that begins now */
+  #noteTask(task) {
+    if (this.#notes) this.note(`runs ${task.text}`, task.where);
+  }
+
   /** Nothing of an earlier run is left. */
   clear() {
     this.served.locks.clear();
@@ -93,8 +102,8 @@ export class Loop {
   }
 
   /**
-   * Begins when the real loop turns. The thread's module is evaluated then, so that nothing real comes before its loop is
-   * there to take it.
+   * Begins when the real loop turns. The thread's module is evaluated then, so that nothing real comes before its loop
+   * is there to take it.
    * @param {() => void} evaluate begins to evaluate the module
    */
   begin(evaluate) {
@@ -143,7 +152,7 @@ export class Loop {
    * @returns {number} one of `STEP`
    */
   #step(holds) {
-    const { ends, moves, keepers, waits, locks } = this.served;
+    const { ends, moves } = this.served;
     this.drain();
     if (ends.isDone()) return STEP.IS_OVER;
     const active = underWay();
@@ -152,12 +161,13 @@ export class Loop {
     if (this.#hasTask()) {
       if (!moves.offer(pending, this.#mayLook)) return STEP.IS_OVER;
     } else {
-      const kept = this.#keepers().concat(moves.silentTexts(pending));
-      if (kept.length === 0) return this.#endsNow();
-      keepers.write([kept.join("; ")].concat(waits.texts(), locks.texts()).join("; it awaits "));
+      if (!pending.isSome && !this.kept.isSome()) return this.#endsNow();
       this.#mayLook = true;
       moves.board.vain?.rests(moves.agent, this.#places);
-      if (!moves.idle(this.#untilTimer(), pending)) return STEP.IS_OVER;
+      if (!moves.idle(this.#untilTimer(), pending)) {
+        this.kept.write(pending);
+        return STEP.IS_OVER;
+      }
     }
     if (moves.looksFor > 0) return STEP.LOOKS;
     this.#act();
@@ -227,7 +237,7 @@ export class Loop {
     ends.beforeExit();
     this.drain();
     if (ends.isOver) return STEP.IS_OVER;
-    if (this.#hasOwnTask() || this.#keepers().length > 0 || this.#pending(underWay()).isSome) return STEP.GOES_ON;
+    if (this.#hasOwnTask() || this.kept.isSome() || this.#pending(underWay()).isSome) return STEP.GOES_ON;
     ends.leave();
     return STEP.IS_OVER;
   }
@@ -269,17 +279,6 @@ export class Loop {
     const { timers: armed, waits } = this.served;
     return waits.deadline === Infinity ? armed.places() : [undefined];
   };
-
-  /** @returns {string[]} what keeps the thread alive, in words */
-  #keepers() {
-    const { ports, timers: armed, children, ends } = this.served;
-    const texts = armed.alive ? armed.keepers().map(keeperText) : [];
-    if (this.#tasks.length > 0) texts.push("a task");
-    children.forEach(({ refed, listens, where }) => {
-      if (refed || listens) texts.push(`the worker started at ${where}`);
-    });
-    return texts.concat(ports.keepers(), ends.keepers());
-  }
 
   /** Begins one of the tasks that are there. */
   #act() {
@@ -352,8 +351,8 @@ export class Loop {
       waits.timeOut();
     } else {
       const timer = armed.nextTimer();
-      vain?.turns(timer?.where);
-      if (timer !== undefined && vain?.isShown) this.note(`runs ${timer.text}`, timer.where);
+      vain?.turns(() => timer?.where);
+      if (timer !== undefined && vain?.isShown) this.#noteTask(timer);
       armed.runTimer();
     }
   };
@@ -362,7 +361,7 @@ export class Loop {
   #runImmediate() {
     const { timers: armed } = this.served;
     const immediate = armed.nextImmediate();
-    if (immediate !== undefined) this.note(`runs ${immediate.text}`, immediate.where);
+    if (immediate !== undefined) this.#noteTask(immediate);
     try {
       armed.runImmediate();
     } finally {
@@ -380,9 +379,6 @@ export class Loop {
     if (likelihood > 0 && this.random.fraction() < likelihood) deadlines.passEarly(agent, left);
   }
 }
-
-/** @param {import("./timers.mjs").Described} timer @returns {string} */
-const keeperText = ({ text, where }) => (where === undefined ? text : `${text} from ${where}`);
 
 /** @param {string[]} active resources of node's @returns {boolean} */
 const isReading = (active) => active.some((each) => READING.has(each));

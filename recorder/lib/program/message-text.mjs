@@ -1,4 +1,5 @@
-// What is in a message, in a few words, for people. It reads nothing that is watched, and runs none of the program's code.
+// What is in a message, in a few words, for people. It reads nothing that is watched, and runs none of the program's
+// code.
 
 import { getOwnPropertyDescriptor, isArray, ownKeys, uncurried } from "../primordials.mjs";
 import { unwrapped } from "../agent/ordinary/watched.mjs";

@@ -1,5 +1,5 @@
-// What `queueMicrotask` calls. If the code of a run has been left, it is dropped: in some versions of node no hook shows
-// that it begins.
+// What `queueMicrotask` calls. If the code of a run has been left, it is dropped: in some versions of node no hook
+// shows that it begins.
 
 import { apply, likeEngine, weakHas, weakSet } from "../primordials.mjs";
 import { member } from "./member.mjs";

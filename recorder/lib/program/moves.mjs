@@ -21,7 +21,10 @@ export const toThread = (agent) => LOOP_PLACES + agent;
 /** @param {number} port that is being sent itself @returns {number} what a message to it goes to */
 export const toPort = (port) => PORT_PLACES + (port % (FEW_MESSAGES - PORT_PLACES));
 
-/** @param {number} message @returns {{ index: number, length: number }} its place, and how long the view is that has it */
+/**
+ * @param {number} message
+ * @returns {{ index: number, length: number }} its place, and how long the view is that has it
+ */
 const placeOf = (message) => ({
   index: message % MESSAGE_PLACES, length: message % MESSAGE_PLACES < FEW_MESSAGES ? FEW_MESSAGES : MESSAGE_PLACES,
 });
@@ -30,7 +33,9 @@ const placeOf = (message) => ({
 export const TO_CHANNELS = -1;
 
 export class Moves {
-  /** For how many milliseconds the thread that was drawn is to look for real answers; 0: it has something else to do. */
+  /**
+   * For how many milliseconds the thread that was drawn is to look for real answers; 0: it has something else to do.
+   */
   looksFor = 0;
 
   /**
@@ -262,7 +267,12 @@ export class Moves {
     this.#goesOn();
   }
 
-  /** @param {number} made which of the thread's calls it is @param {Call} call @param {boolean} isTimeUp @param {number} more flags */
+  /**
+   * @param {number} made which of the thread's calls it is
+   * @param {Call} call
+   * @param {boolean} isTimeUp
+   * @param {number} more flags
+   */
   #ends(made, call, isTimeUp, more) {
     const { board, agent, player: { table: { log, records } } } = this;
     const event = isTimeUp ? TIME_UP : LEAVE;
@@ -337,6 +347,7 @@ export class Moves {
 
   /** @param {number} message @returns {Call} */
   #edge(message) {
-    return { call: CALL_NUMBERS.notify, kind: INT32, block: MESSAGES, offset: 0, ...placeOf(message), operands: [], limit: 0 };
+    const call = CALL_NUMBERS.notify;
+    return { call, kind: INT32, block: MESSAGES, offset: 0, ...placeOf(message), operands: [], limit: 0 };
   }
 }

@@ -179,7 +179,7 @@ export class PortEvents {
       if (!meta.closed) this.ports.stop(port);
       return;
     }
-    meta.where = this.ports.world.here();
+    meta.where = this.ports.world.hereLater();
     if (!meta.closed) this.ports.start(port);
   }
 }
@@ -225,7 +225,7 @@ function methodsOf(events) {
     ref() {
       const meta = ports.known(this);
       meta.refed = !meta.closed;
-      if (meta.where === "") meta.where = ports.world.here();
+      meta.where ??= ports.world.hereLater();
     },
     unref() { ports.known(this).refed = false; },
     hasRef() { return ports.known(this).refed; },

@@ -55,7 +55,7 @@ const isUrgent = (kind) => kind > KIND.CLOSE;
  * @property {boolean} listens whether it has a listener of messages
  * @property {boolean} refed whether it keeps its thread alive
  * @property {boolean} closed
- * @property {string} where the first listener was added
+ * @property {import("../agent/frames.mjs").Later | undefined} where the first listener was added
  * @property {((envelope: Envelope) => void) | undefined} taker gets its messages, if they aren't for listeners
  * @property {boolean} keeps whether it can keep its thread alive
  * @property {{ runInAsyncScope(act: () => void): void }} scope in which its messages are delivered
@@ -70,6 +70,7 @@ const isUrgent = (kind) => kind > KIND.CLOSE;
  * @property {import("./buffers.mjs").Buffers} buffers
  * @property {import("./mesh.mjs").Mesh} mesh
  * @property {() => string} here where the program's code is
+ * @property {() => import("../agent/frames.mjs").Later} hereLater the same
  * @property {(why: string) => never} refuse ends the run
  * @property {(name: string, act: () => void) => void} later does something as a task of its own
  * @property {(number: number, kind: number, value: unknown) => void} noted notes what is in a message that is sent
@@ -178,7 +179,7 @@ export class Ports {
    */
   adopt(port, id) {
     weakSet(this.#metas, port, {
-      id, listeners: [], listens: false, refed: false, closed: false, where: "", taker: undefined,
+      id, listeners: [], listens: false, refed: false, closed: false, where: undefined, taker: undefined,
       keeps: true, queue: undefined, scope: new Scope("MESSAGEPORT"),
     });
     this.mine.set(id, port);
@@ -311,15 +312,21 @@ export class Ports {
     return this.world.table.waiting(this.known(port).id);
   }
 
+  /** @returns {Meta[]} what is known of the ports that keep this thread alive */
+  keeping() {
+    /** @type {Meta[]} */
+    const metas = [];
+    mapForEach(this.mine, (/** @type {any} */ port) => {
+      const meta = this.known(port);
+      if (meta.refed && !meta.closed && meta.keeps) metas.push(meta);
+    });
+    return metas;
+  }
+
   /** @returns {string[]} what keeps this thread alive, in words */
   keepers() {
-    /** @type {string[]} */
-    const texts = [];
-    mapForEach(this.mine, (/** @type {any} */ port) => {
-      const { refed, closed, keeps, listens, where } = this.known(port);
-      if (refed && !closed && keeps) texts.push(`a port ${listens ? "with a listener from" : "that is kept alive at"} ${where}`);
-    });
-    return texts;
+    return this.keeping().map(({ listens, where }) =>
+      `a port ${listens ? "with a listener from" : "that is kept alive at"} ${where?.() ?? ""}`);
   }
 
   /** @param {number} id of a port @returns {number} what a message to it goes to: its thread, or the port itself */

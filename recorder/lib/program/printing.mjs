@@ -19,7 +19,9 @@ const MOST_LINES = 4;
 /** @type {{ text: string }} */
 const last = { text: "" };
 
-/** @returns {string} what this thread has written to standard error last: a few lines, without frames of the recorder */
+/**
+ * @returns {string} what this thread has written to standard error last: a few lines, without frames of the recorder
+ */
 export const lastError = () => withoutOwn(last.text.trimEnd()).split("\n").slice(0, MOST_LINES).join("\n");
 
 /** Nothing was written yet. */

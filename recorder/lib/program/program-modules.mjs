@@ -1,7 +1,7 @@
 // The modules of a program of node's, made anew for each run by node's own loader: each run has a loader of its own. So
-// what a specifier stands for, a module's format, its errors and its `import.meta` are that node's. Below it modules are
-// read at once, and the engine compiles CommonJS once in a thread. Load this file before anything replaces what node's
-// modules export.
+// what a specifier stands for, a module's format, its errors and its `import.meta` are that node's. Below it modules
+// are read at once, and the engine compiles CommonJS once in a thread. Load this file before anything replaces what
+// node's modules export.
 
 import path from "node:path";
 import process from "node:process";
@@ -90,8 +90,8 @@ class Places {
 }
 
 /**
- * A builtin is required before an ES module gets it, so that what isn't simulated is replaced in it. Node makes it an ES
- * module once. It gets what the builtin has now, such as the run's class of threads.
+ * A builtin is required before an ES module gets it, so that what isn't simulated is replaced in it. Node makes it an
+ * ES module once. It gets what the builtin has now, such as the run's class of threads.
  */
 function requireBuiltins() {
   const translated = translators.get("builtin");

@@ -1,11 +1,14 @@
-// The real loop of a program's thread, by which the recorder goes on there itself. Node's own timers and immediates go by
-// the run's loop there (`timers.mjs`), so this stands on what node has below them. Load this file only in a program's
-// thread: from then on nothing else is called when the thread's real loop turns, or when a real time has passed.
+// The real loop of a program's thread, by which the recorder goes on there itself. Node's own timers and immediates go
+// by the run's loop there (`timers.mjs`), so this stands on what node has below them. Load this file only in a
+// program's thread: from then on nothing else is called when the thread's real loop turns, or when a real time has
+// passed.
 
 import { apply } from "../primordials.mjs";
 import { IMMEDIATES, REFED_IMMEDIATES, enterContext, exitContext, realTimers } from "./internals.mjs";
 
-const { binding, getLibuvNow, immediateInfo, scheduleTimer, setupTimers, toggleImmediateRef, toggleTimerRef } = realTimers;
+const {
+  binding, getLibuvNow, immediateInfo, scheduleTimer, setupTimers, toggleImmediateRef, toggleTimerRef,
+} = realTimers;
 
 /** Something that the recorder does later. Node finds it as the resource of what runs then. */
 export class Later {

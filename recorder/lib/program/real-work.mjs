@@ -8,7 +8,8 @@ import { READING } from "./reading.mjs";
 const OURS = new Set(["Immediate", "MessagePort", "Timeout", ...READING]);
 
 /** What node calls the work whose answers the machine gives: open sockets, pipes and processes, and requests. */
-const REAL = /^(?:Connect|GetAddrInfo|GetNameInfo|Http2|JS|Libuv|Pipe|Process|Query|Send|Shutdown|Simple|TCP|TLS|UDP|Write)/;
+const REAL = new RegExp("^(?:Connect|GetAddrInfo|GetNameInfo|Http2|JS|Libuv|Pipe|Process|Query|Send|Shutdown|Simple"
+  + "|TCP|TLS|UDP|Write)");
 
 /**
  * Of these, what another part of the run has to cause. The others come from a child process, or from what a request

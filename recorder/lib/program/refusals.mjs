@@ -1,5 +1,5 @@
-// What isn't simulated yet, beside what the tables of `surface.mjs` refuse: it ends the run by its name and line. Nothing
-// of it passes unseen.
+// What isn't simulated yet, beside what the tables of `surface.mjs` refuse: it ends the run by its name and line.
+// Nothing of it passes unseen.
 
 import process from "node:process";
 import { isCalledByAgents } from "../agent/frames.mjs";

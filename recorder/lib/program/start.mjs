@@ -2,7 +2,7 @@
 
 import process from "node:process";
 import { fileURLToPath, pathToFileURL } from "node:url";
-import { Modules } from "./internals.mjs";
+import { Modules, isThere } from "./internals.mjs";
 import { nodeError } from "./node-error.mjs";
 
 /** @type {(path: string, folders: null, isMain: boolean) => string | false} */
@@ -11,18 +11,33 @@ const findPath = Modules._findPath;
 const EVALUATED = "[worker eval]";
 
 /**
+ * What a thread began with last, and the file that it was: it begins with the same in most runs.
+ * @type {{ url: string, path: string, found?: { file: string, url: string } }}
+ */
+let last = { url: "", path: "" };
+
+/** @param {string} url of a file @returns {typeof last} */
+function knownOf(url) {
+  if (last.url !== url) last = { url, path: fileURLToPath(url) };
+  return last;
+}
+
+/**
  * Node finds the module that a thread begins with as `require` does: its name may be without the ending. It goes by the
- * file itself if a link leads to it.
+ * file itself if a link leads to it. A file that was found is taken as long as it is there: to find it takes long.
  * @param {string} url
  * @returns {string} the URL of the file
  */
 function entryOf(url) {
   if (!url.startsWith("file:")) return url;
-  const path = fileURLToPath(url);
-  const found = findPath(path, null, true);
-  if (found === false) throw nodeError("MODULE_NOT_FOUND", `Cannot find module '${path}'`, { requireStack: [] });
+  const known = knownOf(url);
+  if (known.found !== undefined && isThere(known.found.file)) return known.found.url;
+  const { path } = known;
+  const file = findPath(path, null, true);
+  if (file === false) throw nodeError("MODULE_NOT_FOUND", `Cannot find module '${path}'`, { requireStack: [] });
   const [rest = ""] = /[?#].*$/.exec(url) ?? [];
-  return `${pathToFileURL(found).href}${rest}`;
+  known.found = { file, url: `${pathToFileURL(file).href}${rest}` };
+  return known.found.url;
 }
 
 /**
@@ -41,6 +56,6 @@ export async function evaluated({ url, isCode }, graph) {
  * @returns {string[]}
  */
 export function argvOf({ url, isCode, argv }) {
-  const file = !isCode && url.startsWith("file:") ? fileURLToPath(url) : isCode ? EVALUATED : url;
+  const file = !isCode && url.startsWith("file:") ? knownOf(url).path : isCode ? EVALUATED : url;
   return [/** @type {any} */ (process).execPath, file, ...argv];
 }

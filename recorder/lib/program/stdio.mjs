@@ -15,7 +15,9 @@ const Readable = /** @type {any} */ (stream).Readable;
 
 /** @typedef {"stdin" | "stdout" | "stderr"} Name */
 /** @typedef {Record<Name, boolean>} Piped which streams go by a port */
-/** @typedef {Piped & { port: any }} Given what a thread gets of the streams; the port is undefined if none goes by it */
+/**
+ * @typedef {Piped & { port: any }} Given what a thread gets of the streams; the port is undefined if none goes by it
+ */
 
 /** @type {readonly ("stdout" | "stderr")[]} */
 const PRINTED = Object.freeze(["stdout", "stderr"]);

@@ -71,16 +71,16 @@ export const MODULES = withLater({
       fdatasync fstat fsync ftruncate futimes lchown lchmod link lstat lutimes mkdir mkdtemp open readdir read readv
       readFile readlink realpath rename rm rmdir stat statfs symlink truncate unlink utimes writeFile write writev
       ReadStream WriteStream FileReadStream FileWriteStream promises opendir Dir`,
-    harmless: `opendirSync appendFileSync accessSync chownSync chmodSync closeSync copyFileSync cpSync existsSync fchownSync
-      fchmodSync fdatasyncSync fstatSync fsyncSync ftruncateSync futimesSync lchownSync lchmodSync linkSync lstatSync
-      lutimesSync mkdirSync mkdtempSync openSync readdirSync readSync readvSync readFileSync readlinkSync realpathSync
-      renameSync rmSync rmdirSync statSync statfsSync symlinkSync truncateSync unlinkSync utimesSync writeFileSync
-      writeSync writevSync Dirent Stats _toUnixTimestamp F_OK R_OK W_OK X_OK constants`,
+    harmless: `opendirSync appendFileSync accessSync chownSync chmodSync closeSync copyFileSync cpSync existsSync
+      fchownSync fchmodSync fdatasyncSync fstatSync fsyncSync ftruncateSync futimesSync lchownSync lchmodSync linkSync
+      lstatSync lutimesSync mkdirSync mkdtempSync openSync readdirSync readSync readvSync readFileSync readlinkSync
+      realpathSync renameSync rmSync rmdirSync statSync statfsSync symlinkSync truncateSync unlinkSync utimesSync
+      writeFileSync writeSync writevSync Dirent Stats _toUnixTimestamp F_OK R_OK W_OK X_OK constants`,
     refused: "openAsBlob unwatchFile watch watchFile",
   },
   "fs/promises": {
-    simulated: `access copyFile cp open opendir rename truncate rm rmdir mkdir readdir readlink symlink lstat stat statfs link
-      unlink chmod lchmod lchown chown utimes lutimes realpath mkdtemp writeFile appendFile readFile`,
+    simulated: `access copyFile cp open opendir rename truncate rm rmdir mkdir readdir readlink symlink lstat stat
+      statfs link unlink chmod lchmod lchown chown utimes lutimes realpath mkdtemp writeFile appendFile readFile`,
     harmless: "constants",
     refused: "watch",
   },

@@ -84,7 +84,9 @@ const refusing = (name, { refuse, isPlaying = () => true }) => () => {
   throw new Error(`${name} isn't simulated`);
 };
 
-/** @type {(name: string, given: Given) => () => void} is called before what the machine answers. Node may use it itself */
+/**
+ * @type {(name: string, given: Given) => () => void} is called before what the machine answers. Node may use it itself
+ */
 const noting = (name, { used = () => {}, isPlaying = () => true }) => {
   const note = () => {
     if (isPlaying() && isCalledByAgents(note)) used(name);
@@ -115,7 +117,9 @@ function standIn(real, check) {
   return stand;
 }
 
-/** @type {Readonly<Record<"refused" | "real", (name: string, given: Given) => () => void>>} what is replaced, and how */
+/**
+ * @type {Readonly<Record<"refused" | "real", (name: string, given: Given) => () => void>>} what is replaced, and how
+ */
 const REPLACED = Object.freeze({ refused: refusing, real: noting });
 
 /**

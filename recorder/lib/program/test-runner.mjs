@@ -71,7 +71,8 @@ const TESTS = "test";
 const OF_REPORTS = /^--test-reporter/;
 
 const ownOptions = () => ({
-  ...options, getOptionValue: (/** @type {string} */ name) => (OF_REPORTS.test(name) ? [] : options.getOptionValue(name)),
+  ...options,
+  getOptionValue: (/** @type {string} */ name) => (OF_REPORTS.test(name) ? [] : options.getOptionValue(name)),
 });
 
 /**
@@ -90,7 +91,9 @@ function freshTests(failed, run) {
     hooks.push(hook);
     return hook;
   };
-  const ofThis = new Map([["async_hooks", { ...publicHooks, createHook: keeping }], ["internal/options", ownOptions()]]);
+  const ofThis = new Map([
+    ["async_hooks", { ...publicHooks, createHook: keeping }], ["internal/options", ownOptions()],
+  ]);
   const load = compiledAnew((id) => OF_TESTS.test(id), ofThis);
   const { TestsStream: { prototype } } = load("internal/test_runner/tests_stream");
   const { fail } = prototype;

@@ -17,7 +17,9 @@ import { toThread } from "./moves.mjs";
  * @property {(why: string) => never} refuse ends the run
  */
 
-/** @typedef {{ url: string, isCode?: boolean, where: string }} Start what a thread is to run, and where it was started */
+/**
+ * @typedef {{ url: string, isCode?: boolean, where: string }} Start what a thread is to run, and where it was started
+ */
 /** @typedef {{ start: Start, number: number, ports: any[], ids: number[] }} Handed */
 
 /**

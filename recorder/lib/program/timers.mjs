@@ -1,6 +1,6 @@
 // Timers and immediates of a thread whose time is the run's: node's own, over lower functions of the run. So those that
-// node itself starts, as for sockets, go by the run's time, too. Nothing runs by itself: the loop of the thread asks what
-// is due, and runs one callback after the other.
+// node itself starts, as for sockets, go by the run's time, too. Nothing runs by itself: the loop of the thread asks
+// what is due, and runs one callback after the other.
 
 import process from "node:process";
 import { apply, likeEngine, weakGet, weakSet } from "../primordials.mjs";
@@ -11,7 +11,8 @@ import { member } from "./member.mjs";
 import { turns } from "./real-loop.mjs";
 
 /** @typedef {any} Item a Timeout or an Immediate */
-/** @typedef {{ text: string, where: any }} Described what it is, in words, and where it was made */
+/** @typedef {{ text: string, readonly where: string | undefined }} Described it, in words, and where it was made */
+/** @typedef {import("../agent/frames.mjs").Later} Later */
 
 const { getTimerCallbacks, immediateQueue, kRefed, knownTimersById, timerListMap, timerListQueue } = nodeTimers;
 const { immediateInfo, timeoutInfo } = realTimers;
@@ -27,7 +28,7 @@ const stop = () => {
 export class Timers {
   /** Node's functions that run callbacks; one callback each time. */
   #process = getTimerCallbacks(stop);
-  /** @type {WeakMap<Item, any>} where each was made */
+  /** @type {WeakMap<Item, Later>} where each was made */
   #made = new WeakMap();
   /** @type {Item[]} immediates of the round that has begun, and those of the next one */
   #round = [];
@@ -43,11 +44,11 @@ export class Timers {
    * One for each thread: node's timers are those of the run from now on.
    * @param {object} given
    * @param {() => number} given.now the run's clock in milliseconds
-   * @param {() => any} [given.here] where the code is that makes a timer
+   * @param {(called: Function) => Later} [given.here] where the code is that makes a timer; `called` makes it
    */
-  constructor({ now, here = () => undefined }) {
+  constructor({ now, here = () => () => undefined }) {
     this.#now = () => Math.floor(now());
-    putBelowTimers(this.#now, (item) => void weakSet(this.#made, item, here()));
+    putBelowTimers(this.#now, (item) => void weakSet(this.#made, item, here(classOf(item))));
     this.#keepSignals();
     this.clear();
   }
@@ -63,9 +64,9 @@ export class Timers {
     return lists().reduce((earliest, list) => Math.min(earliest, dueOf(list)), Infinity);
   }
 
-  /** @returns {any[]} where each timer was made */
+  /** @returns {(string | undefined)[]} where each timer was made */
   places() {
-    return allTimers().map((timer) => weakGet(this.#made, timer));
+    return allTimers().map((timer) => this.#described(timer).where);
   }
 
   /** @returns {number} how many immediates are ready */
@@ -210,7 +211,13 @@ export class Timers {
 
   /** @param {Item} item @returns {Described} */
   #described(item) {
-    return { text: textOf(item), where: weakGet(this.#made, item) };
+    const where = weakGet(this.#made, item);
+    return {
+      text: textOf(item),
+      get where() {
+        return where?.();
+      },
+    };
   }
 }
 
@@ -220,9 +227,12 @@ const lists = () => Object.values(timerListMap);
 /** @returns {Item[]} */
 const allTimers = () => lists().flatMap((list) => itemsOf(list));
 
+/** @param {Item} item @returns {Function} node's class of it */
+const classOf = (item) => (item instanceof nodeTimers.Immediate ? nodeTimers.Immediate : nodeTimers.Timeout);
+
 /** @param {Item} item @returns {string} it in words */
 function textOf(item) {
-  if (item instanceof nodeTimers.Immediate) return "an immediate";
+  if (classOf(item) === nodeTimers.Immediate) return "an immediate";
   return `${item._repeat === null ? "a timer" : "an interval"} of ${item._idleTimeout} ms`;
 }
 

@@ -26,8 +26,8 @@ const STATS = Object.freeze(["stat", "lstat"]);
  * @param {any[]} all without the callback
  * @returns {any} what its twin returns, without the option that only the twin has
  */
-const statOf = (name, [path, options]) => engine[`${name}Sync`](path, name === "stat" && doesOtherwise("statWithoutEntry")
-  ? options : { ...options, throwIfNoEntry: true });
+const statOf = (name, [path, options]) => engine[`${name}Sync`](path,
+  name === "stat" && doesOtherwise("statWithoutEntry") ? options : { ...options, throwIfNoEntry: true });
 
 /**
  * What the callback of read and write gets, and of their forms for several buffers.

@@ -1,4 +1,5 @@
-// `crypto.subtle`: node's own code, whose work in other threads is done at once. A task of the run has the result later.
+// `crypto.subtle`: node's own code, whose work in other threads is done at once. A task of the run has the result
+// later.
 
 import { apply } from "../primordials.mjs";
 import { subtleOver } from "./internals.mjs";

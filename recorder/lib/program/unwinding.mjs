@@ -1,5 +1,5 @@
-// How the code of a program's thread is broken off when its part in a run is over. The engine unwinds the stack as if it
-// terminated the thread: no `catch` and no `finally` of the program runs. What the code has left to be done later is
+// How the code of a program's thread is broken off when its part in a run is over. The engine unwinds the stack as if
+// it terminated the thread: no `catch` and no `finally` of the program runs. What the code has left to be done later is
 // dropped. Then the thread can begin again. If node can't drop something, the thread sleeps for good.
 
 import { createHook, executionAsyncResource } from "node:async_hooks";

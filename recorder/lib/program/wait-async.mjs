@@ -80,7 +80,7 @@ export class WaitAsync {
 
   /** @returns {string[]} the waits that aren't settled, in words */
   texts() {
-    return this.#pending.map(({ where }) => (where === undefined ? "Atomics.waitAsync" : `Atomics.waitAsync from ${where}`));
+    return this.#pending.map(({ where }) => `Atomics.waitAsync${where === undefined ? "" : ` from ${where}`}`);
   }
 
   /** @returns {number} when the first wait ends by its time, on the run's clock; Infinity: none does */

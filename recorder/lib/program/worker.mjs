@@ -9,7 +9,7 @@ import util from "node:util";
 import threads from "node:worker_threads";
 import { recordedAtomics } from "../agent/atomics.mjs";
 import { described } from "../agent/described.mjs";
-import { isCalledByAgents, shownFrames, sourceHere, sourceOfCall } from "../agent/frames.mjs";
+import { isCalledByAgents, shownFrames, sourceHere, sourceLater, sourceOfCall } from "../agent/frames.mjs";
 import { watchRealm } from "../agent/ordinary/watch.mjs";
 import { Player } from "../agent/player.mjs";
 import { Chance, simulateChance, simulateTime } from "../agent/time.mjs";
@@ -34,6 +34,7 @@ import { Buffers } from "./buffers.mjs";
 import { restoreBuiltins } from "./builtins.mjs";
 import { Children } from "./children.mjs";
 import { installGrowing } from "./growing.mjs";
+import { UNKNOWN_PLACE, here, hereLater } from "./here.mjs";
 import { installCloning, installMemory, installProcess, keepProcess, restoreProcess } from "./install.mjs";
 import { countAnew, showFrames } from "./internals.mjs";
 import { Looking } from "./looking.mjs";
@@ -84,7 +85,7 @@ const placeNames = new SourceNames(origin);
 
 /**
  * What the thread is; nothing before it knows which one.
- * @type {{ player: Player | undefined, buffers: Buffers | undefined, moves: Moves | undefined, start: Start | undefined }}
+ * @type {Partial<{ player: Player, buffers: Buffers, moves: Moves, start: Start }>}
  */
 const self = { player: undefined, buffers: undefined, moves: undefined, start: undefined };
 
@@ -95,11 +96,6 @@ function playing() {
   if (self.player === undefined) throw new EngineError("the thread has no part in a run yet");
   return self.player;
 }
-
-const UNKNOWN_PLACE = "a place that isn't known";
-
-/** @returns {string} where the program's code is that has called one of the functions that stand for node's */
-const here = () => sourceOfCall() ?? UNKNOWN_PLACE;
 
 /** @param {string} why @param {string} [place] of the program's code @returns {never} */
 function refuse(why, place = sourceHere() ?? UNKNOWN_PLACE) {
@@ -133,7 +129,8 @@ const watching = {
   },
   isCalledByAgents,
   // There is no other way to watch a program.
-  refuse: (why) => refuse(`did something that the recorder can't record: ${why.replace(": --ordinary store lets it pass", "")}`),
+  refuse: (why) =>
+    refuse(`did something that the recorder can't record: ${why.replace(": --ordinary store lets it pass", "")}`),
 };
 
 /** Memory that no other thread can reach concerns no other thread: a program sleeps by a wait there. */
@@ -186,9 +183,7 @@ function playerOf(agent) {
 }
 
 /** @returns {Promise<any>} the next message, which mustn't have come yet */
-const nextMessage = () => new Promise((done) => {
-  port.once("message", done);
-});
+const nextMessage = () => new Promise((done) => port.once("message", done));
 
 /**
  * What the thread has of a run.
@@ -211,7 +206,8 @@ function partsOf(player, blocks, mesh) {
   const notes = new TaskNotes(shared.tasks);
   /** @type {import("./ends.mjs").Leaving["note"]} */
   const note = (text, place) => late.loop?.note(text, place);
-  const ports = new Ports({ agent, table, moves, buffers, mesh, here, refuse, later, note, noted: notingOf(board, notes) });
+  const noted = notingOf(board, notes);
+  const ports = new Ports({ agent, table, moves, buffers, mesh, here, hereLater, refuse, later, note, noted });
   const isShown = () => board.words[WORD.IS_SILENT] === 0 && isPlaying();
   const spawned = new Children(new Pids(shared.pids[agent]), isShown);
   const real = new RealWork(new Notes(shared.notes[agent]), spawned, here);
@@ -221,7 +217,7 @@ function partsOf(player, blocks, mesh) {
   const ends = new surroundings.Ends({ agent, player, ports, threads: all, here, leave, ...about });
   const drain = () => late.loop?.drain();
   const events = new surroundings.PortEvents({ ports, uncaught: (thrown) => ends.uncaught(thrown), drain });
-  const timers = new Timers({ now: () => board.clock.now(), here: sourceOfCall });
+  const timers = new Timers({ now: () => board.clock.now(), here: sourceLater });
   const children = new Set();
   const locks = new Locks({ ports, moves, mesh, threads: all, later, refuse, isAtOnce: surroundings.hasPhases });
   const waits = new WaitAsync({ moves, buffers, isPlaying, refuse });

@@ -54,8 +54,8 @@ function typeError(message, code) {
 /** @param {unknown} file @param {any} options @returns {string} a URL, or the code that is to be evaluated */
 function urlOf(file, options) {
   if (options.eval) {
-    if (typeof file !== "string") throw typeError("options.eval must be false when 'filename' is not a string", "ERR_INVALID_ARG_VALUE");
-    return file;
+    if (typeof file === "string") return file;
+    throw typeError("options.eval must be false when 'filename' is not a string", "ERR_INVALID_ARG_VALUE");
   }
   if (file instanceof URL) {
     if (/^(?:file|data):/.test(file.href)) return file.href;
@@ -66,7 +66,8 @@ function urlOf(file, options) {
   }
   if (isAbsolute(file) || /^\.\.?[\\/]/.test(file)) return pathToFileURL(resolve(file)).href;
   throw typeError(`The worker script or module filename must be an absolute path or a relative path starting with `
-    + `'./' or '../'.${/^(?:file:|data:)/.test(file) ? " Wrap URLs with `new URL`." : ""} Received "${file}"`, "ERR_WORKER_PATH");
+    + `'./' or '../'.${/^(?:file:|data:)/.test(file) ? " Wrap URLs with `new URL`." : ""} Received "${file}"`,
+  "ERR_WORKER_PATH");
 }
 
 /** @param {any} options @returns {string} what `threadName` is */
@@ -113,7 +114,8 @@ function limitsOf({ resourceLimits }) {
   const limits = { ...LIMITS };
   LIMITED.forEach((name) => {
     const given = resourceLimits?.[name];
-    if (typeof given === "number") limits[name] = name === "maxOldGenerationSizeMb" ? Math.max(given, LEAST_OLD) : given;
+    if (typeof given !== "number") return;
+    limits[name] = name === "maxOldGenerationSizeMb" ? Math.max(given, LEAST_OLD) : given;
   });
   return limits;
 }
@@ -193,7 +195,9 @@ class Worker extends EventEmitter {
     this.on("removeListener", (/** @type {unknown} */ name) => isFirst(name) && this.#listens(false));
   }
 
-  /** @param {boolean} isListening whether the program listens to its messages from now on; if not, they wait, as in node */
+  /**
+   * @param {boolean} isListening whether the program listens to its messages from now on; if not, they wait, as in node
+   */
   #listens(isListening) {
     if (!this.#isAlive) return;
     const { ports } = world();

@@ -52,11 +52,10 @@ import { TextMaker } from "./taken.mjs";
  * @property {boolean} fresh
  * @property {"watch" | "store" | "refuse"} [ordinary] what is done with ordinary reads and writes
  * @property {"fail" | "allow"} [races] whether a run that finishes and has unordered accesses fails
- * @property {"fail" | "allow"} [bounds] whether a run that meets a bound fails
+ * @property {"fail" | "allow"} [limits] whether a run that meets a limit fails
  * @property {"fail" | "allow"} [unrecorded] whether a run fails in which agents use shared memory that isn't recorded
  * @property {"run" | "real"} [clock] which time agents get
  * @property {boolean} [trace] whether each run has its trace
- * @property {boolean} [wantsMeetings] whether the lines are wanted that came one after the other at a place
  * @property {boolean} [isBrief] whether outcomes of runs that pass have no bytes and answers
  * @property {OfBuffers} [init] fills the buffers before each run, in place of the module's
  * @property {OfBuffers} [check] throws if the buffers aren't right after a run that finished, in place of the
@@ -295,15 +294,15 @@ export class Group {
    * @param {{ hasInit: boolean, hasCheck: boolean }} module
    */
   refereeOptions({ hasInit, hasCheck }) {
-    const { init, check, module, seconds, fresh, trace, wantsMeetings, isBrief, ordinary } = this.options;
-    const { races, bounds, unrecorded } = this.options;
+    const { init, check, module, seconds, fresh, trace, isBrief, ordinary } = this.options;
+    const { races, limits, unrecorded } = this.options;
     /** @type {(own: OfBuffers | undefined, isTheirs: boolean) => "library" | "module" | undefined} */
     const whose = (own, isTheirs) => {
       if (own !== undefined) return "library";
       return isTheirs ? "module" : undefined;
     };
     const asked = { init: whose(init, hasInit), check: whose(check, hasCheck) };
-    return { module, seconds, fresh, trace, wantsMeetings, isBrief, ordinary, races, bounds, unrecorded, ...asked };
+    return { module, seconds, fresh, trace, isBrief, ordinary, races, limits, unrecorded, ...asked };
   }
 
   /**

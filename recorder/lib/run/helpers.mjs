@@ -14,7 +14,11 @@ const INT32 = KINDS.indexOf("Int32");
 const PLACES = ENDS + 1;
 const VIEW_BYTES = PLACES * SIZES[INT32];
 
-/** @param {import("../memory/log.mjs").Log} log @param {number} event @returns {boolean} whether it is one of such a wait */
+/**
+ * @param {import("../memory/log.mjs").Log} log
+ * @param {number} event
+ * @returns {boolean} whether it is one of such a wait
+ */
 export const isAsync = (log, event) => (log.flagsAt(event) & FLAG.ASYNC) !== 0;
 
 export class Helpers {
@@ -56,7 +60,10 @@ export class Helpers {
     return helpersView(helper, this.#all[helper - this.first].owner);
   }
 
-  /** @param {number} helper @returns {import("./transcript.mjs").Range} that view; messages have the block's first places */
+  /**
+   * @param {number} helper
+   * @returns {import("./transcript.mjs").Range} that view; messages have the block's first places
+   */
   rangeOf(helper) {
     const offset = 4 * FEW_MESSAGES - (helper - this.first + 1) * VIEW_BYTES;
     return { kind: INT32, block: MESSAGES, offset, length: PLACES };

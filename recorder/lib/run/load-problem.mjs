@@ -7,13 +7,13 @@ import { fileURLToPath } from "node:url";
 export const TYPESCRIPT = /\.[cm]?tsx?$/;
 const NOT_LOADED_AS_IT_IS = /ERR_UNKNOWN_FILE_EXTENSION|ERR_NO_TYPESCRIPT|ERR_UNSUPPORTED_TYPESCRIPT_SYNTAX/;
 /** What helps. */
-export const COMPILE = "it is TypeScript, which this node doesn't load: compile it first, and give the .js file. Source maps "
-  + "are followed, so lines are those of the .ts file";
+export const COMPILE = "it is TypeScript, which this node doesn't load: compile it first, and give the .js file. "
+  + "Source maps are followed, so lines are those of the .ts file";
 
 // What only code has that starts threads, or that runs in one.
 const OF_PROGRAMS = /\bnew Worker\(|\b(?:workerData|parentPort|isMainThread)\b/;
-const PROGRAM = "It looks like a program, or like the file of its Worker. A module of agents starts no threads: it only "
-  + "exports what one thread does, as `export default function agent({ buffers, agent }) { .. }`";
+const PROGRAM = "It looks like a program, or like the file of its Worker. A module of agents starts no threads: it "
+  + "only exports what one thread does, as `export default function agent({ buffers, agent }) { .. }`";
 
 /** @param {string} url @returns {boolean} */
 function looksLikeProgram(url) {

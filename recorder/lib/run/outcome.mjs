@@ -1,6 +1,6 @@
 // What is asked of one run, and its outcome: only types.
 
-/** @typedef {"finished" | "deadlock" | "stuck" | "failed" | "check" | "race" | "bound"} Ending */
+/** @typedef {"finished" | "deadlock" | "stuck" | "failed" | "check" | "race" | "limit"} Ending */
 
 /**
  * @typedef {object} Outcome of one run
@@ -52,13 +52,6 @@
  */
 
 /**
- * @typedef {object} Covering what an outcome has besides, if coverage is looked for
- * @property {string[]} [meetings] pairs of lines that came one after the other at a place, by different agents; those
- * that this group's runs before haven't shown
- * @property {number} [unplaced] of how many accesses the line isn't known
- */
-
-/**
  * @typedef {object} Wanting
  * @property {number} seed
  * @property {boolean} whole whether a run that finishes has answers, script and report too
@@ -100,7 +93,9 @@
 
 /** @typedef {{ outcome: Outcome, judgement?: Judgement, aside: Aside }} One all that is reported about one run */
 
-/** @typedef {Omit<Judgement, "events"> & { events?: Int32Array }} SentJudgement without the events if they are copied */
+/**
+ * @typedef {Omit<Judgement, "events"> & { events?: Int32Array }} SentJudgement without the events if they are copied
+ */
 
 /** @typedef {Omit<One, "judgement"> & { judgement?: SentJudgement, taken?: import("./taken.mjs").Taken }} Sent the same
  * as the referee sends it: without its script and report if these are made of copies */

@@ -21,7 +21,8 @@ export function blockNames(places) {
     counts.set(line, number);
     return number;
   });
-  return lines.map((line, block) => (line === "" || counts.get(line) === 1 ? line : `${line}, number ${numbers[block]}`));
+  const isOnly = (/** @type {string} */ line) => line === "" || counts.get(line) === 1;
+  return lines.map((line, block) => (isOnly(line) ? line : `${line}, number ${numbers[block]}`));
 }
 
 /** A mention of a thread; of a block; and of an element by its view's name, which has the block's number. */

@@ -15,8 +15,8 @@ import { digits } from "./words.mjs";
 const CUT = "a thread was terminated while it waited, which no script can have: sabsim judges only the trace of such a "
   + "run";
 
-const CUT_ASYNC = "a notify came where a thread that has ended had waited by Atomics.waitAsync, which no script can have: "
-  + "sabsim judges only the trace of such a run";
+const CUT_ASYNC = "a notify came where a thread that has ended had waited by Atomics.waitAsync, which no script can "
+  + "have: sabsim judges only the trace of such a run";
 
 /** Why a run has neither a script nor a trace. */
 const MORE_MEMORY = `its threads share more than ${MOST_BLOCKS} buffers, one of more than ${MOST_BYTES} bytes, or one `
@@ -24,12 +24,12 @@ const MORE_MEMORY = `its threads share more than ${MOST_BLOCKS} buffers, one of 
   + "recorder alone judges such a run";
 
 /** The last of the first places are those by which threads hand over waits in a script. */
-const CROWDED_ASYNC = `it has more than ${digits(FEW_MESSAGES)} messages beside waits of Atomics.waitAsync: sabsim judges only the `
-  + "trace of such a run";
+const CROWDED_ASYNC = `it has more than ${digits(FEW_MESSAGES)} messages beside waits of Atomics.waitAsync: `
+  + "sabsim judges only the trace of such a run";
 
 /** Two messages then have one place, as if the later one was sent after the earlier one was received. */
-const CROWDED = `it has more than ${digits(MESSAGE_PLACES)} messages, the most that can be told apart: unordered accesses `
-  + "may be missed";
+const CROWDED = `it has more than ${digits(MESSAGE_PLACES)} messages, the most that can be told apart: `
+  + "unordered accesses may be missed";
 
 const LOST = "so many ordinary writes were made to its buffers, or one had so many bytes at first, that a script "
   + "doesn't have them: sabsim judges only the trace of such a run";
@@ -121,7 +121,10 @@ export class ProgramState {
     return written.windows !== undefined && written.stores.isLost() ? LOST : undefined;
   }
 
-  /** @returns {import("./final-state.mjs").MoreBytes | undefined} of the blocks that no script can have, if there are any */
+  /**
+   * @returns {import("./final-state.mjs").MoreBytes | undefined} of the blocks that no script can have, if there are
+   * any
+   */
   moreBytes() {
     const { more } = this.blocks;
     return more.count === 0 ? undefined : moreBytesOf(more.numbers().map((block) => more.known(block)));
@@ -159,7 +162,10 @@ export class ProgramState {
     return ends.filter(({ text }) => text !== "");
   }
 
-  /** @param {string} detail @returns {string} where the top-level await is of which it says that it never settles, if it is known */
+  /**
+   * @param {string} detail
+   * @returns {string} where the top-level await is of which it says that it never settles, if it is known
+   */
   awaitText(detail) {
     const place = this.keepers[0].awaited();
     return place !== "" && /has a top-level await that never settles$/.test(detail) ? `, at ${place}` : "";

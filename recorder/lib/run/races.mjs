@@ -328,7 +328,10 @@ function forPairs(log, agents, onPair, ranges) {
   }, ranges);
 }
 
-/** @type {(log: Log, agents: number, blocks: number, onPair: OnRace) => void} the same, by how many numbers of blocks there are */
+/**
+ * @type {(log: Log, agents: number, blocks: number, onPair: OnRace) => void} the same, by how many numbers of blocks
+ * there are
+ */
 export const forRacing = (log, agents, blocks, onPair) => forPairs(log, agents, onPair, rangesOf(log, blocks));
 
 /** @param {number} place the number of a byte @returns {{ block: number, byte: number }} */

@@ -7,7 +7,6 @@ import { WORD } from "../memory/layout.mjs";
 import { Log } from "../memory/log.mjs";
 import { onceMore } from "../processes/garbage.mjs";
 import { firstDifferent } from "./differing-events.mjs";
-import { Meetings } from "./meetings.mjs";
 import { FirstFailing } from "./order.mjs";
 import { PILOTS, Pilots } from "./pilots.mjs";
 import { namedText } from "./program-names.mjs";
@@ -48,8 +47,6 @@ class Referee {
     this.options = options;
     this.maker = new RunMaker(given, sourceNames, ProgramState);
     this.reporter = new RunReporter(given, this.maker);
-    this.meetings = options.wantsMeetings ? new Meetings(sourceNames) : undefined;
-    this.notesAlways = options.trace || this.meetings !== undefined;
     /** Which lines of code the next run notes at once. If the run before raced, the next one may race there, too. */
     this.linesNext = this.#linesAfter(false, false);
     /** Whether there are accesses that race and whose lines can't be found. */
@@ -117,12 +114,9 @@ class Referee {
 
   /** @param {Wanted} wanted @returns {Promise<Sent>} the outcome of a seed */
   async #one(wanted) {
-    const { maker, maker: { log }, reporter, meetings } = this;
+    const { maker, maker: { log }, reporter } = this;
     let lines = this.linesNext;
     let found = await maker.made(wanted, lines);
-    /** @type {import("./outcome.mjs").Covering} */
-    const covering = meetings === undefined
-      ? {} : { meetings: meetings.add(log, reporter.sources), unplaced: meetings.unplaced };
     const isCut = lines !== LINES.NONE && !log.hasRoom();
     if (isCut) {
       // Not all accesses have noted their lines, so another run is judged, which notes each of them once.
@@ -147,7 +141,6 @@ class Referee {
     learnDetail(outcome, again?.again);
     if (again !== undefined) lines = maker.log.hasRoom() ? LINES.OF_FIRST : LINES.NONE;
     if (!isReal) await this.#addSources(wanted, outcome, found, { lines, isFirst });
-    Object.assign(outcome, covering);
     if (outcome.ending === "race") outcome.detail = outcome.races.map(({ text }) => text).join("\n");
     nameIn(outcome, found);
     this.linesNext = this.#linesAfter(found.racy && !isCut, isReal && !isCut);
@@ -156,7 +149,7 @@ class Referee {
 
   /** @param {boolean} isRacy @param {boolean} isReal what a run was @returns {number} which lines the next one notes */
   #linesAfter(isRacy, isReal) {
-    if (this.notesAlways || isReal) return LINES.ALL;
+    if (this.options.trace || isReal) return LINES.ALL;
     return isRacy ? LINES.OF_RACES : LINES.NONE;
   }
 
@@ -240,8 +233,8 @@ class Referee {
    * @param {Wanted} wanted
    * @param {Outcome} outcome
    * @param {Made} found
-   * @param {{ lines: number, isFirst: boolean }} known which of the log's accesses have noted their lines; whether it may
-   * be the first failing run
+   * @param {{ lines: number, isFirst: boolean }} known which of the log's accesses have noted their lines; whether it
+   * may be the first failing run
    */
   async #addSources(wanted, outcome, found, { lines, isFirst }) {
     const { maker, reporter } = this;

@@ -43,11 +43,10 @@ import { unseenText } from "./unseen.mjs";
  * @property {number} seconds for how long an agent may make no call
  * @property {boolean} fresh
  * @property {boolean} trace
- * @property {boolean} [wantsMeetings]
  * @property {boolean} [isBrief] whether outcomes of runs that pass have no bytes and answers
  * @property {"watch" | "store" | "refuse"} ordinary
  * @property {"fail" | "allow"} races
- * @property {"fail" | "allow"} bounds
+ * @property {"fail" | "allow"} limits
  * @property {"fail" | "allow"} unrecorded
  * @property {"library" | "module" | undefined} init whose it is, if there is one
  * @property {"library" | "module" | undefined} check whose it is, if there is one
@@ -73,7 +72,8 @@ const ENDLESS = "didn't come to its end";
  */
 const NOT_SYNCHRONOUS = /^(?:agent \d+ )?(?:goes on later|returned a promise), /;
 
-const NOTHING_TRIED = "no agent has made a call of Atomics, or another access that is seen, on the recorded buffers: nothing was tried";
+const NOTHING_TRIED = "no agent has made a call of Atomics, or another access that is seen, on the recorded buffers: "
+  + "nothing was tried";
 
 /**
  * Which accesses of a run note their lines of code: how many of the ordinary ones do, wherever they are. Those in the
@@ -125,15 +125,16 @@ export class RunMaker {
     if (this.program !== undefined) this.agents = this.program.learn();
     const stray = board.row.strayed();
     const bytes = memory.hex();
-    const isBound = result.ending === "bound";
-    const waiting = isBound || result.ending === "deadlock" ? board.line.waiting() : [];
-    const asking = isBound ? this.agents.filter((agent) => board.line.asks(agent)) : [];
-    const met = isBound ? board.end.met() : undefined;
+    const isAtLimit = result.ending === "limit";
+    const waiting = isAtLimit || result.ending === "deadlock" ? board.line.waiting() : [];
+    const asking = isAtLimit ? this.agents.filter((agent) => board.line.asks(agent)) : [];
+    const met = isAtLimit ? board.end.met() : undefined;
     const gone = this.#sentHome();
     const endless = gone.filter((agent) => !board.turn.isParked(agent));
     const racy = options.ordinary === "watch" && isRacy(this.log, plan.agents, plan.buffers.length);
     const isWhole = this.program !== undefined;
-    const named = isBound || isWhole ? sourceNames.withNames(this.#placed(result.detail)) : this.#named(result.detail);
+    const isPlaced = isAtLimit || isWhole;
+    const named = isPlaced ? sourceNames.withNames(this.#placed(result.detail)) : this.#named(result.detail);
     const told = [named, ...this.#standstillLines(result.ending)].filter((line) => line !== "");
     const detail = stray === undefined ? told.join("\n") : strayText(stray, named);
     const notes = this.agents.flatMap((agent) => this.notes[agent].read().map((note) => ({ ...note, agent })));
@@ -152,7 +153,8 @@ export class RunMaker {
     const unseen = unseenText(found.unseen, unrecorded, this.sourceNames.placeName);
     if (unseen !== "" && found.stray === undefined) return failedFor(unseen, found);
     if (found.ending !== "finished") return found;
-    if (this.program === undefined && this.#triedNothing()) return { ...found, ending: "failed", detail: NOTHING_TRIED };
+    const triedNothing = this.program === undefined && this.#triedNothing();
+    if (triedNothing) return { ...found, ending: "failed", detail: NOTHING_TRIED };
     const problem = check === undefined ? "" : await this.#asked("check");
     if (problem !== "") return { ...found, ending: "check", detail: `check ${problem}` };
     return found.racy && races === "fail" ? { ...found, ending: "race" } : found;
@@ -262,7 +264,10 @@ export class RunMaker {
     return `${detail}${this.program?.awaitText(detail) ?? ""}`;
   }
 
-  /** @param {string} ending @returns {string[]} which threads of a program have ended by an error, and which have nothing to do */
+  /**
+   * @param {string} ending
+   * @returns {string[]} which threads of a program have ended by an error, and which have nothing to do
+   */
   #standstillLines(ending) {
     const { program, sourceNames } = this;
     const ends = (program?.ends(ending) ?? []).map(({ agent, text }) => {

@@ -52,7 +52,8 @@ export class RunReporter {
     const draws = row.own();
     const unrecorded = unrecordedIn(found.unseen, this.sourceNames.placeName);
     const real = realIn(found.real ?? [], this.sourceNames.placeName);
-    const isAllowed = (ending === "bound" && options.bounds === "allow") || (ending === "stuck" && options.stuck === "allow");
+    const isAllowed = (ending === "limit" && options.limits === "allow")
+      || (ending === "stuck" && options.stuck === "allow");
     const fails = ending !== "finished" && !isAllowed;
     const early = deadlines.early();
     const missed = maker.program?.whyMissed;
@@ -216,7 +217,8 @@ export class RunReporter {
   /** @returns {import("./outcome.mjs").Task[]} those that a program's event loops have begun */
   #tasks() {
     const tasks = this.maker.program?.tasks.list() ?? [];
-    return tasks.map(({ place, ...task }) => ({ ...task, source: place === "" ? null : this.sourceNames.nameOf(place) }));
+    const sourceOf = (/** @type {string} */ place) => (place === "" ? null : this.sourceNames.nameOf(place));
+    return tasks.map(({ place, ...task }) => ({ ...task, source: sourceOf(place) }));
   }
 
   /**
@@ -257,7 +259,7 @@ export class RunReporter {
     const waits = waitsOf(waiting, transcript, sourceOf);
     const stands = [...waits.map(waitText), ...askingLines(asking, transcript, sourceOf)];
     outcome.detail = [detail, ...stands].filter((line) => line !== "").join("\n");
-    if (ending === "deadlock" || ending === "bound") {
+    if (ending === "deadlock" || ending === "limit") {
       outcome.standing = standingsOf({ met, waits, asking }, transcript, sourceOf);
     }
     if (!fails || ending === "race") return;

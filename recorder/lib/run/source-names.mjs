@@ -77,7 +77,10 @@ export class SourceNames {
     return name;
   }
 
-  /** @param {string} url of a file @returns {string} its path from the module's folder; on another drive the whole path */
+  /**
+   * @param {string} url of a file
+   * @returns {string} its path from the module's folder; on another drive the whole path
+   */
   #nearName(url) {
     const { path, isWindows } = this.platform;
     const [from, to] = [this.module, realUrl(url)].map((each) => fileURLToPath(each, { windows: isWindows }));

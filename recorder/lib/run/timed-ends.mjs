@@ -8,8 +8,8 @@ import { FLAG } from "../memory/log.mjs";
 /** @typedef {{ block: number, byte: number }} Place at which agents wait: a byte, at which an element begins */
 
 /**
- * @typedef {object} OnlyByTime a wait that ended only because its time was up: nothing else could move, and its word had
- * changed, or no other agent could ever go on
+ * @typedef {object} OnlyByTime a wait that ended only because its time was up: nothing else could move, and its word
+ * had changed, or no other agent could ever go on
  * @property {number} agent
  * @property {string | null} line of its code: file, line and column; null: it isn't known
  * @property {number} milliseconds its timeout, without a fraction

@@ -23,7 +23,10 @@ const AGENTS = Array.from({ length: SCRIPT_LIMITS.agents }, (_, agent) => flat(`
 /** The flags that a line has. */
 const FLAGS = FLAG.READS | FLAG.WRITES | FLAG.ATOMIC | FLAG.WAITERS;
 
-/** @param {import("../memory/log.mjs").LogEvent} event @returns {string} from what it is called to the place in the code */
+/**
+ * @param {import("../memory/log.mjs").LogEvent} event
+ * @returns {string} from what it is called to the place in the code
+ */
 function deedText(event) {
   const { block, from, to, flags } = event;
   return `,"does":"${nameOf(event)}","block":${block},"byte":${from},"size":${to - from}` +

@@ -69,8 +69,8 @@ class Writer {
     this.moves = [];
     /** @type {Move[]} each agent's move that isn't the end of a time */
     this.plainMoves = [];
-    // Not by `map`: its arrays are of another kind once the engine has optimized this, and then the engine has to compile
-    // anew all code that takes them.
+    // Not by `map`: its arrays are of another kind once the engine has optimized this, and then the engine has to
+    // compile anew all code that takes them.
     for (let agent = 0; agent < canBlock.length; agent += 1) {
       this.calls.push([]);
       this.own.push(0);

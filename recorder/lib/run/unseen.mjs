@@ -32,11 +32,14 @@ function memoryText(note, nameOf) {
     + `hand the class \`buffers[0]\` in place of it; ${ALLOW}`;
 }
 
-/** @type {Record<Exclude<import("../memory/notes.mjs").NoteKind, "real">, (note: AgentsNote, nameOf: Naming) => string>} */
+/**
+ * @type {Record<Exclude<import("../memory/notes.mjs").NoteKind, "real">, (note: AgentsNote, nameOf: Naming) => string>}
+ */
 const TEXTS = {
   memory: memoryText,
   wasm: ({ agent, what, place }, nameOf) =>
-    `agent ${agent} has ${madeAt(what, place, nameOf)}, which isn't recorded: nobody sees what is done with it; ${ALLOW}`,
+    `agent ${agent} has ${madeAt(what, place, nameOf)}, which isn't recorded: `
+    + `nobody sees what is done with it; ${ALLOW}`,
   given: ({ agent, what, place }, nameOf) =>
     `agent ${agent} gave memory or a port to another thread, by ${what} at ${nameOf(place)}: `
     + `nobody sees what that thread does; ${ALLOW}`,

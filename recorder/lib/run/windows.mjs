@@ -131,7 +131,10 @@ export class Windows {
     return overlap(ofBuffers) || overlap(ofBlocks);
   }
 
-  /** @param {number} messages the length of the block for messages, which stays as it is @returns {number[]} those of the script's blocks */
+  /**
+   * @param {number} messages the length of the block for messages, which stays as it is
+   * @returns {number[]} those of the script's blocks
+   */
   lengths(messages) {
     const lengths = Array.from({ length: MESSAGES }, () => 0);
     for (const { from, to, block, byte } of this.list) lengths[block] = byte + to - from;

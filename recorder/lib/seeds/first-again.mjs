@@ -69,8 +69,8 @@ export function keepsGlobals(outcome, made) {
   const found = made && differenceBetween({ ...outcome, acts: made.acts }, made.again);
   if (found === undefined) return undefined;
   const where = made?.place === undefined ? "" : `, first at ${made.place}`;
-  return new KeepsGlobals(`seed ${found.seed} was run once more in fresh threads, and ${differenceText(found)}${where}: `
-    + "the program keeps something in globals: try --fresh");
+  return new KeepsGlobals(`seed ${found.seed} was run once more in fresh threads, and ${differenceText(found)}`
+    + `${where}: the program keeps something in globals: try --fresh`);
 }
 
 /** @param {Remembering} found @returns {string} a line of a summary */

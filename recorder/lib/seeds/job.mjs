@@ -11,7 +11,9 @@ import { ModuleSimulator } from "../simulator/module.mjs";
 import { KeepsGlobals, keepsGlobals, otherInputText } from "./first-again.mjs";
 
 /** @typedef {import("../run/outcome.mjs").Outcome} Outcome */
-/** @typedef {{ stray?: import("../board/row.mjs").Stray, acts?: string }} Besides `acts` is a digest of what was done */
+/**
+ * @typedef {{ stray?: import("../board/row.mjs").Stray, acts?: string }} Besides `acts` is a digest of what was done
+ */
 /** @typedef {Outcome & import("../check/check.mjs").Check & Besides} Checked */
 
 /** Why a failing run isn't checked if its job's process was ended before. */
@@ -95,8 +97,8 @@ export class Job {
    * @param {(outcome: Checked) => void} onOutcome
    * @param {(outcome: Checked) => void} [onFailing] is called for a failing run before it is checked, and before the
    * next run begins
-   * @returns {Promise<void>} fails if a check has failed, and the outcome of that run is the last one; also if a program
-   * keeps something in globals
+   * @returns {Promise<void>} fails if a check has failed, and the outcome of that run is the last one; also if a
+   * program keeps something in globals
    */
   async run(seeds, onOutcome, onFailing = () => {}) {
     const group = await this.#opened();

@@ -66,7 +66,9 @@ const isCount = (value) => Number.isInteger(value) && Number(value) >= 0;
 /** @typedef {import("../memory/spelling.mjs").Range} View */
 /** @typedef {import("../run/windows.mjs").Windows} Windows */
 
-/** @typedef {Map<string, import("../../script/text.mjs").View>} AsSpelled views as the script has them, by their names */
+/**
+ * @typedef {Map<string, import("../../script/text.mjs").View>} AsSpelled views as the script has them, by their names
+ */
 
 /** @param {any} script @param {number[]} lengths of its blocks @returns {Map<string, View>} by their names */
 function viewsOf({ views }, lengths) {
@@ -131,7 +133,8 @@ function callOf(parts, views, spelled, windows) {
  * @param {number | bigint} operand
  */
 function writeOf(views, name, index, operand) {
-  need(typeof operand === "bigint" || Number.isInteger(operand), `its store of ${operand} isn't one of an ordinary write`);
+  const isOne = typeof operand === "bigint" || Number.isInteger(operand);
+  need(isOne, `its store of ${operand} isn't one of an ordinary write`);
   return writtenText(/** @type {import("../../script/text.mjs").View} */ (views.get(name)), views, index, operand);
 }
 
@@ -158,7 +161,8 @@ class Reader {
     /** From each helper to its thread. */
     this.owners = helpersIn(script.views);
     const own = script.agents.length - this.owners.size - (isOfInit ? 1 : 0);
-    const areLast = [...this.owners].every(([helper, owner]) => owner < own && helper >= own && helper < this.calls.length);
+    const areLast = [...this.owners].every(([helper, owner]) =>
+      owner < own && helper >= own && helper < this.calls.length);
     need(areLast, "its views of waitAsync name agents that it doesn't have");
     /** @type {boolean[]} */
     this.canBlock = script.agents.slice(0, own).map((/** @type {any} */ { block }) => block);

@@ -83,7 +83,7 @@ function isShorter(one, other) {
 function whyNot({ ending, detail, calls, noScript }) {
   if (noScript === NO_SCRIPT) return NO_SCRIPT;
   if (calls === 0) return "it has no call of Atomics that could be left out, or come at another time";
-  if (ending === "bound") return "it met a limit";
+  if (ending === "limit") return "it met a limit";
   if (ending === "failed" && /^agent \d+'s worker died: /.test(detail)) return "an agent's worker died";
   return undefined;
 }

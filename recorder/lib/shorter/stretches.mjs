@@ -2,7 +2,9 @@
 
 import { moverOf } from "../board/row.mjs";
 
-/** @typedef {{ agent: number, draws: number }} Stretch of an agent; one to which real answers come has another number */
+/**
+ * @typedef {{ agent: number, draws: number }} Stretch of an agent; one to which real answers come has another number
+ */
 
 /** @param {number[]} row @returns {Stretch[]} no two neighbours of one agent */
 export function stretchesOf(row) {

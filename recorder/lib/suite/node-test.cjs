@@ -11,7 +11,8 @@ function nodeTest(asking, instead) {
   try {
     return require("node:test").test;
   } catch {
-    throw new Error(`${asking} makes a test of node:test, which this test runner can't load: call ${instead} in a test`);
+    throw new Error(`${asking} makes a test of node:test, which this test runner can't load: `
+      + `call ${instead} in a test`);
   }
 }
 

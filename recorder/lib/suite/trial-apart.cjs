@@ -77,7 +77,8 @@ function replyTo(options, { folder, place, name }) {
     });
     child.once("error", (error) => done(refused(`the recorder's process can't be started: ${error.message}`)));
     child.once("exit", (code, signal) => {
-      const end = () => done(reply ?? refused(`the recorder's process ended by itself (${signal ?? `status ${code}`})`));
+      const why = signal ?? `status ${code}`;
+      const end = () => done(reply ?? refused(`the recorder's process ended by itself (${why})`));
       // What it has sent may not have been taken.
       if (child.connected) child.once("disconnect", end);
       else end();

@@ -137,7 +137,10 @@ async function failureOf(runs, failing, passed, { out, shorten, caller }) {
   return failureText({ outcome, passed, simulator, module, kept });
 }
 
-/** @param {Caller} caller @returns {string} by which its test differs from others: a line may move, unless it has no name */
+/**
+ * @param {Caller} caller
+ * @returns {string} by which its test differs from others: a line may move, unless it has no name
+ */
 function testOf({ name, place = "" }) {
   return name === undefined ? place : `${place.replace(/(?::\d+){2}$/, "")}\n${name}`;
 }

@@ -80,7 +80,8 @@ const WAYS = {
   // What is none of it.
   sleeps: () => {
     const before = performance.now();
-    const answers = [Atomics.wait(atLoading, 0, 0, 500), Atomics.wait(own(), 0, 0, "250"), Atomics.wait(own(), 0, 1, 5)];
+    const answers = [[atLoading, 0, 500], [own(), 0, "250"], [own(), 1, 5]]
+      .map(([words, value, timeout]) => Atomics.wait(words, 0, value, timeout));
     const slept = performance.now() - before;
     if (answers.join() !== "timed-out,timed-out,not-equal" || slept < 750 || slept > 751) throw new Error(`${slept}`);
   },

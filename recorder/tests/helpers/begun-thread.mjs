@@ -1,5 +1,5 @@
-// Whether a worker that the process of a job begins at once collects its garbage. It prints what `WATCHING` returns, and
-// whether the worker's code finds the engine's own way to collect.
+// Whether a worker that the process of a job begins at once collects its garbage. It prints what `WATCHING` returns,
+// and whether the worker's code finds the engine's own way to collect.
 
 import { ownModules } from "../../lib/processes/own-modules.cjs";
 import { begunThread } from "../../lib/processes/thread.mjs";

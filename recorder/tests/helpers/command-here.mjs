@@ -24,9 +24,10 @@ export function commandHere(words) {
 /**
  * Does something while the standard streams are collected. The tests' reporter has got its own before.
  * @param {() => Promise<number>} act
+ * @param {boolean} [isTerminal] whether they are a terminal
  * @returns {Promise<Ended>}
  */
-async function withStreams(act) {
+export async function withStreams(act, isTerminal = false) {
   const texts = { stdout: "", stderr: "" };
   const names = /** @type {(keyof texts)[]} */ (Object.keys(texts));
   const own = names.map((name) => Object.getOwnPropertyDescriptor(process, name));
@@ -36,7 +37,7 @@ async function withStreams(act) {
       texts[name] += text;
       done();
     };
-    const stream = new Writable({ decodeStrings: false, write });
+    const stream = Object.assign(new Writable({ decodeStrings: false, write }), { isTTY: isTerminal });
     Object.defineProperty(process, name, { configurable: true, enumerable: true, get: () => stream });
   }
   try {

@@ -21,7 +21,7 @@ export async function groupOf(context, module, options = {}) {
 const MOST_AT_ONCE = 10;
 
 /**
- * The first failing run of a group's agents that meets no bound, by its seed.
+ * The first failing run of a group's agents that meets no limit, by its seed.
  * @param {Group} group
  * @param {number} [most] how many seeds are tried
  * @returns {Promise<import("../../lib/run/outcome.mjs").Outcome>}
@@ -30,7 +30,7 @@ export async function firstFailing(group, most = 500) {
   for (let first = 1, count = 1; first <= most; first += count, count = Math.min(2 * count, MOST_AT_ONCE)) {
     const failing = [];
     const seeds = Array.from({ length: count }, (_, at) => ({ seed: first + at, whole: false, isTrial: true }));
-    await group.run(seeds, (outcome) => outcome.fails && outcome.ending !== "bound" && failing.push(outcome.seed));
+    await group.run(seeds, (outcome) => outcome.fails && outcome.ending !== "limit" && failing.push(outcome.seed));
     if (failing.length > 0) return (await group.one({ seed: failing[0], whole: true })).outcome;
   }
   return assert.fail(`none of ${most} runs failed`);

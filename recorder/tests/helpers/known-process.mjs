@@ -1,5 +1,5 @@
-// A process that runs known programs, one after the other, each by a group in this process: so no process is started for
-// a program, and no outcome goes from process to process. What it is asked for is in `known.test.mjs`.
+// A process that runs known programs, one after the other, each by a group in this process: so no process is started
+// for a program, and no outcome goes from process to process. What it is asked for is in `known.test.mjs`.
 
 import { checkedBy } from "../../lib/check/check.mjs";
 import { Repeats } from "../../lib/check/repeats.mjs";
@@ -36,7 +36,8 @@ import { lasting } from "./recorded.mjs";
 
 /** @param {Checked} outcome @returns {Made} */
 const madeOf = ({ seed, ending, races, bytes, checked, scriptHolds, noScript }) =>
-  ({ seed, ending, races: races.map(({ lines }) => lines), isWhole: bytes !== undefined, checked, scriptHolds, noScript });
+  ({ seed, ending, races: races.map(({ lines }) => lines), isWhole: bytes !== undefined, checked, scriptHolds,
+    noScript });
 
 /** @param {Checked} outcome @param {Judgement} judgement @param {Aside} aside @returns {Judged} */
 const judgedOf = (outcome, judgement, { stray }) => ({ outcome, judgement: lasting(judgement), stray });

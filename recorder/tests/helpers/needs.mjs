@@ -1,5 +1,5 @@
-// What some tests need besides node. Each test that needs something says so by `needing`. Where it is missing the test is
-// left out, and counted so, with its reason as `no ..`.
+// What some tests need besides node. Each test that needs something says so by `needing`. Where it is missing the test
+// is left out, and counted so, with its reason as `no ..`.
 
 import { existsSync } from "node:fs";
 import { resolve } from "node:path";

@@ -1,5 +1,5 @@
-// Runs programs on the order of events in the recorder. It prints how each run ended, a line of JSON each; what a program
-// prints goes to standard error, and behind it a line with NUL.
+// Runs programs on the order of events in the recorder. It prints how each run ended, a line of JSON each; what a
+// program prints goes to standard error, and behind it a line with NUL.
 
 import { writeSync } from "node:fs";
 import { defaultsOf } from "../../lib/options/table.mjs";

@@ -22,7 +22,8 @@ const FIRST_PART = 5;
 export class TableRuns {
   /** @param {object} [own] options besides @returns {Promise<TableRuns>} */
   static async open(own = {}) {
-    const options = { ...defaultsOf("record"), isProgram: true, seconds: 20, args: [], module: new URL("main.mjs", FOLDER).href };
+    const options = { ...defaultsOf("record"), isProgram: true, seconds: 20, args: [],
+      module: new URL("main.mjs", FOLDER).href };
     const group = await ProgramGroup.open({ ...options, ...own });
     return new TableRuns(/** @type {ProgramGroup} */ (group));
   }
@@ -67,16 +68,25 @@ export class TableRuns {
     const all = [];
     while (all.length < last && !all.some(({ fails }) => fails)) {
       const first = all.length + 1;
-      all.push(...await this.runs(program, { first, last: Math.min(last, all.length + Math.max(FIRST_PART, all.length)) }));
+      all.push(...await this.runs(program,
+        { first, last: Math.min(last, all.length + Math.max(FIRST_PART, all.length)) }));
     }
     return all;
   }
 }
 
-/** @param {string} text @param {string} place as `worker.mjs:7` @returns {boolean} whether it has a column of that line */
+/**
+ * @param {string} text
+ * @param {string} place as `worker.mjs:7`
+ * @returns {boolean} whether it has a column of that line
+ */
 const hasPlace = (text, place) => new RegExp(`(?<![\\w.-])${place.replaceAll(".", "\\.")}:\\d+`).test(text);
 
-/** @param {string[]} lines of a race @param {string[]} places @returns {boolean} whether they are these, in any order */
+/**
+ * @param {string[]} lines of a race
+ * @param {string[]} places
+ * @returns {boolean} whether they are these, in any order
+ */
 const areAt = ([one, other], [first, second]) =>
   (hasPlace(one, first) && hasPlace(other, second)) || (hasPlace(one, second) && hasPlace(other, first));
 
@@ -88,7 +98,9 @@ const areAt = ([one, other], [first, second]) =>
 export function findingOf(program, outcome) {
   const { ending, detail, races } = outcome;
   return program.findings.find((finding) => {
-    if (finding.ending !== ending || !(finding.says ?? /agent \d/).test(detail) || !/\bagent \d/.test(detail)) return false;
+    if (finding.ending !== ending || !(finding.says ?? /agent \d/).test(detail) || !/\bagent \d/.test(detail)) {
+      return false;
+    }
     const places = placesOf(program, finding);
     if (ending === "race") return races.length > 0 && races.every(({ lines }) => areAt(lines, places));
     return places.every((place) => hasPlace(detail, place));

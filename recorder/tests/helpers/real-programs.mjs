@@ -1,7 +1,8 @@
 // Programs whose threads get real answers: by sockets and child processes.
 
 /** A server, and two requests of its own thread. */
-export const ONE_THREAD = `import http from "node:http"; import assert from "assert"; import { once } from "node:events";
+const MODULES = 'import http from "node:http"; import assert from "assert"; import { once } from "node:events";';
+export const ONE_THREAD = `${MODULES}
 const server = http.createServer((asked, answer) => answer.end("hello " + asked.url)).listen(0, "127.0.0.1");
 await once(server, "listening");
 const address = "http://127.0.0.1:" + server.address().port;

@@ -27,7 +27,8 @@ async function runsOf(group, module, { seeds, isFresh }) {
   /** @type {Known[]} */
   const runs = [];
   group.enter(module);
-  const wanted = seeds.map((seed, at) => ({ seed, whole: true, needsTrace: true, isSilent: true, isFresh: isFresh && at === 0 }));
+  const wanted = seeds.map((seed, at) =>
+    ({ seed, whole: true, needsTrace: true, isSilent: true, isFresh: isFresh && at === 0 }));
   await group.run(wanted, ({ seed, ending, detail, moves, script, noScript, report, trace, noTrace }) => {
     if (trace === undefined || (script ?? noScript) === undefined) {
       throw new Error(`seed ${seed} lacks its script or trace: ${[ending, detail, noTrace].join("; ")}`);
@@ -44,7 +45,8 @@ async function runsOf(group, module, { seeds, isFresh }) {
  * @returns {Promise<Record<string, OfProgram>>} by their names
  */
 export async function sameRuns(names, seeds, { isFresh = false } = {}) {
-  const options = { ...defaultsOf("record"), isProgram: true, seconds: 20, args: [], module: new URL("main.mjs", FOLDER).href };
+  const options = { ...defaultsOf("record"), isProgram: true, seconds: 20, args: [],
+    module: new URL("main.mjs", FOLDER).href };
   const group = /** @type {ProgramGroup} */ (await ProgramGroup.open(/** @type {any} */ (options)));
   /** @type {Record<string, OfProgram>} */
   const all = {};

@@ -59,7 +59,8 @@ function mistakenOption(word) {
 /**
  * What a command line asks for.
  * @param {string[]} args
- * @returns {{ names: string[], isUnit: boolean, requireAll: boolean }} the files' names, in the order in which they begin
+ * @returns {{ names: string[], isUnit: boolean, requireAll: boolean }} the files' names, in the order in which they
+ * begin
  */
 export function askedBy(args) {
   const { tokens } = parseArgs({ args, options: OPTIONS, allowPositionals: true, strict: false, tokens: true });

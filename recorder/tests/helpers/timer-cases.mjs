@@ -1,5 +1,5 @@
-// Timers of whole programs: each scenario runs by node's own timers in a thread of its own, and by those of a run here, and
-// has to go alike. The functions `cases` are run by `program-timers.test.mjs`.
+// Timers of whole programs: each scenario runs by node's own timers in a thread of its own, and by those of a run here,
+// and has to go alike. The functions `cases` are run by `program-timers.test.mjs`.
 
 import assert from "node:assert/strict";
 import { AsyncLocalStorage } from "node:async_hooks";
@@ -78,8 +78,8 @@ for (const name of Object.keys(SCENARIOS)) {
     for (let time = 100; ; time *= 2) {
       const byNode = await loggedByNode(name, time);
       const here = await loggedHere(name);
-      assert.ok(byNode.length > 0, "the scenario logs nothing");
       if (time < 1_000 && !isDeepStrictEqual(here, byNode)) continue;
+      assert.ok(byNode.length > 0, "the scenario logs nothing");
       assert.deepEqual(here, byNode);
       break;
     }
@@ -127,7 +127,7 @@ cases["a timer runs when its time is reached and not before, one at a time"] = (
 };
 
 cases["a stuck program names what keeps each thread alive, with its place"] = () => {
-  const timers2 = new Timers({ now: () => 0, here: () => "main.mjs:1:2" });
+  const timers2 = new Timers({ now: () => 0, here: () => () => "main.mjs:1:2" });
   own.setTimeout(() => {}, 7);
   own.setInterval(() => {}, 3);
   own.setTimeout(() => {}, 1).unref();
@@ -248,7 +248,7 @@ cases["what the recorder does later is no immediate or timer of the run"] = asyn
   assert.deepEqual(counts(), [0, false, Infinity]);
 };
 
-cases["of timers that are due at the same time, the list of the duration that was asked for first comes first"] = () => {
+cases["of timers that are due at the same time, the list of the duration asked for first comes first"] = () => {
   const loop = new Loop();
   const ran = [];
   own.setTimeout(() => ran.push("10 at 0"), 10);

@@ -1,5 +1,5 @@
-// What programs do with timers, as scenarios. A thread that has loaded this file as its own runs them by node's timers, as
-// they are without a run.
+// What programs do with timers, as scenarios. A thread that has loaded this file as its own runs them by node's timers,
+// as they are without a run.
 
 import { AsyncLocalStorage, executionAsyncResource } from "node:async_hooks";
 import timers from "node:timers";

@@ -1,5 +1,5 @@
-// Runs of whole programs that tests write. Each outcome has all its parts, and the simulator checks it. The programs of a
-// test's process are run in the same threads, one after the other, from files of the same folder.
+// Runs of whole programs that tests write. Each outcome has all its parts, and the simulator checks it. The programs of
+// a test's process are run in the same threads, one after the other, from files of the same folder.
 
 import { mkdirSync, mkdtempSync, rmSync, writeFileSync } from "node:fs";
 import { tmpdir } from "node:os";

@@ -17,4 +17,4 @@ export default function agent({ buffers, agent }) {
   }
 }
 
-export const known = { endings: ["finished", "bound"] };
+export const known = { endings: ["finished", "limit"] };

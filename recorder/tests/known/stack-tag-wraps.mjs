@@ -1,4 +1,4 @@
-// Wrong: the number beside the top has two bits, so after four changes it is as before, and a late compareExchange succeeds.
+// Wrong: the number beside the top has two bits: after four changes it is the same, so a late compareExchange succeeds.
 
 export const setup = { agents: 2, buffers: [16, 4] };
 

@@ -1,5 +1,5 @@
-// Little programs whose lines come in an order that node and the program alone decide, and their runs in node itself and
-// in the recorder.
+// Little programs whose lines come in an order that node and the program alone decide, and their runs in node itself
+// and in the recorder.
 
 import { spawn } from "node:child_process";
 import { readdirSync } from "node:fs";

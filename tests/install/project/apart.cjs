@@ -38,7 +38,8 @@ test("what another process can't take is refused by its name", async () => {
 test("other options are refused as ever", async () => {
   const text = await failureOf(assertAgents({ module: "./lock.mjs", seed: 3 }));
   assert.match(text, /^Error: there is no option `seed`: is seeds meant\?\n {4}at .*apart\.cjs:39:32$/);
-  assert.match(await failureOf(assertAgents({ module: "./none.mjs" })), /^Error: there is no file .*none\.mjs: `module` is /);
+  assert.match(await failureOf(assertAgents({ module: "./none.mjs" })),
+    /^Error: there is no file .*none\.mjs: `module` is /);
   assert.match(await failureOf(assertAgents()), /^Error: `module` is missing/);
 });
 

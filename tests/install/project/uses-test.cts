@@ -7,7 +7,9 @@ import type { TrialOptions } from "sabsim/test";
 
 const options: TrialOptions = { module: "./lock.mjs", args: ["counting"], seeds: "1..20" };
 
-export const tested: Promise<void>[] = [testAgents("agents", options), testProgram("program", { program: "./main.mjs" })];
+export const tested: Promise<void>[] = [
+  testAgents("agents", options), testProgram("program", { program: "./main.mjs" }),
+];
 export const asserted = (): Promise<void>[] => [assertAgents(options), assertProgram({ program: "./main.mjs" })];
 export const recorded = (): Promise<Outcome> => record({ module: "./lock.mjs", seed: 3 });
 

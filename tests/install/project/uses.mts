@@ -1,6 +1,8 @@
 // Uses every name that the package exports, as TypeScript of a project of one's own.
 
-import { everySchedule, explore, record, Difference, KeepsGlobals, LostJob, NoSabsim, NotAsLearned, Refused } from "sabsim";
+import {
+  everySchedule, explore, record, Difference, KeepsGlobals, LostJob, NoSabsim, NotAsLearned, Refused,
+} from "sabsim";
 import type { Accesses, Agent, AgentRun, Ending, ExploreOptions, Outcome, Race, RaceSide } from "sabsim";
 import type { Kind, NamedPart, NamedPlace, OnlyByTime, RecordOptions, Setup, Shortened, Standing } from "sabsim";
 import type { EveryOptions, EverySchedule, FoundBySchedule, OfEvery } from "sabsim";
@@ -26,8 +28,9 @@ const filled: WithBuffers = ([buffer], { agents, args }) => {
 
 const options: RunOptions & OneRun & OfModule = {
   module: "./lock.mjs", agents: 2, buffers: [8], noBlock: [0], seed: 7, args: ["counting"], strategy: "switch:0.5",
-  timeouts: 0.1, maxMoves: 1_000, seconds: 2, ordinary: "watch", races: "allow", bounds: "fail", clock: "run",
-  unrecorded: "fail", init: filled, check: ([buffer]) => buffer!.byteLength === 8, sabsim: false, trace: true, shorten: true,
+  timeouts: 0.1, maxMoves: 1_000, seconds: 2, ordinary: "watch", races: "allow", limits: "fail", clock: "run",
+  unrecorded: "fail", init: filled, check: ([buffer]) => buffer!.byteLength === 8, sabsim: false, trace: true,
+  shorten: true,
 };
 
 const { seed, shorten, ...rest } = options;
@@ -35,7 +38,9 @@ export const seeds = { ...rest, seeds: "1..20", jobs: 1, checkEvery: 5, fresh: f
 const range = { first: 1, last: seed ?? 2 };
 export const many: ExploreOptions[] = [seeds, { ...rest, seeds: 20 }, { ...rest, seeds: range, timeouts: "never" }];
 
-const program: OfProgram = { program: "./main.mjs", stuck: "allow", web: true, programOutput: "none", wasmAccesses: "relaxed" };
+const program: OfProgram = {
+  program: "./main.mjs", stuck: "allow", web: true, programOutput: "none", wasmAccesses: "relaxed",
+};
 const few: ManyRuns = { seeds: 5 };
 export const ofProgram: RecordOptions = { ...program, args: ["fast"], seed: 3, trace: true, everywhere: true };
 export const manyOfProgram: ExploreOptions = { ...program, ...few };
@@ -86,16 +91,19 @@ function summary(outcome: Outcome): string {
   const timed = [accesses, onlyIf, ...onlyByTime.map(waitText), ...served.map(({ block, byte }) => `${block} ${byte}`)];
   const answered = [...timed, ...answers.flat().map((answer) => answer ?? "waits")];
   const stands = standing.map(standingText);
-  const tasks = (outcome.tasks ?? []).map(({ event, agent, text, source }) => `${event} ${agent} ${text} ${source ?? "unknown"}`);
+  const tasks = (outcome.tasks ?? [])
+    .map(({ event, agent, text, source }) => `${event} ${agent} ${text} ${source ?? "unknown"}`);
   return [...numbers, ...texts, ...bytes, ...answered, ...stands, script?.length, scriptHolds, noScript, report, trace,
-    ...unrecorded, ...tasks, ...(outcome.threads ?? []), ...(outcome.windows ?? []).map(windowText), remembers?.seed, remembers?.differs, remembers?.was, remembers?.is, remembers?.threw].join(" ");
+    ...unrecorded, ...tasks, ...(outcome.threads ?? []), ...(outcome.windows ?? []).map(windowText), remembers?.seed,
+    remembers?.differs, remembers?.was, remembers?.is, remembers?.threw].join(" ");
 }
 
 export async function reported(): Promise<string> {
   try {
     const outcome: Outcome = await record(options);
     const shortened = outcome.shortened === undefined ? "" : shortening(outcome.shortened);
-    return `${summary(outcome)} ${shortened} ${outcome.original?.seed} ${outcome.row} ${outcome.checked ? "checked" : outcome.unchecked ?? ""}`;
+    const checked = outcome.checked ? "checked" : outcome.unchecked ?? "";
+    return `${summary(outcome)} ${shortened} ${outcome.original?.seed} ${outcome.row} ${checked}`;
   } catch (problem) {
     if (problem instanceof Difference) return `${problem.message} ${problem.replayed} ${problem.outcome.seed}`;
     if (problem instanceof Refused || problem instanceof NoSabsim) return problem.message;

@@ -1,4 +1,5 @@
-// The packages of Debian's that @babel/register needs to compile modules: some others that it depends on are never loaded.
+// The packages of Debian's that @babel/register needs to compile modules: some others that it depends on are never
+// loaded.
 
 export const PACKAGES = `
   node-ampproject-remapping node-babel7 node-browserslist node-caniuse-lite node-chalk node-clone-deep

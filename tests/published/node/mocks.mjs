@@ -1,5 +1,5 @@
-// Node's module mocks: main mocks a module and restores it. In node 20 a thread of node's loader acknowledges both. Node
-// 24 needs no thread for that.
+// Node's module mocks: main mocks a module and restores it. In node 20 a thread of node's loader acknowledges both.
+// Node 24 needs no thread for that.
 
 import { createRequire } from "node:module";
 import * as url from "node:url";
@@ -28,7 +28,8 @@ const { MockTracker } = internals({
     "internal/options": { getOptionValue: () => true },
     "internal/url": { ...url, toPathIfFileURL: (path) => path, URLParse: (text) => new URL(text) },
     "internal/util": {
-      deprecateProperty: () => nothing, emitExperimentalWarning: nothing, getStructuredStack: () => Array(4).fill(caller),
+      deprecateProperty: () => nothing, emitExperimentalWarning: nothing,
+      getStructuredStack: () => Array(4).fill(caller),
       kEmptyObject: {},
     },
     "internal/validators": {

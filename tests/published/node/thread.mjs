@@ -22,7 +22,9 @@ const users = {
   },
 };
 
-/** The hooks of the loader's thread, as node 20 has them. Node 24 makes them itself, of the files that an option names. */
+/**
+ * The hooks of the loader's thread, as node 20 has them. Node 24 makes them itself, of the files that an option names.
+ */
 async function initializeHooks() {
   const { Hooks } = require("internal/modules/esm/hooks");
   const hooks = new Hooks();

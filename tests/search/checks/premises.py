@@ -1,7 +1,7 @@
 """Files that lack one premise of the statements in checks/statements.py, each as small as we found it.
 
-Each contradicts a statement. So no premise can be left out, and the comparison can fail. The last file has all premises,
-and shows what may be unordered.
+Each contradicts a statement. So no premise can be left out, and the comparison can fail. The last file has all
+premises, and shows what may be unordered.
 """
 from typing import NamedTuple, Set, Tuple
 

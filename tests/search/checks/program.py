@@ -25,7 +25,8 @@ def wrong_search(simulator, text, choice, limit, result):
 
 
 def wrong_fault(simulator, text, number):
-    """Returns what is wrong with the program's refusal of a file; None if it has this fault, or with 0 isn't refused."""
+    """Returns what is wrong with the program's refusal of a file; None if it has this fault, or with 0 isn't
+    refused."""
     status, output, error = searched(simulator, text)
     if not number:
         return None if status in (0, 5, 6) and output else f"the program refuses it: {error}"

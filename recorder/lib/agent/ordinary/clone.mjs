@@ -32,7 +32,9 @@ export function watchCloning() {
   replaceNeeded(globalThis, "structuredClone", (engine) => methodOf((_self, given) => {
     const value = given[0];
     if (isWatched(value)) return clonedMemory(engine, value, given[1]);
-    if (reaches(value, WHOLLY, true, isRecorded)) refused("structuredClone was given an object that holds recorded memory");
+    if (reaches(value, WHOLLY, true, isRecorded)) {
+      refused("structuredClone was given an object that holds recorded memory");
+    }
     return apply(engine, undefined, revealed(given));
   }));
 }

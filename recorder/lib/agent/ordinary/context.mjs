@@ -22,7 +22,8 @@ export const OTHER = 2 ** 30 - 1;
  * @property {(place: Place) => void} [lengthAsked] gets an array on a buffer that grows before its length is asked for
  * @property {(buffer: unknown) => boolean} [isOther] whether a buffer is shared memory that isn't recorded
  * @property {(memory: object) => void} [seenOther] gets such memory before it is read or written
- * @property {(memory: object) => void} [copied] gets new memory with a copy of bytes, which is no memory of the program's
+ * @property {(memory: object) => void} [copied] gets new memory with a copy of bytes, which is no memory of the
+ * program's
  * @property {(called: Function) => boolean} [isCalledByAgents] whether their code has called a function, and not node
  * @property {(what: string) => void} [given] gets what has given such memory, or a port, to another thread
  * @property {(why: string) => never} refuse ends the run

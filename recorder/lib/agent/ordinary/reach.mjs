@@ -68,8 +68,8 @@ function eachWithin(object, visit) {
 }
 
 /**
- * Whether memory can be reached from a value. Objects may be in each other so deep that no function could call itself for
- * each.
+ * Whether memory can be reached from a value. Objects may be in each other so deep that no function could call itself
+ * for each.
  * @param {unknown} value
  * @param {number} depth how many objects deep is looked
  * @param {boolean} [suspicious] whether a getter counts too

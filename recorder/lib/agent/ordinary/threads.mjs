@@ -1,7 +1,9 @@
 // Memory that is given to other threads, by messages or as they are started. Nobody sees what they do with it. So
 // recorded memory is refused there, whatever is done with ordinary accesses, and other shared memory is noted.
 
-import { apply, bufferBehind, construct, getPrototypeOf, proxyOf, put, uncurried, weakGet, weakSet } from "../../primordials.mjs";
+import {
+  apply, bufferBehind, construct, getPrototypeOf, proxyOf, put, uncurried, weakGet, weakSet,
+} from "../../primordials.mjs";
 import { blockNumber, watching } from "./context.mjs";
 import { anyReaches, revealed } from "./guards.mjs";
 import { methodOf, replace, replaceEach, replaceNeeded } from "./patch.mjs";
@@ -50,7 +52,8 @@ export function recordedIn(value) {
   /** @type {object[]} */
   const found = [];
   anyReaches([value], WHOLLY, false, (inner) => {
-    if (isRecordedHere(inner)) found[found.length] = isView(inner) ? bufferBehind(inner) : /** @type {object} */ (inner);
+    if (!isRecordedHere(inner)) return false;
+    found[found.length] = isView(inner) ? bufferBehind(inner) : /** @type {object} */ (inner);
     return false;
   });
   return found;

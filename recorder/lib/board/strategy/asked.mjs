@@ -72,7 +72,8 @@ export class Asked {
   #does(agent) {
     const phase = this.words[wordOf(agent, AGENT_WORD.PHASE)];
     const isLoop = this.words[wordOf(agent, AGENT_WORD.WHERE_BLOCK)] === LOOP;
-    if (phase === PHASE.ASKS || (phase === PHASE.WOKEN && isLoop)) return this.words[wordOf(agent, AGENT_WORD.ASKS_HOW)];
+    const comes = phase === PHASE.ASKS || (phase === PHASE.WOKEN && isLoop);
+    if (comes) return this.words[wordOf(agent, AGENT_WORD.ASKS_HOW)];
     // The end of a time takes an agent off the line. For one that was woken nothing is left to be decided, except which
     // task its event loop begins.
     return phase === PHASE.WAITS_TIMED ? FLAG.WAITERS : 0;

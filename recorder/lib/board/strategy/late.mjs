@@ -10,7 +10,9 @@ import { FLAG } from "../../memory/log.mjs";
 /** How likely it is that an agent is held when it asks for a wait or a notify. */
 const IS_HELD = 0.5;
 
-/** In one of so many draws nobody is held any longer. Else one that waits in a loop for a held one might go on for ever. */
+/**
+ * In one of so many draws nobody is held any longer. Else one that waits in a loop for a held one might go on for ever.
+ */
 const RENEWAL = 256;
 
 /** Nor is anybody after so many draws of one agent in a row: an agent that makes more calls alone meets a limit. */
@@ -84,7 +86,10 @@ export class Late {
     return true;
   }
 
-  /** @param {import("./able.mjs").Able} able @returns {number} who goes on if nobody else can: a wait before a notify */
+  /**
+   * @param {import("./able.mjs").Able} able
+   * @returns {number} who goes on if nobody else can: a wait before a notify
+   */
   #first(able) {
     for (let at = 0; at < able.count; at += 1) {
       if ((this.#does(able.agents[at]) & FLAG.READS) !== 0) return able.agents[at];

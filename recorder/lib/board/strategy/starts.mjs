@@ -1,6 +1,6 @@
-// In which order the agents of a module begin, and when. As a rule each runs up to its first call in turn, before any call
-// is made. In some seeds their order is drawn. In some of these an agent may begin after others have made a few calls.
-// That comes from the seed alone, so it is the same if the run is made again by a row.
+// In which order the agents of a module begin, and when. As a rule each runs up to its first call in turn, before any
+// call is made. In some seeds their order is drawn. In some of these an agent may begin after others have made a few
+// calls. That comes from the seed alone, so it is the same if the run is made again by a row.
 
 import { WORD } from "../../memory/layout.mjs";
 import { Random } from "../../memory/random.mjs";
@@ -24,8 +24,8 @@ export class Starts {
 
   /**
    * @param {Int32Array} words of the board
-   * @param {{ agents: number, starts?: number, inTurn?: boolean }} rules how many agents there are, how many of them begin
-   * by themselves, and whether these always do so in turn
+   * @param {{ agents: number, starts?: number, inTurn?: boolean }} rules how many agents there are, how many of them
+   * begin by themselves, and whether these always do so in turn
    * @param {() => number} seedOf the seed of the run
    */
   constructor(words, { agents: all, starts: agents = all, inTurn = false }, seedOf) {

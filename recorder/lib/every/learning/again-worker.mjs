@@ -8,6 +8,7 @@ import { CantLearn, isSame } from "./asked.mjs";
 import { Asker } from "./asking.mjs";
 import { Graph } from "./graph.mjs";
 import { Learner } from "./learner.mjs";
+import { showing } from "./progress.mjs";
 import { installRealm } from "./realm.mjs";
 
 /** @typedef {import("./report.mjs").EdgeData} EdgeData */
@@ -22,6 +23,7 @@ import { installRealm } from "./realm.mjs";
  * @property {import("../../options/plan.mjs").Plan} plan
  * @property {boolean} isShared
  * @property {boolean} isFresh whether real runs have new workers each time
+ * @property {SharedArrayBuffer} progress
  * @property {NodeData[]} nodes
  * @property {EdgeData[]} edges
  */
@@ -107,6 +109,7 @@ export async function main(load) {
 async function differing(given, load) {
   const { module, args, isShared, plan } = given;
   const asker = new Asker();
+  asker.onCall = showing(new Int32Array(given.progress));
   installRealm(asker);
   const agentNow = given.isFresh ? madeAnew(module) : await asItIs(module, load);
   asker.begin(plan.buffers, basesOf(plan.buffers).bases);

@@ -3,7 +3,7 @@
 import { begunThread } from "../../processes/thread.mjs";
 import { GRAPH_FLAGS } from "../../program/graph-flags.cjs";
 import { Refused } from "../../options/refused.mjs";
-import { PROGRESS } from "./progress.mjs";
+import { PART, PROGRESS } from "./progress.mjs";
 
 /** @typedef {import("../../processes/thread.mjs").Thread} Thread */
 /** @typedef {import("./report.mjs").Report} Report */
@@ -15,6 +15,12 @@ const AGAIN = new URL("./again-worker.mjs", import.meta.url);
 const FLAGS = [...process.execArgv, ...GRAPH_FLAGS];
 
 const POLLS_EVERY = 100;
+
+/** What doesn't come back, by the numbers of the parts. */
+const LATE = Object.freeze([
+  "a thread that learns", "an agent that was called alone", "`init`", "`check`", "a module that is loaded",
+]);
+const OF_AGENT = ": it makes no call of Atomics, or catches everything that is thrown";
 
 /** Agents that can't be learned: the message says why. */
 export class Unlearned extends Error {}
@@ -35,34 +41,58 @@ export class DoesOtherwise extends Error {}
  * @throws {Refused | Unlearned | DoesOtherwise}
  */
 export async function learnApart(wanted, { seconds, onProgress = () => {}, signal }) {
-  const progress = new SharedArrayBuffer(4 * PROGRESS.WORDS);
-  const words = new Int32Array(progress);
   const thread = begunThread(LEARNING, FLAGS);
-  thread.give(LEARNING, { ...wanted, progress });
+  const watch = new Watch(thread, seconds, onProgress);
+  thread.give(LEARNING, { ...wanted, progress: watch.words.buffer });
   const stop = () => void thread.stop();
   signal?.addEventListener("abort", stop);
-  let calls = -1;
-  let since = performance.now();
-  const timer = setInterval(() => {
-    onProgress(words[PROGRESS.STATES]);
-    const isSame = words[PROGRESS.RUNS] === 1 && words[PROGRESS.CALLS] === calls;
-    if (!isSame) since = performance.now();
-    calls = words[PROGRESS.CALLS];
-    if (performance.now() - since > 1_000 * seconds) stop();
-  }, POLLS_EVERY);
   try {
-    const message = await next(thread, lateText(seconds)).catch((problem) => Promise.reject(signal?.reason ?? problem));
+    const message = await next(thread, watch).catch((problem) => Promise.reject(signal?.reason ?? problem));
     return reportIn(message);
   } finally {
     signal?.removeEventListener("abort", stop);
-    clearInterval(timer);
+    watch.end();
     await thread.stop();
   }
 }
 
-/** @param {number} seconds */
-const lateText = (seconds) => `an agent that was called alone didn't come back within ${seconds} s: it makes no call `
-  + "of Atomics, or catches everything that is thrown";
+/** Ends a thread in which the agents' code doesn't come back. */
+class Watch {
+  /**
+   * @param {Thread} thread
+   * @param {number} seconds for how long the code may run
+   * @param {(states: number) => void} [onProgress]
+   */
+  constructor(thread, seconds, onProgress = () => {}) {
+    this.words = new Int32Array(new SharedArrayBuffer(4 * PROGRESS.WORDS));
+    this.thread = thread;
+    this.seconds = seconds;
+    this.calls = -1;
+    this.since = performance.now();
+    this.timer = setInterval(() => {
+      onProgress(this.words[PROGRESS.STATES]);
+      this.#look();
+    }, POLLS_EVERY);
+  }
+
+  /** Why the thread was ended. */
+  get late() {
+    const part = this.words[PROGRESS.RUNS];
+    return `${LATE[part]} didn't come back within ${this.seconds} s${part === PART.AGENT ? OF_AGENT : ""}`;
+  }
+
+  end() {
+    clearInterval(this.timer);
+  }
+
+  #look() {
+    const { words } = this;
+    const isSame = words[PROGRESS.RUNS] !== PART.NONE && words[PROGRESS.CALLS] === this.calls;
+    if (!isSame) this.since = performance.now();
+    this.calls = words[PROGRESS.CALLS];
+    if (performance.now() - this.since > 1_000 * this.seconds) void this.thread.stop();
+  }
+}
 
 /** @param {any} message of the thread @returns {Report} */
 function reportIn({ report, refused, unlearned, differs, failed }) {
@@ -73,10 +103,10 @@ function reportIn({ report, refused, unlearned, differs, failed }) {
   return report;
 }
 
-/** @param {Thread} thread @param {string} why it has ended, if it ends without a message */
-async function next(thread, why) {
+/** @param {Thread} thread @param {Watch} watch */
+async function next(thread, watch) {
   const { message, ended } = await thread.next();
-  if (ended !== undefined) throw new Unlearned(/exit code 1$/.test(ended) ? why : ended);
+  if (ended !== undefined) throw new Unlearned(/exit code 1$/.test(ended) ? watch.late : ended);
   return message;
 }
 
@@ -89,17 +119,22 @@ export function beginAgain() {
 
 /**
  * Learns each edge once more, in the code as it is written.
- * @param {import("./again-worker.mjs").Given} given
- * @param {Thread} [thread] that was begun for it
+ * @param {Omit<import("./again-worker.mjs").Given, "progress">} given
+ * @param {{ seconds?: number, thread?: Thread }} how for how long an agent may make no call; one that was begun for it
  * @returns {Promise<string | undefined>} how it differs
  */
-export async function learnAgain(given, thread = beginAgain()) {
-  thread.give(AGAIN, given);
+export async function learnAgain(given, { seconds = Infinity, thread = beginAgain() } = {}) {
+  const watch = new Watch(thread, seconds);
+  thread.give(AGAIN, { ...given, progress: watch.words.buffer });
   try {
-    const { differs, failed } = await next(thread, "its thread ended");
+    const { differs, failed } = await next(thread, watch);
     if (failed !== undefined) throw new Error(failed);
     return differs;
+  } catch (problem) {
+    if (problem instanceof Unlearned) return `There ${problem.message}`;
+    throw problem;
   } finally {
+    watch.end();
     await thread.stop();
   }
 }

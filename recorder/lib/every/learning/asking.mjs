@@ -5,6 +5,7 @@ import { answerOfRead, bytesOfRead } from "../search/elements.mjs";
 import { DOES, DONE } from "../search/nodes.mjs";
 import { CantLearn, askedAccess, askedCall, returned } from "./asked.mjs";
 import { hadOtherNext } from "./iterators.mjs";
+import { PART } from "./progress.mjs";
 
 /** @typedef {import("../search/nodes.mjs").Node} Node */
 /** @typedef {import("../search/nodes.mjs").Answer} Answer */
@@ -67,6 +68,8 @@ export class Asker {
     this.notesLines = false;
     /** @type {string | undefined} where the write is that is asked for */
     this.askedAt = undefined;
+    /** @type {(part: number) => void} is called before a part of the agents' code is, and behind it with none */
+    this.onCall = () => {};
     /** Whether no wait ends by itself. */
     this.isEndless = false;
     /** @type {() => string} where the agent that runs now is */
@@ -81,6 +84,22 @@ export class Asker {
     this.views = lengths.map((length) => new EngineView(new SharedArrayBuffer(length)));
     this.buffers = this.views.map(({ buffer }) => /** @type {any} */ (buffer));
     this.bytes = this.buffers.map((buffer) => new EngineBytes(buffer));
+  }
+
+  /**
+   * Calls a part of the agents' code, which may never come back.
+   * @template Result
+   * @param {number} part
+   * @param {() => Result} body
+   * @returns {Result}
+   */
+  watched(part, body) {
+    this.onCall(part);
+    try {
+      return body();
+    } finally {
+      this.onCall(PART.NONE);
+    }
   }
 
   /**

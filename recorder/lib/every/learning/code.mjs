@@ -1,6 +1,8 @@
 // The agents' code, rewritten so that its state can be shown, and begun anew whenever its modules keep something else
 // than at first.
 
+import { basename } from "node:path";
+import { described } from "../../agent/described.mjs";
 import { Refused } from "../../options/refused.mjs";
 import { Builtins } from "../state/builtins.mjs";
 import { Capture } from "../state/capture.mjs";
@@ -10,6 +12,7 @@ import { CantShow } from "../state/walk.mjs";
 import { keyOf } from "./asked.mjs";
 import { Graph } from "./graph.mjs";
 import { hadOtherNext } from "./iterators.mjs";
+import { PART } from "./progress.mjs";
 
 const REPLACES_NEXT =
   "--all can't learn what the agents do: a module replaces the `next` of all iterators of arrays";
@@ -26,13 +29,15 @@ export class Code {
 
   /**
    * @param {string} url of the agents' module
+   * @param {import("./asking.mjs").Asker} asker
    * @param {Graph} graph
    * @param {Runtime} runtime
    * @param {Builtins} builtins
    * @param {Capture} capture
    */
-  constructor(url, graph, runtime, builtins, capture) {
+  constructor(url, asker, graph, runtime, builtins, capture) {
     this.url = url;
+    this.asker = asker;
     this.graph = graph;
     this.runtime = runtime;
     this.builtins = builtins;
@@ -76,9 +81,17 @@ export class Code {
   #renew() {
     this.renewals += 1;
     this.runtime.beginModules();
-    this.#exports = this.graph.made(this.runtime.calls);
+    this.#exports = this.#made();
     if (hadOtherNext()) throw new Refused(REPLACES_NEXT);
     this.runtime.endModules();
+  }
+
+  #made() {
+    try {
+      return this.asker.watched(PART.MODULE, () => this.graph.made(this.runtime.calls));
+    } catch (thrown) {
+      throw new Refused(`--all can't load ${basename(this.url)}: ${described(thrown).split("\n")[0]}`);
+    }
   }
 
   #kept() {
@@ -94,11 +107,12 @@ export class Code {
 /**
  * Loads the agents' code.
  * @param {string} url
+ * @param {import("./asking.mjs").Asker} asker that is to say where agents are
  * @param {{ hides?: string }} [flaw] what is left out of its state on purpose, for tests
  * @returns {Code}
- * @throws {Refused} if a module of it can't be shown
+ * @throws {Refused} if a module of it can't be shown or loaded
  */
-export function loadCode(url, flaw) {
+export function loadCode(url, asker, flaw) {
   const runtime = new Runtime();
   const own = new Graph();
   own.take(PRELUDE);
@@ -110,7 +124,9 @@ export function loadCode(url, flaw) {
   builtins.close();
   runtime.installed = beginInstalled();
   const texts = new Map([...own.texts, ...graph.texts]);
-  return new Code(url, graph, runtime, builtins, new Capture(runtime, builtins, texts, flaw));
+  const capture = new Capture(runtime, builtins, texts, flaw);
+  asker.lineHere = capture.line.bind(capture);
+  return new Code(url, asker, graph, runtime, builtins, capture);
 }
 
 /** @param {Record<string, Function>} loops over arrays, which stand for the engine's */

@@ -1,10 +1,11 @@
 // What is found in the states of agents, and how each is shown: by the schedule with the fewest changes of agents.
 // Things that have the same message, without its numbers, are one finding.
 
-import { leftOpen, foundBy } from "../../agent/answer.mjs";
 import { DOES } from "../search/nodes.mjs";
 import { endingHere } from "../search/result.mjs";
 import { shortestTo } from "../search/shortest.mjs";
+import { PART } from "./progress.mjs";
+import { problemOf } from "./thrown.mjs";
 
 /** @typedef {import("../search/nodes.mjs").Node} Node */
 /** @typedef {import("../search/search.mjs").Search} Search */
@@ -22,6 +23,7 @@ import { shortestTo } from "../search/shortest.mjs";
  * @property {number} acts
  * @property {boolean} isEarly whether a timed wait ends while something else can move
  * @property {boolean} goesOn whether agents go on behind the row
+ * @property {boolean} spins whether an agent stands in a loop of reads on the way, where no real run changes agents
  */
 
 /**
@@ -83,7 +85,7 @@ export class Findings {
 
   /** Calls `check` once for each different list of bytes at the end. */
   #check() {
-    const { learned: { exports: { check }, plan, bases, wanted: { args } }, search: { world } } = this;
+    const { learned: { asker, exports: { check }, plan, bases, wanted: { args } }, search: { world } } = this;
     if (check === undefined) return;
     for (const memory of this.kinds.finals.keys()) {
       const from = memory * world.memories.width;
@@ -93,7 +95,8 @@ export class Findings {
         new Uint8Array(buffer).set(bytes.subarray(from + bases[block], from + bases[block] + length));
         return buffer;
       });
-      const problem = problemOf(() => check(buffers, { agents: plan.agents, args: [...args] }));
+      const call = () => check(buffers, { agents: plan.agents, args: [...args] });
+      const problem = asker.watched(PART.CHECK, () => problemOf(call));
       if (problem !== undefined) this.problems.set(memory, problem);
     }
   }
@@ -147,31 +150,28 @@ export class Findings {
    * @returns {Finding}
    */
   #finding({ key, kind, text, states }, { state, agents, changes, isEarly }) {
-    const row = this.#rowOf(agents);
+    const { row, spins } = this.#wayOf(agents);
     const next = this.#at(state).find((one) => one.key === key)?.next ?? [];
     const goesOn = kind === "race" || kind === "no way out";
-    return { kind, text, states, row: [...row, ...next], changes, acts: agents.length, isEarly, goesOn };
+    return { kind, text, states, row: [...row, ...next], changes, acts: agents.length, isEarly, goesOn, spins };
   }
 
-  /** @param {number[]} agents in the order of their acts @returns {number[]} those of acts that are calls */
-  #rowOf(agents) {
+  /**
+   * @param {number[]} agents in the order of their acts
+   * @returns {{ row: number[], spins: boolean }} those of acts that are calls; whether one stands in a loop of reads
+   */
+  #wayOf(agents) {
     const { world } = this.search;
     world.load(0);
-    return agents.filter((agent) => {
+    const stands = () => world.nodes.some(({ isAlone }) => isAlone);
+    let spins = stands();
+    const row = agents.filter((agent) => {
       const isOfCall = world.nodes[agent].does < DOES.READ;
       if (world.waits(agent)) world.timeOut(agent);
       else world.act(agent);
+      spins ||= stands();
       return isOfCall;
     });
-  }
-}
-
-/** @param {() => unknown} check @returns {string | undefined} what it finds */
-function problemOf(check) {
-  try {
-    const answer = check();
-    return leftOpen(answer, "it") ?? foundBy(answer);
-  } catch (thrown) {
-    return `threw ${thrown instanceof Error ? String(thrown) : JSON.stringify(thrown)}`;
+    return { row, spins };
   }
 }

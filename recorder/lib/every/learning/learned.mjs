@@ -1,11 +1,13 @@
 // Learns the agents of a module and searches all their schedules. It runs in a thread of its own, since the agents'
 // code may never come back.
 
-import { Refused } from "../../options/refused.mjs";
 import { planOf } from "../../options/plan.mjs";
 import { basesOf } from "../search/file.mjs";
 import { Search } from "../search/search.mjs";
+import { CantLearn } from "./asked.mjs";
 import { Learner, LooksAtNumber } from "./learner.mjs";
+import { PART } from "./progress.mjs";
+import { problemOf } from "./thrown.mjs";
 
 /** @typedef {import("../search/world.mjs").Program} Program */
 /** @typedef {import("./code.mjs").Code} Code */
@@ -22,8 +24,6 @@ import { Learner, LooksAtNumber } from "./learner.mjs";
 export class Learned {
   /** @param {Code} code @param {import("./asking.mjs").Asker} asker @param {Wanted} wanted */
   constructor(code, asker, wanted) {
-    /** @type {(isBegun: boolean) => void} is called before and after each call of the agents' function */
-    this.onCall = () => {};
     this.code = code;
     this.asker = asker;
     this.wanted = wanted;
@@ -47,9 +47,9 @@ export class Learned {
     const bytes = new Uint8Array(length);
     if (init === undefined) return bytes;
     const given = buffers.map((each) => new SharedArrayBuffer(each));
-    const answer = init(given, { agents, args: [...args] });
-    if (typeof answer?.then === "function") throw new Refused("`init` returned a promise, but it must be synchronous");
+    const problem = asker.watched(PART.INIT, () => problemOf(() => init(given, { agents, args: [...args] })));
     if (asker.refused !== undefined) throw asker.refused;
+    if (problem !== undefined) throw new CantLearn(`\`init\` ${problem}`);
     given.forEach((buffer, block) => bytes.set(new Uint8Array(buffer), bases[block]));
     return bytes;
   }
@@ -58,10 +58,9 @@ export class Learned {
     const { asker, code, isShared, plan, wanted } = this;
     const key = wanted.isUnmerged ? undefined : code.key.bind(code);
     const agents = { count: plan.agents, args: wanted.args, canBlock: plan.canBlock, isShared };
-    const onCall = (/** @type {boolean} */ isBegun) => this.onCall(isBegun);
     const lineOfError = (/** @type {Error} */ error) => code.lineOf(error);
     const own = { agentNow: () => code.agentNow(), line: () => code.line(), lineOfError, key };
-    const learner = new Learner(asker, agents, { onCall, ...own });
+    const learner = new Learner(asker, agents, own);
     // Each automaton has its own, so it need not be gone through.
     code.builtins.names.set(learner.number, "number");
     return learner;

@@ -2,14 +2,14 @@
 // that leads to its node. Two histories are one node only if all that the agent keeps is the same.
 
 import { leftOpen } from "../../agent/answer.mjs";
-import { described } from "../../agent/described.mjs";
 import { defineProperty } from "../../primordials.mjs";
-import { OWN_NAMES } from "../rewriting/naming.mjs";
 import { CantShow } from "../state/walk.mjs";
 import { DONE, DOES, isCall, nodeOf } from "../search/nodes.mjs";
 import { nodeText } from "../search/text.mjs";
 import { CantLearn, askedEnd, isSame, keyOf } from "./asked.mjs";
 import { accessed, cantText } from "./asking.mjs";
+import { PART } from "./progress.mjs";
+import { namesRewritten, thrownText } from "./thrown.mjs";
 
 /** @typedef {import("../search/nodes.mjs").Node} Node */
 /** @typedef {import("../search/nodes.mjs").Answer} Answer */
@@ -40,7 +40,6 @@ const NAMES_REWRITTEN = "it throws an error whose message names code that was re
  * @property {(error: Error) => string} [lineOfError] where an error of agents was made
  * @property {(asked: Asked) => string} [key] shows the state of the agent that asks, and throws CantShow if it can't;
  * without, no two histories are one node
- * @property {(isBegun: boolean) => void} [onCall] is called before and after each call of the agent's function
  */
 
 /** @typedef {{ node: Node, answer: Answer } | undefined} Origin of a node: the first edge that has led there */
@@ -51,8 +50,7 @@ export class Learner {
    * @param {Agents} agents
    * @param {AgentCode} code
    */
-  constructor(asker, agents, { agentNow, line, lineOfError = line, key, onCall = () => {} }) {
-    this.onCall = onCall;
+  constructor(asker, agents, { agentNow, line, lineOfError = line, key }) {
     this.asker = asker;
     this.agents = agents;
     this.agentNow = agentNow;
@@ -161,10 +159,17 @@ export class Learner {
     this.agent = agent;
     const given = { buffers: [...asker.buffers], agents: agents.count, args: [...agents.args] };
     defineProperty(given, "agent", { get: this.number, enumerable: true, configurable: true });
-    this.onCall(true);
-    const { isBroken, result, hasThrown, thrown } = asker.call(run, () => fn(given));
-    this.onCall(false);
-    if (agents.isShared && this.looksAtNumber) throw new LooksAtNumber();
+    return asker.watched(PART.AGENT, () => this.#ended(run, () => fn(given)));
+  }
+
+  /**
+   * @param {import("./asking.mjs").Run} run
+   * @param {() => unknown} body calls the agent's function
+   * @returns {Asked | undefined} as above
+   */
+  #ended(run, body) {
+    const { isBroken, result, hasThrown, thrown } = this.asker.call(run, body);
+    if (this.agents.isShared && this.looksAtNumber) throw new LooksAtNumber();
     if (isBroken) return undefined;
     if (hasThrown) return askedEnd(this.#titleOf(thrown));
     const open = leftOpen(result, "an agent");
@@ -174,9 +179,9 @@ export class Learner {
 
   /** @param {unknown} thrown by the agent @returns {string} without its stack */
   #titleOf(thrown) {
-    const title = titleOf(thrown);
-    if (!(thrown instanceof TypeError) || !OWN_NAMES.test(title)) return title;
-    throw new CantLearn(cantText(NAMES_REWRITTEN, this.lineOfError(thrown)), true);
+    const title = thrownText(thrown);
+    if (!namesRewritten(thrown, title)) return title;
+    throw new CantLearn(cantText(NAMES_REWRITTEN, this.lineOfError(/** @type {Error} */ (thrown))), true);
   }
 
   /**
@@ -335,16 +340,3 @@ export class NotTheSame extends Error {}
 /** @param {number} at @param {Node} node @param {Asked} asked */
 const differenceText = (at, node, asked) =>
   `at step ${at} ${nodeText(node)} was learned, and now it is ${nodeText(/** @type {Node} */ (asked))}`;
-
-/** @param {unknown} thrown @returns {string} without its stack */
-function titleOf(thrown) {
-  if (!(thrown instanceof Error)) return described(thrown);
-  // The message of an `assert(x)` without a text is made of the code there, which was rewritten.
-  const { code, generatedMessage, operator } = /** @type {any} */ (thrown);
-  if (code === "ERR_ASSERTION" && generatedMessage === true && operator === "==") return `${thrown.name} [${code}]`;
-  try {
-    return `${thrown}`;
-  } catch {
-    return "an error that can't be shown";
-  }
-}

@@ -8,7 +8,7 @@ import { Asker } from "./asking.mjs";
 import { loadCode } from "./code.mjs";
 import { Learned } from "./learned.mjs";
 import { NotTheSame } from "./learner.mjs";
-import { PROGRESS } from "./progress.mjs";
+import { PROGRESS, showing } from "./progress.mjs";
 import { installRealm } from "./realm.mjs";
 import { reportOf } from "./report.mjs";
 
@@ -22,6 +22,8 @@ const CHANGED = "--all can't learn what the agents do: one changes the language'
 /** @type {import("./code.mjs").Code | undefined} the agents' code, once it is loaded */
 let code;
 
+const asker = new Asker();
+
 // The agents get other clocks.
 const now = performance.now.bind(performance);
 
@@ -32,7 +34,7 @@ export function main() {
   try {
     port.postMessage({ report: reported(given) });
   } catch (problem) {
-    const answer = answerOf(problem);
+    const answer = answerOf(asker.refused ?? problem);
     port.postMessage("failed" in answer && isChanged() ? { refused: CHANGED } : answer);
   }
   port.close();
@@ -49,17 +51,12 @@ function isChanged() {
 
 /** @param {Given} given */
 function reported(given) {
-  const asker = new Asker();
-  installRealm(asker);
-  code = loadCode(given.module, given.flaw);
-  asker.lineHere = code.line.bind(code);
-  const learned = new Learned(code, asker, given);
   const words = new Int32Array(given.progress);
+  asker.onCall = showing(words);
+  installRealm(asker);
+  code = loadCode(given.module, asker, given.flaw);
+  const learned = new Learned(code, asker, given);
   const until = now() + 1_000 * given.within;
-  learned.onCall = (isBegun) => {
-    words[PROGRESS.CALLS] += 1;
-    words[PROGRESS.RUNS] = isBegun ? 1 : 0;
-  };
   const search = learned.search((states) => {
     words[PROGRESS.STATES] = states;
     return now() > until;

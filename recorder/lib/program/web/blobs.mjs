@@ -7,7 +7,9 @@ import { bytesOf } from "../twin-blobs.mjs";
 
 const { TypeError: EngineTypeError, URL: EngineURL } = globalThis;
 
-/** @typedef {{ bytes: Uint8Array, type: string, agent: number }} Content of a blob, and the thread that has made its URL */
+/**
+ * @typedef {{ bytes: Uint8Array, type: string, agent: number }} Content of a blob, and the thread that has made its URL
+ */
 
 export class Blobs {
   /** @type {Map<string, Content | undefined>} by URL; undefined: it was revoked */

@@ -1,7 +1,7 @@
-// ES modules of vm that the engine compiles once in a thread, though each run makes them anew. The engine keeps what it has
-// compiled, and finds it again for a module with the same text and the same symbol. Node makes another symbol for each
-// module, by which it finds which module imports. Here a module's URL has one symbol. It leads to the module that was
-// made last, and the modules of earlier runs import nothing any more.
+// ES modules of vm that the engine compiles once in a thread, though each run makes them anew. The engine keeps what it
+// has compiled, and finds it again for a module with the same text and the same symbol. Node makes another symbol for
+// each module, by which it finds which module imports. Here a module's URL has one symbol. It leads to the module that
+// was made last, and the modules of earlier runs import nothing any more.
 
 import vm from "node:vm";
 

@@ -1,5 +1,5 @@
-// Which file a specifier of an ES module stands for, and what kind of module a file is. Node's own resolver finds it, so
-// packages, their conditions and errors are node's.
+// Which file a specifier of an ES module stands for, and what kind of module a file is. Node's own resolver finds it,
+// so packages, their conditions and errors are node's.
 
 import fs from "node:fs";
 import path from "node:path";

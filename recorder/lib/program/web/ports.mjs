@@ -22,7 +22,8 @@ const FOR_NODE = Object.freeze(["on", "ref", "unref"]);
  * @param {import("../ports.mjs").Envelope} envelope
  * @returns {Event}
  */
-export const messageOf = ({ value, ports, isUnread }) => (isUnread ? new EngineMessageEvent("messageerror", { data: null })
+export const messageOf = ({ value, ports, isUnread }) => (isUnread
+  ? new EngineMessageEvent("messageerror", { data: null })
   : new EngineMessageEvent("message", /** @type {any} */ ({ data: value, ports })));
 
 export class WebPortEvents extends PortEvents {

@@ -139,7 +139,8 @@ export class Scripts {
  */
 export function placeOfImport(text, specifier) {
   try {
-    const { body } = parseScript(text, { ecmaVersion: "latest", sourceType: "module", locations: true, allowHashBang: true });
+    const rules = { ecmaVersion: "latest", sourceType: "module", locations: true, allowHashBang: true };
+    const { body } = parseScript(text, rules);
     const found = body.find((/** @type {any} */ { source }) => source?.value === specifier);
     return found && { line: found.loc.start.line, column: found.loc.start.column + 1 };
   } catch {

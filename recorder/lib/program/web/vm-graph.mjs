@@ -1,6 +1,6 @@
 // The ES modules of a program for browsers, made anew for each run in a thread that is kept: what node's own loader
-// makes of a file depends on its name and package, and a browser doesn't ask for these. They are vm.SourceTextModule; the
-// thread needs the flags of `graph-flags.cjs`. Load this file before anything replaces what node's modules export.
+// makes of a file depends on its name and package, and a browser doesn't ask for these. They are vm.SourceTextModule;
+// the thread needs the flags of `graph-flags.cjs`. Load this file before anything replaces what node's modules export.
 
 import path from "node:path";
 import { fileURLToPath } from "node:url";

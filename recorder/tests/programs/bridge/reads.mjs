@@ -1,4 +1,4 @@
-// Wrong: main sleeps once, so the notify of one answer may wake it before the next. The worker reads much before it answers.
+// Wrong: main sleeps once, so the notify of one answer may wake it before the next. The worker reads much before it.
 import { createBridge } from "./bridge.mjs";
 
 const ask = createBridge({

@@ -1,4 +1,4 @@
-// Right: main and a worker add properties to Object.prototype, with names of descriptors' members and of proxies' traps.
+// Right: main and a worker add properties to Object.prototype, named as members of descriptors and traps of proxies.
 import { BroadcastChannel, Worker } from "node:worker_threads";
 
 // Later versions of node load this class when it is first needed, and fail if objects inherit such a setter by then.

@@ -1,4 +1,4 @@
-// Right: the workers replace how the language goes through lists, and nobody but their own code would call that. One ends
+// Right: the workers replace how the language goes through lists, and only their own code would call that. One ends
 // by itself, one is terminated, one exits.
 import { MessageChannel, Worker } from "node:worker_threads";
 

@@ -1,4 +1,4 @@
-// Wrong: the worker can send a list of 6,000 numbers, but the first thread can't read it, and listens to no `messageerror`.
+// Wrong: the worker can send a list of 6,000 numbers, but the first thread can't read it, and hears no `messageerror`.
 import { addedUp } from "./main.mjs";
 
 const sum = await addedUp(6_000, 6_000);

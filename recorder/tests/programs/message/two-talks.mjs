@@ -1,9 +1,10 @@
-// Wrong: main reads the byte that a worker has written, without a message from it. Meanwhile it talks much to another worker.
+// Wrong: main reads the byte that a worker has written, without a message from it. Meanwhile it talks to another one.
 import { MessageChannel, Worker } from "node:worker_threads";
 
 const byte = new Uint8Array(new SharedArrayBuffer(1));
 const { port1, port2 } = new MessageChannel();
-const writer = new Worker(new URL("./writes.mjs", import.meta.url), { workerData: { byte, port: port2 }, transferList: [port2] });
+const rules = { workerData: { byte, port: port2 }, transferList: [port2] };
+const writer = new Worker(new URL("./writes.mjs", import.meta.url), rules);
 const talker = new Worker(new URL("./talks-back.mjs", import.meta.url));
 let left = 2_200;
 talker.on("message", () => {

@@ -4,8 +4,9 @@ import { once } from "node:events";
 import { after, describe, it } from "node:test";
 import { Worker } from "node:worker_threads";
 
-const worker = new Worker("require('worker_threads').parentPort.on('message', async (n) => {"
-  + "await new Promise((done) => setTimeout(done, n)); require('worker_threads').parentPort.postMessage(n * 2); });", { eval: true });
+const code = "require('worker_threads').parentPort.on('message', async (n) => {"
+  + "await new Promise((done) => setTimeout(done, n)); require('worker_threads').parentPort.postMessage(n * 2); });";
+const worker = new Worker(code, { eval: true });
 after(() => worker.terminate());
 
 describe("doubles", { concurrency: true }, () => {

@@ -19,7 +19,8 @@ async function alone() {
   order.push("has asked");
   await first;
   console.log(order.join());
-  const both = [1, 2].map((each) => locks.request("b", async () => { order.push(each); await null; order.push(-each); }));
+  const both = [1, 2].map((each) =>
+    locks.request("b", async () => { order.push(each); await null; order.push(-each); }));
   await Promise.all(both);
   console.log(order.join());
   await tried(() => locks.request("-a", () => {}));

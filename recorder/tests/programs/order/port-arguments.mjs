@@ -3,7 +3,8 @@ import { MessageChannel, receiveMessageOnPort } from "node:worker_threads";
 
 const { port1, port2 } = new MessageChannel();
 const GIVEN = [
-  [], [1, 5], [1, "text"], [1, {}], [1, { transfer: 5 }], [1, { transfer: [] }], [1, new Set()], [1, [{}]], [1, [port1]],
+  [], [1, 5], [1, "text"], [1, {}], [1, { transfer: 5 }], [1, { transfer: [] }], [1, new Set()], [1, [{}]],
+  [1, [port1]],
 ];
 for (const given of GIVEN) {
   try {

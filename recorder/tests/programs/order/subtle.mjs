@@ -22,7 +22,8 @@ const password = await subtle.importKey("raw", bytes("a password"), "PBKDF2", fa
 const how = { name: "PBKDF2", hash: "SHA-256", salt: bytes("salt"), iterations: 10 };
 console.log(hex(await subtle.deriveBits(how, password, 128)));
 const secret = await subtle.importKey("raw", bytes("secret"), "HKDF", false, ["deriveBits"]);
-console.log(hex(await subtle.deriveBits({ name: "HKDF", hash: "SHA-512", salt: bytes("s"), info: bytes("i") }, secret, 256)));
+const expanding = { name: "HKDF", hash: "SHA-512", salt: bytes("s"), info: bytes("i") };
+console.log(hex(await subtle.deriveBits(expanding, secret, 256)));
 
 const key = await subtle.deriveKey(how, password, { name: "AES-GCM", length: 256 }, true, ["encrypt", "decrypt"]);
 const iv = new Uint8Array(12);
@@ -47,7 +48,8 @@ console.log((await subtle.deriveBits({ name: "ECDH", public: one }, other, 256))
 const pair = generateKeyPairSync("rsa", { modulusLength: 1_024 });
 const rsa = { name: "RSA-OAEP", hash: "SHA-256" };
 const closes = await subtle.importKey("spki", pair.publicKey.export(der), rsa, true, ["encrypt"]);
-const opens = await subtle.importKey("pkcs8", pair.privateKey.export({ type: "pkcs8", format: "der" }), rsa, true, ["decrypt"]);
+const exported = pair.privateKey.export({ type: "pkcs8", format: "der" });
+const opens = await subtle.importKey("pkcs8", exported, rsa, true, ["decrypt"]);
 const locked = await subtle.encrypt("RSA-OAEP", closes, bytes("for you"));
 console.log(locked.byteLength, new TextDecoder().decode(await subtle.decrypt("RSA-OAEP", opens, locked)));
 const wrapped = await subtle.wrapKey("raw", mac, key, { name: "AES-GCM", iv }).catch(({ name }) => name);

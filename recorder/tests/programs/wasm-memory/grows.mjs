@@ -1,4 +1,4 @@
-// Right: the worker grows the memory, then notifies main, which finds a longer buffer with what was written behind the old end.
+// Right: the worker grows the memory, then notifies main, which finds a longer buffer with what is behind the old end.
 import { Worker, isMainThread, workerData } from "node:worker_threads";
 
 const memory = isMainThread ? new WebAssembly.Memory({ initial: 1, maximum: 3, shared: true }) : workerData;
@@ -7,7 +7,8 @@ if (isMainThread) {
   new Worker(new URL(import.meta.url), { workerData: memory });
   while (Atomics.load(words, 0) === 0) Atomics.wait(words, 0, 0);
   const longer = new Int32Array(memory.buffer);
-  if (longer.length !== 2 * words.length || longer[words.length] !== 70) throw new Error(`it has ${longer.length} words`);
+  const isRight = longer.length === 2 * words.length && longer[words.length] === 70;
+  if (!isRight) throw new Error(`it has ${longer.length} words`);
 } else {
   memory.grow(1);
   new Int32Array(memory.buffer)[words.length] = 70;

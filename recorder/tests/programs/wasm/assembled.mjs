@@ -56,7 +56,8 @@ export const ATOMIC = Object.freeze({
  * byte 32, or to where the imported `env.at` says
  * @returns {Uint8Array}
  */
-export function moduleOf(functions, { pages = [1, 1], isOwn = false, isShared = true, start, data, isDataMoved = false } = {}) {
+export function moduleOf(functions, how = {}) {
+  const { pages = [1, 1], isOwn = false, isShared = true, start, data, isDataMoved = false } = how;
   const limits = [isShared ? 3 : 1, ...leb(pages[0]), ...leb(pages[1])];
   const types = functions.map(({ type }) => {
     const [given, answered] = type.split(">").map((letters) => list([...letters].map((letter) => [TYPES[letter]])));

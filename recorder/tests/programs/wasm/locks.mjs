@@ -1,4 +1,4 @@
-// Functions in WebAssembly for threads that count: a mutex of three states, by wait and notify, and a counter behind it.
+// Functions in WebAssembly for threads that count: a mutex of three states, by wait and notify, and a counter behind.
 import { ATOMIC, code, moduleOf } from "./assembled.mjs";
 
 const { get, set, i32, i64, call, load, store, atomic, loop, when, again, add, or, ne, drop } = code;
@@ -6,7 +6,7 @@ const exchange = (/** @type {number} */ from, /** @type {number} */ to) =>
   [...get(0), ...i32(from), ...i32(to), ...atomic(ATOMIC.CMPXCHG)];
 const count = [...get(0), ...get(0), ...load(4), ...i32(1), ...add, ...store(4)];
 
-/** @param {number} asleep the state under which a thread sleeps: 2 is right @param {number} woken how many unlock wakes */
+/** @param {number} asleep under which state a thread sleeps: 2 is right @param {number} woken how many unlock wakes */
 export const locks = (asleep, woken = 1) => moduleOf([
   { name: "lock", type: "i>", locals: 1, body: [
     ...exchange(0, 1), ...set(1), ...get(1),

@@ -34,7 +34,8 @@ await Promise.all(waits);
 lines.push(`${order}`);
 
 // Shared, and behind an exclusive one that waits.
-lines.push(await asks(one, { name: "b", how: { mode: "shared" } }), await asks(other, { name: "b", how: { mode: "shared" } }));
+const sharing = { name: "b", how: { mode: "shared" } };
+lines.push(await asks(one, sharing), await asks(other, sharing));
 const exclusive = locks.request("b", ({ mode }) => { order.push(mode); });
 const shared = locks.request("b", { mode: "shared" }, ({ mode }) => { order.push(mode); });
 lines.push(await asks(one, {}), `${order}`);

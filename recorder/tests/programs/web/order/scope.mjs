@@ -1,11 +1,12 @@
 // What the global objects of a page and of workers have.
 const lines = globalThis.lines = [];
 const NAMES = [
-  "Worker", "MessageChannel", "MessagePort", "BroadcastChannel", "importScripts", "onerror", "close", "name", "location",
-  "navigator", "crossOriginIsolated", "isSecureContext", "SharedArrayBuffer", "queueMicrotask", "structuredClone",
-  "setTimeout", "clearInterval", "performance", "addEventListener", "window", "process", "require", "Buffer", "global",
-  "setImmediate", "module", "exports", "__filename", "WorkerGlobalScope", "Window", "ErrorEvent", "fetch", "reportError",
-  "SharedWorker", "Blob", "Response", "requestIdleCallback", "cancelIdleCallback", "LockManager", "Lock",
+  "Worker", "MessageChannel", "MessagePort", "BroadcastChannel", "importScripts", "onerror", "close", "name",
+  "location", "navigator", "crossOriginIsolated", "isSecureContext", "SharedArrayBuffer", "queueMicrotask",
+  "structuredClone", "setTimeout", "clearInterval", "performance", "addEventListener", "window", "process", "require",
+  "Buffer", "global", "setImmediate", "module", "exports", "__filename", "WorkerGlobalScope", "Window", "ErrorEvent",
+  "fetch", "reportError", "SharedWorker", "Blob", "Response", "requestIdleCallback", "cancelIdleCallback",
+  "LockManager", "Lock",
 ];
 lines.push(...NAMES.map((name) => `${name} ${typeof globalThis[name]}`));
 lines.push(`${self === globalThis} ${self instanceof Window} ${self instanceof EventTarget} ${crossOriginIsolated}`);

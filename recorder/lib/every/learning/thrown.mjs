@@ -1,0 +1,36 @@
+// What the agents' code has thrown, as real runs say it, as far as that can be said of rewritten code.
+
+import { foundBy, leftOpen } from "../../agent/answer.mjs";
+import { NOT_SHOWN, described, titleOf } from "../../agent/described.mjs";
+import { OWN_NAMES } from "../rewriting/naming.mjs";
+
+/** @param {unknown} thrown @returns {string} without its stack */
+export function thrownText(thrown) {
+  if (!(thrown instanceof Error)) return described(thrown);
+  // The message of an `assert(x)` without a text is made of the code there, which was rewritten.
+  const { code, generatedMessage, operator } = /** @type {any} */ (thrown);
+  if (code === "ERR_ASSERTION" && generatedMessage === true && operator === "==") return `${thrown.name} [${code}]`;
+  try {
+    return titleOf(thrown);
+  } catch {
+    return NOT_SHOWN;
+  }
+}
+
+/** @param {unknown} thrown @param {string} title of it @returns {boolean} whether that names rewritten code */
+export const namesRewritten = (thrown, title) => thrown instanceof TypeError && OWN_NAMES.test(title);
+
+/**
+ * What goes wrong in `init` or `check`.
+ * @param {() => unknown} call
+ * @returns {string | undefined} in words that follow the name of what is called
+ */
+export function problemOf(call) {
+  try {
+    const answer = call();
+    return leftOpen(answer, "it") ?? foundBy(answer);
+  } catch (thrown) {
+    const text = thrownText(thrown);
+    return `threw ${namesRewritten(thrown, text) ? "TypeError" : text}`;
+  }
+}

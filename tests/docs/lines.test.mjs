@@ -1,0 +1,71 @@
+// No line of the code, the scripts and the documents has more than 120 columns, as `.editorconfig` asks of editors.
+
+import assert from "node:assert/strict";
+import { readdirSync } from "node:fs";
+import { join } from "node:path";
+import { test } from "node:test";
+import { LEFT_OUT, TOP, textOf } from "./documents.mjs";
+
+const MOST = 120;
+
+/** Code and documents by their endings. A file without an ending is a script if it begins with `#!`. */
+const ENDINGS = /\.(?:[cm][jt]s|py|c|md)$/;
+
+/** What still waits: the crates, with `.rt` and `.antt`, since a change there is proved anew; and these files. */
+const WAITS = new Set([
+  "crates",
+  ...["all-twins", "internals", "port-events", "ports", "twins"].map((name) => `recorder/lib/program/${name}.mjs`),
+]);
+
+/** Texts that a script compares with what a program prints, each in one line there. By their files: how they begin. */
+const COMPARED = {
+  "tests/program": [
+    "data race at byte 1 of block 0: agent 0 writes bytes 0 to 3 by Atomics at 0, agent 1 reads",
+    "invalid value '18446744073709551616' for '--mix <SEED>': number too large to fit in target type|",
+  ],
+};
+
+/** @param {string} folder from the top @returns {string[]} the paths of the files in it and below, except what waits */
+function filesBelow(folder) {
+  return readdirSync(join(TOP, folder), { withFileTypes: true }).flatMap((entry) => {
+    const path = join(folder, entry.name);
+    if (LEFT_OUT.has(entry.name) || WAITS.has(path)) return [];
+    if (entry.isDirectory()) return filesBelow(path);
+    return entry.isFile() ? [path] : [];
+  });
+}
+
+/** @param {string} path @returns {boolean} */
+const isScript = (path) => !/\.\w+$/.test(path) && textOf(path).startsWith("#!");
+
+/**
+ * Whether a line has to be one: an object of JSON, or of a document a row of a table, a line of a block of code, or one
+ * that begins with a link.
+ * @param {string} path of its file
+ * @param {string} line
+ */
+function isWhole(path, line) {
+  if (line.startsWith('{"') || COMPARED[path]?.some((text) => line.startsWith(text))) return true;
+  return path.endsWith(".md") && (/ \| |^ {4}/.test(line) || /^\[[^\]]*\]\([^)]*\)\S*$/.test(line));
+}
+
+/** @param {string} path @param {string} text @returns {string[]} where its lines are that are too long */
+const longIn = (path, text) => text.split("\n").flatMap((line, at) => {
+  const columns = [...line].length;
+  return columns > MOST && !isWhole(path, line) ? [`${path}:${at + 1}: ${columns} columns`] : [];
+});
+
+test("no line of code, scripts and documents has more than 120 columns", () => {
+  const files = filesBelow("").filter((path) => ENDINGS.test(path) || isScript(path));
+  assert.ok(files.length > 900, `${files.length} files`);
+  assert.deepEqual(files.flatMap((path) => longIn(path, textOf(path))), []);
+});
+
+test("a line that is too long is found, and one that has to be whole isn't", () => {
+  const long = "word ".repeat(25).trim();
+  assert.deepEqual(longIn("a.mjs", `a\n${long}\n${"é".repeat(120)}`), ["a.mjs:2: 124 columns"]);
+  const whole = [`    ${long}`, `| ${long} | b |`, `[${long}](b.md),`];
+  assert.deepEqual(longIn("a.md", whole.join("\n")), []);
+  assert.deepEqual(longIn("a.py", whole.join("\n")).length, 3);
+  assert.deepEqual(longIn("tests/a", `{"a":"${long}"}`), []);
+});
