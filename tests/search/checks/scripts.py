@@ -19,7 +19,7 @@ def failures_of(result):
 
 
 def has_script(file, script):
-    """Returns whether all of a file's accesses are calls, its bytes are zeros at first, and a script isn't too large."""
+    """Returns whether a file's accesses are all calls, its bytes are zeros at first, and a script isn't too large."""
     is_of_calls = not any("read" in node or "write" in node for it in file["automata"] for node in it["nodes"])
     is_zero = not any(digits.strip("0") for digits in file.get("initial", []))
     is_small = len(script["schedule"]) <= MOST_MOVES and len(spelled(script)) <= MOST_BYTES
