@@ -140,4 +140,7 @@ export const COMMAND_LINES = [
   ["search", FILE], ["search", "--explain", FILE], ["search", NOWHERE], ["search"],
   ["search", "--limit", "0", AUTOMATA],
   ["search", "--timeouts", "late", AUTOMATA], ["search", "--finish"],
+  ["search", "--format", "script", AUTOMATA], ["search", "--format", "script", "--failure", "1", "--states", AUTOMATA],
+  ["search", "--format", "script", "--failure", "2", AUTOMATA], ["search", "--format", "script", searched("torn-read")],
+  ["search", "--format", "script", "--failure", "0", AUTOMATA], ["search", "--format", "script", FILE],
 ];

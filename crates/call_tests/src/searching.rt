@@ -4,7 +4,7 @@ ghost use Rattle.std.specs.Prelude.{◌<◌};
 
 use crate::expecting::expect;
 use sab_automata::Timeouts;
-use sab_command::SearchJob;
+use sab_command::{SearchForm, SearchJob};
 use sab_ending::Outcome;
 use sab_report::VerdictFormat;
 use sab_run::run_search;
@@ -45,8 +45,10 @@ fn begins(alloc: Global, limit: u32, begin: &str, outcome: Outcome) -> Result<bo
     let search = SearchJob {
         timeouts: Timeouts::Early,
         limit,
-        format: VerdictFormat::Plain,
-        states: false,
+        form: SearchForm::Findings {
+            format: VerdictFormat::Plain,
+            states: false,
+        },
     };
     let file = file(alloc)?;
     let mut output = Vec::new(alloc);

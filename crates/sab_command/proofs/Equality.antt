@@ -18,6 +18,9 @@ use Rattle.sab_command.specs.declared.job.Job.TheVariants.{Replay, Check, Judge}
 use Rattle.sab_command.specs.contracts.job.JobPartialEq.TheImpl as job
 use Rattle.sab_command.specs.declared.job.RaceJob.{RaceJob}
 use Rattle.sab_command.specs.contracts.job.RaceJobPartialEq.TheImpl as race
+use Rattle.sab_command.specs.declared.job.SearchForm.{SearchForm}
+use Rattle.sab_command.specs.declared.job.SearchForm.TheVariants as S
+use Rattle.sab_command.specs.contracts.job.SearchFormPartialEq.TheImpl as search_form
 use Rattle.sab_command.specs.declared.job.SearchJob.{SearchJob}
 use Rattle.sab_command.specs.contracts.job.SearchJobPartialEq.TheImpl as search_job
 use Rattle.sab_command.specs.declared.request.Task.{Task}
@@ -65,16 +68,23 @@ same_race x y e =
 same_timeouts : (x y : Timeouts) → (timeouts.ghosts).eq x y ≡ true → x ≡ y
 same_timeouts = same_true timeouts_type (search rules)
 
+same_search_form : (x y : SearchForm) → (search_form.ghosts).eq x y ≡ true → x ≡ y
+same_search_form (S.Findings f m) (S.Findings g n) e =
+    let parts = and_parts _ _ e in
+    let format = same_verdict_format f g parts.0 in
+    let states = (booleans_Decides m n).0 parts.1 in
+    λ i. S.Findings (format i) (states i)
+same_search_form (S.Script m) (S.Script n) e = ap S.Script (same_seed m n e)
+same_search_form _ _ e = absurd (false≢true e)
+
 same_search : (x y : SearchJob) → (search_job.ghosts).eq x y ≡ true → x ≡ y
 same_search x y e =
     let choices = and_parts _ _ e in
     let limits = and_parts _ _ choices.1 in
-    let formats = and_parts _ _ limits.1 in
     let timeouts_are = same_timeouts x.timeouts y.timeouts choices.0 in
     let limit_is = eqb-true x.limit y.limit limits.0 in
-    let format_is = same_verdict_format x.format y.format formats.0 in
-    let states_are = (booleans_Decides x.states y.states).0 formats.1 in
-    λ i. record { timeouts = timeouts_are i; limit = limit_is i; format = format_is i; states = states_are i }
+    let form_is = same_search_form x.form y.form limits.1 in
+    λ i. record { timeouts = timeouts_are i; limit = limit_is i; form = form_is i }
 
 same_task : (x y : Task) → (task.ghosts).eq x y ≡ true → x ≡ y
 same_task (OfScript j) (OfScript k) e = ap OfScript (same_job j k e)

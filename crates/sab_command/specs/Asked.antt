@@ -19,6 +19,8 @@ use Rattle.sab_command.specs.CommandLine.{Lists, command_line}
 use Rattle.sab_command.specs.Source.{Names}
 use Rattle.sab_command.specs.declared.job.Job.TheVariants.{Replay, Check, Judge}
 use Rattle.sab_command.specs.declared.job.RaceJob.{RaceJob}
+use Rattle.sab_command.specs.declared.job.SearchForm.{SearchForm}
+use Rattle.sab_command.specs.declared.job.SearchForm.TheVariants as search
 use Rattle.sab_command.specs.declared.job.SearchJob.{SearchJob}
 use Rattle.sab_command.specs.declared.job.RunForm.{RunForm}
 use Rattle.sab_command.specs.declared.job.RunForm.TheVariants.{Report, Script}
@@ -88,6 +90,18 @@ abbrev pub IsLimit : Option Text → ℕ → Type 0
 IsLimit value limit = (text : Text) (n : ℕ) → value ≡ Some text → Spells text n → 0 < n → n < 2 ^ 32
     → limit ≡ n
 
+-- no number if there is no value, and else the number of 32 bits that it spells
+abbrev pub IsFailure : Option Text → Option ℕ → Type 0
+IsFailure value failure = (value ≡ None → failure ≡ None)
+    × ((text : Text) (n : ℕ) → value ≡ Some text → Spells text n → n < 2 ^ 32 → failure ≡ Some n)
+
+-- a script is asked for by its name, and the findings by every other format; the others are the values of --states and
+-- --failure
+abbrev pub IsSearchForm : Option Text → Option Text → Option Text → SearchForm → Type 0
+IsSearchForm value states failure (search.Script number) = (value ≡ Some (codes "script")) × IsFailure failure number
+IsSearchForm value states failure (search.Findings format all) = (value ≢ Some (codes "script"))
+    × IsVerdictFormat value format × IsGiven states all
+
 -- ---- what the matches of a subcommand ask for
 
 -- a replay, by --format, --acts and --finish
@@ -121,8 +135,8 @@ IsJudge rows _ = ⊥
 abbrev pub IsSearchJob : List Row → SearchJob → Type 0
 IsSearchJob rows job = AreTimeouts (first_of (codes "timeouts") rows) job.timeouts
     × IsLimit (one_of (codes "limit") rows) job.limit
-    × IsVerdictFormat (first_of (codes "format") rows) job.format
-    × IsGiven (first_of (codes "states") rows) job.states
+    × IsSearchForm (first_of (codes "format") rows) (first_of (codes "states") rows) (one_of (codes "failure") rows)
+    job.form
 
 abbrev pub IsSearch : List Row → Task → Type 0
 IsSearch rows (OfSearch job) = IsSearchJob rows job

@@ -22,6 +22,9 @@ format_names = codes "plain" ∷ codes "explained" ∷ codes "json" ∷ codes "s
 abbrev pub verdict_format_names : List Text
 verdict_format_names = codes "plain" ∷ codes "json" ∷ []
 
+abbrev pub search_format_names : List Text
+search_format_names = codes "plain" ∷ codes "json" ∷ codes "script" ∷ []
+
 abbrev pub timeout_names : List Text
 timeout_names = codes "early" ∷ codes "last" ∷ codes "never" ∷ []
 
@@ -73,12 +76,17 @@ timeouts_rule timeouts = record (option_rule (codes "timeouts")) {
   parser = Some (Names timeouts);
 }
 
+-- a number of 32 bits, from 1
+abbrev pub number_rule : Text → Rule
+number_rule name = record (option_rule name) { parser = Some (Signed (pos 1) (pos 4294967295)) }
+
 -- a search lists a million states unless the words say how many
 abbrev pub limit_rule : Rule
-limit_rule = record (option_rule (codes "limit")) {
-  defaults = codes "1000000" ∷ [];
-  parser = Some (Signed (pos 1) (pos 4294967295));
-}
+limit_rule = record (number_rule (codes "limit")) { defaults = codes "1000000" ∷ [] }
+
+-- the words may say which failure, from 1
+abbrev pub failure_rule : Rule
+failure_rule = number_rule (codes "failure")
 
 -- a trace is judged, which excludes other options
 abbrev pub trace_rule : Rule
@@ -98,7 +106,7 @@ judge_rules formats = trace_rule ∷ format_rule formats ∷ flag_rule (codes "f
     ∷ flag_rule (codes "explain") ∷ file_rule ∷ []
 
 abbrev pub search_rules : Choices → Choices → List Rule
-search_rules timeouts formats = timeouts_rule timeouts ∷ limit_rule ∷ format_rule formats
+search_rules timeouts formats = timeouts_rule timeouts ∷ limit_rule ∷ format_rule formats ∷ failure_rule
     ∷ flag_rule (codes "states") ∷ flag_rule (codes "explain") ∷ file_rule ∷ []
 
 abbrev pub with_rules : App → List Rule → App
@@ -142,17 +150,19 @@ with_search app timeouts formats = with_command app (search_app timeouts formats
 pub record Lists : Type 0 where
   pub formats : Choices
   pub verdict_formats : Choices
+  pub search_formats : Choices
   pub shares : Choices
   pub timeouts : Choices
   pub formats_are : AreNames formats format_names
   pub verdict_formats_are : AreNames verdict_formats verdict_format_names
+  pub search_formats_are : AreNames search_formats search_format_names
   pub shares_are : AreNames shares share_names
   pub timeouts_are : AreNames timeouts timeout_names
 
 abbrev pub command_line : Lists → App
 command_line lists =
     with_search (with_checks (with_runs program lists.formats lists.shares) lists.verdict_formats)
-    lists.timeouts lists.verdict_formats
+    lists.timeouts lists.search_formats
 
 -- ---- what the program builds
 

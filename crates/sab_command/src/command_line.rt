@@ -3,7 +3,8 @@
 ghost use Rattle.std.specs.Prelude.{◌≡◌, IfOk, Ok, false};
 ghost use Rattle.clap.specs.Words.{app_of, new_app, rule_of};
 ghost use Rattle.sab_command.specs.CommandLine.{HaveRules, IsLocal, Lists, command_line};
-ghost use Rattle.sab_command.specs.CommandLine.{file_rule, flag_rule, format_rule, limit_rule, mix_rule, share_rule};
+ghost use Rattle.sab_command.specs.CommandLine.{failure_rule, file_rule, flag_rule, format_rule, limit_rule, mix_rule};
+ghost use Rattle.sab_command.specs.CommandLine.{number_rule, share_rule};
 ghost use Rattle.sab_command.specs.CommandLine.{judge_rules, report_rules, search_rules, spins_rule, thread_rules};
 ghost use Rattle.sab_command.specs.CommandLine.{timeouts_rule, trace_rule, with_command, with_rules};
 ghost use Rattle.sab_command.specs.CommandLine.{check_app, judge_app, race_app, replay_app, search_app};
@@ -23,6 +24,9 @@ static FORMATS: [&str; 5] = ["plain", "explained", "json", "svg", "script"];
 
 /// What `--format` of a judge takes.
 static VERDICT_FORMATS: [&str; 2] = ["plain", "json"];
+
+/// What `--format` of a search takes.
+static SEARCH_FORMATS: [&str; 3] = ["plain", "json", "script"];
 
 /// What `--timeouts` takes.
 static TIMEOUTS: [&str; 3] = ["early", "last", "never"];
@@ -99,17 +103,32 @@ fn timeouts_argument<'a>(alloc: Global, timeouts: &'a [&'a str]) -> Arg<'a>
         .value_parser(timeouts)
 }
 
+/// An argument that is a number of 32 bits from 1, called by its name.
+fn number_argument<'a>(alloc: Global, name: &'a str, value: &'a str, help: &'a str) -> Arg<'a>
+    ensures rule { rule_of result ≡ number_rule name.entry.now }
+    ensures local { result.global ≡ false }
+{
+    Arg::new(alloc, name)
+        .long(name)
+        .value_name(value)
+        .help(help)
+        .value_parser(value_parser!(u32).range(1..=4_294_967_295))
+}
+
 /// The argument that says how many states are listed at most.
 fn limit_argument<'a>(alloc: Global) -> Arg<'a>
     ensures rule { rule_of result ≡ limit_rule }
     ensures local { result.global ≡ false }
 {
-    Arg::new(alloc, "limit")
-        .long("limit")
-        .value_name("N")
-        .help(help::LIMIT)
-        .default_value("1000000")
-        .value_parser(value_parser!(u32).range(1..=4_294_967_295))
+    number_argument(alloc, "limit", "N", help::LIMIT).default_value("1000000")
+}
+
+/// The argument that says which failure a script replays to.
+fn failure_argument<'a>(alloc: Global) -> Arg<'a>
+    ensures rule { rule_of result ≡ failure_rule }
+    ensures local { result.global ≡ false }
+{
+    number_argument(alloc, "failure", "K", help::FAILURE)
 }
 
 /// An argument that is there or not, called by its name.
@@ -180,6 +199,7 @@ fn search_arguments<'a>(
         timeouts_argument(alloc, timeouts),
         limit_argument(alloc),
         format_argument(alloc, help::SEARCH_FORMAT, formats),
+        failure_argument(alloc),
         flag(alloc, "states", help::STATES),
         flag(alloc, "explain", help::EXPLAIN_FILE),
         file_argument(alloc),
@@ -281,7 +301,12 @@ pub(crate) fn command<'a>(alloc: Global) -> Result<Command<'a>, AllocError>
     let sabsim = with_runs(alloc, sabsim, FORMATS.as_slice(), SHARES.as_slice())?;
     let formats = VERDICT_FORMATS.as_slice();
     let sabsim = with_checks(alloc, sabsim, formats)?;
-    with_search(alloc, sabsim, TIMEOUTS.as_slice(), formats)
+    with_search(
+        alloc,
+        sabsim,
+        TIMEOUTS.as_slice(),
+        SEARCH_FORMATS.as_slice(),
+    )
 }
 
 /// The command with those below it that run agents.

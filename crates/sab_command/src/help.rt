@@ -269,7 +269,12 @@ pub(crate) const TIMEOUTS: &str =
 pub(crate) const LIMIT: &str = "How many states to go through at most, 1 to 4294967295";
 
 /// What `--format` chooses of what a search finds.
-pub(crate) const SEARCH_FORMAT: &str = "How to write what is found: in words, or as JSON";
+pub(crate) const SEARCH_FORMAT: &str =
+    "How to write what is found: in words, as JSON, or a failure as the script that replays it";
+
+/// What `--failure` chooses.
+pub(crate) const FAILURE: &str =
+    "With --format script: which of the listed failures, from 1 [default: a shortest one]";
 
 /// What `--states` adds.
 pub(crate) const STATES: &str = "Write each state too";
@@ -314,6 +319,13 @@ Closed means that no schedule leads to another state. Else the search has as man
   conflict: automaton 0, node 1 and automaton 1, node 2: ..
                                                 their accesses are unordered, and one writes
   final 0000000004000000: 1 state; at once      all agents have finished, with these bytes
+
+--format script writes a script in place of these lines. `sabsim replay` makes the acts of a
+failure's schedule with it. A failure is a deadlock, a thrown error, no way out or a conflict. Of
+those with the fewest acts it is the one that is listed first, and with --failure K it is the K-th
+one in the list. If there is none, nothing is written. If a script can't have its run, it is
+refused (3 TooMany): the file has ordinary accesses, or bytes at first that aren't 0, or the run
+has too many calls or moves.
 
 Example:
   echo '{"blocks":[4],"views":[{"name":"m","kind":"Int32","block":0,"offset":0,"length":null}],

@@ -49,6 +49,23 @@ pub struct RaceJob {
     pub finish: bool,
 }
 
+/// In which form what a search finds is written.
+#[derive(Clone, Copy, Debug, PartialEq, Eq)]
+pub enum SearchForm {
+    /// All that it finds.
+    Findings {
+        /// How that is written.
+        format: VerdictFormat,
+        /// Whether each state is written too.
+        states: bool,
+    },
+    /// A script that replays to a failure.
+    Script {
+        /// Which failure, by its place in the list, from 1; none for the first of those with the fewest acts.
+        failure: Option<u32>,
+    },
+}
+
 /// How a file of automata is to be searched.
 #[derive(Clone, Copy, Debug, PartialEq, Eq)]
 pub struct SearchJob {
@@ -56,8 +73,6 @@ pub struct SearchJob {
     pub timeouts: Timeouts,
     /// How many states it lists at most, which isn't 0.
     pub limit: u32,
-    /// How what it finds is written.
-    pub format: VerdictFormat,
-    /// Whether each state is written too.
-    pub states: bool,
+    /// In which form what it finds is written.
+    pub form: SearchForm,
 }

@@ -7,6 +7,6 @@ mod job;
 mod reading;
 mod request;
 
-pub use job::{Job, RaceJob, RunForm, SearchJob};
+pub use job::{Job, RaceJob, RunForm, SearchForm, SearchJob};
 pub use reading::request_of;
 pub use request::{Request, Source, Task};

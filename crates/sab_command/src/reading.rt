@@ -2,14 +2,14 @@
 
 ghost use Rattle.std.specs.Prelude.{◌≡◌, ◌<◌, ◌≤◌, IfErr, IfOk, codes, map};
 ghost use Rattle.clap.specs.Words.{first_value, found_of, one_text, rows_of};
-ghost use Rattle.sab_command.specs.Asked.{AreTimeouts, AsksFor, IsAsked, IsForm, IsFormat, IsGiven, IsJudge};
-ghost use Rattle.sab_command.specs.Asked.{IsLimit, IsLines, IsMix, IsRaceJob, IsRefused, IsReplay, IsSearchJob};
-ghost use Rattle.sab_command.specs.Asked.{IsShare, IsSpins, IsVerdictFormat};
+ghost use Rattle.sab_command.specs.Asked.{AreTimeouts, AsksFor, IsAsked, IsFailure, IsForm, IsFormat, IsGiven, IsJudge};
+ghost use Rattle.sab_command.specs.Asked.{IsLimit, IsLines, IsMix, IsRaceJob, IsRefused, IsReplay, IsSearchForm};
+ghost use Rattle.sab_command.specs.Asked.{IsSearchJob, IsShare, IsSpins, IsVerdictFormat};
 ghost use Rattle.sab_command.specs.Job.{HasRoom, IsTaskWithinLimits, IsWithinLimits};
 ghost use Rattle.sab_command.specs.Source.{Names};
 
 use crate::command_line::command;
-use crate::job::{Job, RaceJob, RunForm, SearchJob};
+use crate::job::{Job, RaceJob, RunForm, SearchForm, SearchJob};
 use crate::request::{Request, Source, Task};
 use clap::{ArgMatches, Command, Error};
 use sab_automata::Timeouts;
@@ -155,6 +155,29 @@ fn limit_of(matches: &ArgMatches<'_>) -> u32
     limit.max(1)
 }
 
+/// Which failure a script is to replay to, if one is named.
+fn failure_of(matches: &ArgMatches<'_>) -> Option<u32>
+    ensures { IsFailure (one_text (found_of matches.now) (codes "failure")) result }
+{
+    matches.get_one::<u32>("failure")
+}
+
+/// In which form what a search finds is to be written.
+fn search_form_of(matches: &ArgMatches<'_>) -> SearchForm
+    ensures { IsSearchForm (first_value (found_of matches.now) (codes "format"))
+        (first_value (found_of matches.now) (codes "states")) (one_text (found_of matches.now) (codes "failure")) result }
+{
+    match matches.get_str("format") {
+        Some("script") => SearchForm::Script {
+            failure: failure_of(matches),
+        },
+        _ => SearchForm::Findings {
+            format: verdict_format_of(matches),
+            states: has_flag(matches, "states"),
+        },
+    }
+}
+
 /// The search that is asked for.
 fn search_job(matches: &ArgMatches<'_>) -> SearchJob
     ensures job { IsSearchJob (rows_of (found_of matches.now)) result }
@@ -163,8 +186,7 @@ fn search_job(matches: &ArgMatches<'_>) -> SearchJob
     SearchJob {
         timeouts: timeouts_of(matches),
         limit: limit_of(matches),
-        format: verdict_format_of(matches),
-        states: has_flag(matches, "states"),
+        form: search_form_of(matches),
     }
 }
 

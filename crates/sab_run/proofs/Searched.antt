@@ -31,16 +31,17 @@ use Rattle.sab_automata_text.specs.Faults.{automata_number, agent_number, agents
 use Rattle.sab_tool.specs.declared.tool_fault.ToolFault.{ToolFault}
 use Rattle.sab_tool.specs.declared.tool_fault.ToolFault.TheVariants.{TooMany, OutOfMemory, BadShape, BadName, BadNumber, BadCall, BadView, BadAgent, NotJson, TooLong, NoBlock, BadEdge, NoNode, BadRange}
 use Rattle.sab_tool.specs.ToolFault.{number_of}
+use Rattle.sab_command.specs.declared.job.SearchForm.{SearchForm}
+use Rattle.sab_command.specs.declared.job.SearchForm.TheVariants as F
 use Rattle.sab_command.specs.declared.job.SearchJob.{SearchJob}
 use Rattle.sab_ending.specs.declared.outcome.Outcome.{Outcome}
 use Rattle.sab_search.specs.declared.ending.SearchEnd.{SearchEnd}
-use Rattle.sab_search.specs.Search.{SearchesAs}
 use Rattle.sab_tool.specs.Input.{IsFaultOfInput}
 use Rattle.sab_tool.proofs.ReplaySteps.{keeps_same}
 use Rattle.sab_run.specs.declared.failure.Failure.{Failure}
 use Rattle.sab_run.specs.Failure.{unexplained}
 use Rattle.sab_run.proofs.Flushed.{appends_kept}
-use Rattle.sab_run.specs.Searching.{RunsSearch, RunsSearchGiven, IsFailureAfter, IsSearchFailure, asked_of, outcome_of}
+use Rattle.sab_run.specs.Searching.{RunsSearch, RunsSearchGiven, SearchesBy, IsFailureAfter, IsSearchFailure, outcome_of}
 
 -- ---- each refusal has the number of a fault
 
@@ -171,8 +172,15 @@ unread known old job explain fault failure is same =
 -- ---- and the flush after it
 
 -- what was written is still written
+still : (form : SearchForm) (job : SearchJob) (old mid new : Option (List ℕ)) (file : List ℕ) (end : SearchEnd)
+    → SearchesBy form job old mid file end → Keeps mid new → SearchesBy form job old new file end
+still (F.Findings format states) job old mid new file end searches kept =
+    (searches.0, searches.1, appends_kept old mid new (searches.0) (searches.2) kept)
+still (F.Script failure) job old mid new file end scripts kept =
+    (scripts.0, scripts.1, appends_kept old mid new (scripts.0) (scripts.2) kept)
+
 pub flushed : (job : SearchJob) (old mid new : Option (List ℕ)) (file : List ℕ) (end : SearchEnd) (outcome : Outcome)
-    → SearchesAs (asked_of job) old mid file end → Keeps mid new → outcome ≡ outcome_of end
+    → SearchesBy job.form job old mid file end → Keeps mid new → outcome ≡ outcome_of end
     → RunsSearch job outcome old new file
 flushed job old mid new file end outcome searches kept is =
-    (end, (searches.0, searches.1, appends_kept old mid new (searches.0) (searches.2) kept), is)
+    (end, still job.form job old mid new file end searches kept, is)

@@ -3,17 +3,22 @@ use Rattle.std.specs.Prelude.{◌≡◌, ◌⊎◌, ℕ, ◌≤◌, Bool, true, 
 use Rattle.std.specs.Io.KnownBytes.{Keeps}
 use Rattle.sab_tool.specs.Input.{IsFaultOfInput}
 use Rattle.sab_tool.specs.ToolFault.{number_of}
-use Rattle.sab_tool.specs.declared.tool_fault.ToolFault.TheVariants.{OutOfMemory, WriteFailed}
+use Rattle.sab_tool.specs.declared.tool_fault.ToolFault.TheVariants.{TooMany, OutOfMemory, WriteFailed}
 use Rattle.sab_automata_text.specs.declared.limits.TheConstants.{MAX_FILE}
 use Rattle.sab_automata_text.specs.declared.faults.Refusal.{Refusal}
 use Rattle.sab_automata_text.specs.Faults.{refusal_number}
 use Rattle.sab_automata_text.specs.FaultTexts.{refusal_text}
+use Rattle.sab_text.specs.declared.format.VerdictFormat.{VerdictFormat}
 use Rattle.sab_search.specs.declared.asked.SearchAsked.{SearchAsked}
 use Rattle.sab_search.specs.declared.ending.SearchEnd.{SearchEnd}
 use Rattle.sab_search.specs.declared.ending.SearchEnd.TheVariants as E
 use Rattle.sab_search.specs.declared.asked.SearchFault.{SearchFault}
 use Rattle.sab_search.specs.declared.asked.SearchFault.TheVariants as F
+use Rattle.sab_search.specs.declared.asked.ScriptAsked.{ScriptAsked}
+use Rattle.sab_search.specs.Scripting.{ScriptsAs, IsScriptFault}
 use Rattle.sab_search.specs.Search.{SearchesAs, IsSearchFault}
+use Rattle.sab_command.specs.declared.job.SearchForm.{SearchForm}
+use Rattle.sab_command.specs.declared.job.SearchForm.TheVariants as form
 use Rattle.sab_command.specs.declared.job.SearchJob.{SearchJob}
 use Rattle.sab_ending.specs.declared.outcome.Outcome.{Outcome}
 use Rattle.sab_ending.specs.declared.outcome.Outcome.TheVariants.{Done, Flawed, Open}
@@ -23,13 +28,23 @@ use Rattle.sab_run.specs.declared.failure.Failure.{Failure}
 use Rattle.sab_run.specs.Failure.{unexplained}
 
 -- what is asked of the search
-abbrev pub asked_of : SearchJob → SearchAsked
-asked_of job = record {
-  timeouts = job.timeouts;
-  limit = job.limit;
-  format = job.format;
-  states = job.states;
-}
+abbrev pub asked_of : SearchJob → VerdictFormat → Bool → SearchAsked
+asked_of job format states =
+    record { timeouts = job.timeouts; limit = job.limit; format = format; states = states }
+
+abbrev pub script_asked_of : SearchJob → Option ℕ → ScriptAsked
+script_asked_of job failure = record { timeouts = job.timeouts; limit = job.limit; failure = failure }
+
+-- what it finds was written, or a script was
+abbrev pub SearchesBy : SearchForm → SearchJob → Option (List ℕ) → Option (List ℕ) → List ℕ → SearchEnd → Type 0
+SearchesBy (form.Findings format states) job old new file end = SearchesAs (asked_of job format states) old new file end
+SearchesBy (form.Script failure) job old new file end = ScriptsAs (script_asked_of job failure) old new file end
+
+-- or it failed
+abbrev pub IsFaultBy : SearchForm → SearchJob → Option (List ℕ) → Option (List ℕ) → List ℕ → SearchFault → Type 0
+IsFaultBy (form.Findings format states) job old new file fault =
+    IsSearchFault (asked_of job format states) old new file fault
+IsFaultBy (form.Script failure) job old new file fault = IsScriptFault (script_asked_of job failure) old new file fault
 
 -- what it came to
 abbrev pub outcome_of : SearchEnd → Outcome
@@ -40,7 +55,7 @@ outcome_of E.Open = Open
 -- just what the search finds came after what the writer held, and the outcome is by how it ended
 abbrev pub RunsSearch : SearchJob → Outcome → Option (List ℕ) → Option (List ℕ) → List ℕ → Type 0
 RunsSearch job outcome old new file =
-    (end : SearchEnd) × SearchesAs (asked_of job) old new file end × (outcome ≡ outcome_of end)
+    (end : SearchEnd) × SearchesBy job.form job old new file end × (outcome ≡ outcome_of end)
 
 -- the file isn't too long, and the search ended so
 abbrev pub RunsSearchGiven : SearchJob → Outcome → Option (List ℕ) → Option (List ℕ) → List ℕ → Type 0
@@ -62,13 +77,14 @@ pub record ReportsRefusal (explain : Bool) (refusal : Refusal) (failure : Failur
 -- and what it reports about a search that failed so
 abbrev pub IsFailureOf : Bool → SearchFault → Failure → Type 0
 IsFailureOf explain (F.Refused refusal) failure = ReportsRefusal explain refusal failure
+IsFailureOf explain F.NoScript failure = failure ≡ unexplained TooMany
 IsFailureOf explain F.OutOfMemory failure = failure ≡ unexplained OutOfMemory
 IsFailureOf explain F.WriteFailed failure = failure ≡ unexplained WriteFailed
 
 -- the search of the file failed, or the flush after it did
 abbrev pub IsFailureAfter : SearchJob → Bool → Option (List ℕ) → Option (List ℕ) → List ℕ → Failure → Type 0
 IsFailureAfter job explain old new file failure =
-    ((fault : SearchFault) × IsSearchFault (asked_of job) old new file fault × IsFailureOf explain fault failure)
+    ((fault : SearchFault) × IsFaultBy job.form job old new file fault × IsFailureOf explain fault failure)
     ⊎ (failure ≡ unexplained WriteFailed)
 
 -- the reader's bytes can't be had and nothing was written, or they are a file of which the search failed

@@ -6,24 +6,25 @@ ghost use Rattle.sab_automata_text.specs.Faults.{refusal_number};
 ghost use Rattle.sab_command.specs.Job.{HasRoom};
 ghost use Rattle.sab_tool.specs.ToolFault.{number_of};
 ghost use Rattle.sab_run.specs.Searching.{IsFailureAfter, IsFailureOf, IsFileExplanation, IsSearchFailure};
-ghost use Rattle.sab_run.specs.Searching.{RunsSearch, RunsSearchGiven, asked_of, outcome_of};
+ghost use Rattle.sab_run.specs.Searching.{IsFaultBy, RunsSearch, RunsSearchGiven, SearchesBy, outcome_of};
 
 use crate::failure::{Explanation, Failure};
 use crate::running::flush;
 use sab_automata_text::{MAX_FILE, Refusal};
-use sab_command::SearchJob;
+use sab_command::{SearchForm, SearchJob};
 use sab_ending::Outcome;
-use sab_search::{SearchAsked, SearchEnd, SearchFault, search_as};
+use sab_search::{ScriptAsked, SearchAsked, SearchEnd, SearchFault, script_as, search_as};
 use sab_tool::{ToolFault, read_at_most};
 use std::alloc::Global;
 use std::io::{Read, Write};
 
-/// Searches all schedules of the file of automata that a reader gives, writes what it finds, and flushes.
+/// Searches all schedules of the file of automata that a reader gives, writes what it finds or a script, and flushes.
 ///
 /// TooLong if the reader gave more than [`MAX_FILE`] bytes, ReadFailed if a read failed, OutOfMemory if there is no
-/// memory, and WriteFailed if a write or the flush failed; nothing is said then about how much was written. Every other
-/// fault is that of a file that is refused: then the failure has the place and the reason, if they are asked for. Except
-/// after WriteFailed nothing was written, unless memory ran out while each state was written.
+/// memory, and WriteFailed if a write or the flush failed; nothing is said then about how much was written. TooMany if a
+/// script is asked for and no script can have the failure's run. Every other fault, and TooMany too, is that of a file
+/// that is refused: then the failure has the place and the reason, if they are asked for. Except after WriteFailed nothing
+/// was written, unless memory ran out while each state was written.
 #[tactic(auto, using(crate::proofs::Searched::searched_given, crate::proofs::Searched::unread))]
 pub fn run_search<R: Read, W: Write>(
     alloc: Global,
@@ -58,7 +59,7 @@ fn search_file<W: Write>(
     ensures err { IfErr result
         (IsFailureAfter job explain (W.contents output.old) (W.contents output.new) file.now) }
 {
-    match search_as(alloc, file, asked_of(job), output) {
+    match search_by(alloc, job, file, output) {
         Ok(end) => {
             flush(output)?;
             Ok(outcome_of(end))
@@ -67,15 +68,37 @@ fn search_file<W: Write>(
     }
 }
 
-/// What is asked of the search.
-fn asked_of(job: SearchJob) -> SearchAsked
-    ensures { result ≡ asked_of job }
+/// Searches, and writes what is found, or a script.
+fn search_by<W: Write>(
+    alloc: Global,
+    job: SearchJob,
+    file: &[u8],
+    output: &mut W,
+) -> Result<SearchEnd, SearchFault>
+    requires { HasRoom job }
+    ensures ok { IfOk result (SearchesBy job.form job (W.contents output.old) (W.contents output.new) file.now) }
+    ensures err { IfErr result (IsFaultBy job.form job (W.contents output.old) (W.contents output.new) file.now) }
 {
-    SearchAsked {
-        timeouts: job.timeouts,
-        limit: job.limit,
-        format: job.format,
-        states: job.states,
+    let timeouts = job.timeouts;
+    let limit = job.limit;
+    match job.form {
+        SearchForm::Findings { format, states } => {
+            let asked = SearchAsked {
+                timeouts,
+                limit,
+                format,
+                states,
+            };
+            search_as(alloc, file, asked, output)
+        }
+        SearchForm::Script { failure } => {
+            let asked = ScriptAsked {
+                timeouts,
+                limit,
+                failure,
+            };
+            script_as(alloc, file, asked, output)
+        }
     }
 }
 
@@ -99,6 +122,7 @@ fn failure_of(alloc: Global, explain: bool, fault: SearchFault) -> Failure
             fault: fault_of(refusal),
             explanation: file_explanation(alloc, explain, refusal),
         },
+        SearchFault::NoScript => Failure::from(ToolFault::TooMany),
         SearchFault::OutOfMemory => Failure::from(ToolFault::OutOfMemory),
         SearchFault::WriteFailed => Failure::from(ToolFault::WriteFailed),
     }

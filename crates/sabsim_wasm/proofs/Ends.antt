@@ -5,6 +5,8 @@ use Rattle.sab_text.specs.declared.format.VerdictFormat.{VerdictFormat}
 use Rattle.sab_tool.specs.declared.tool_fault.ToolFault.{ToolFault}
 use Rattle.sab_tool.specs.declared.tool_fault.ToolFault.TheVariants.{WriteFailed}
 use Rattle.sab_command.specs.declared.job.Job.{Job}
+use Rattle.sab_command.specs.declared.job.SearchForm.{SearchForm}
+use Rattle.sab_command.specs.declared.job.SearchForm.TheVariants as S
 use Rattle.sab_command.specs.declared.job.SearchJob.{SearchJob}
 use Rattle.sab_command.specs.declared.request.Source.{Source}
 use Rattle.sab_ending.specs.declared.complaint.Complaint.{Complaint}
@@ -19,8 +21,7 @@ use Rattle.sab_run.specs.Running.{RunsGiven, IsRunFault, IsUnwritten}
 use Rattle.sab_run.specs.Tracing.{JudgesTrace, IsTraceFailure}
 use Rattle.sab_search.specs.declared.asked.SearchFault.{SearchFault}
 use Rattle.sab_search.specs.declared.asked.SearchFault.TheVariants as F
-use Rattle.sab_search.specs.Search.{IsSearchFault}
-use Rattle.sab_run.specs.Searching.{RunsSearchGiven, IsSearchFailure, IsFailureAfter, IsFailureOf, asked_of}
+use Rattle.sab_run.specs.Searching.{RunsSearchGiven, IsFaultBy, IsSearchFailure, IsFailureAfter, IsFailureOf}
 use Rattle.sabsim_wasm.specs.declared.written.Written.{Written}
 use Rattle.sabsim_wasm.specs.Program.{WrittenParts, written_of, written_by, done, Fails, EndsOfScript, EndsOfTrace}
 use Rattle.sabsim_wasm.specs.Program.{EndsOfSearch, IsOfBytes}
@@ -130,13 +131,19 @@ search_done job source explain file outcome old new empty runs =
 unwritten_after : (job : SearchJob) (explain : Bool) (file old new : List ℕ) (failure : Failure)
     → IsFailureAfter job explain (Some old) (Some new) file failure → failure.fault ≢ WriteFailed
     → IsFailureAfter job explain (Some []) (Some []) file failure
-unwritten_after job explain file old new failure (inl after) other = go after.0 after.1 after.2
+unwritten_after job explain file old new failure (inl after) other =
+    inl (after.0, go job.form after.0 after.1, after.2)
   where
-    go : (fault : SearchFault) → IsSearchFault (asked_of job) (Some old) (Some new) file fault
-        → IsFailureOf explain fault failure → IsFailureAfter job explain (Some []) (Some []) file failure
-    go (F.Refused refusal) is of = inl (F.Refused refusal, (refl, is.1), of)
-    go F.OutOfMemory is of = inl (F.OutOfMemory, λ states. refl, of)
-    go F.WriteFailed is of = absurd (other (ap (λ (it : Failure). it.fault) of))
+    go : (form : SearchForm) (fault : SearchFault) → IsFaultBy form job (Some old) (Some new) file fault
+        → IsFaultBy form job (Some []) (Some []) file fault
+    go (S.Findings format states) (F.Refused refusal) is = (refl, is.1)
+    go (S.Findings format states) F.NoScript is = is
+    go (S.Findings format states) F.OutOfMemory is = λ unasked. refl
+    go (S.Findings format states) F.WriteFailed is = tt
+    go (S.Script number) (F.Refused refusal) is = (refl, is.1)
+    go (S.Script number) F.NoScript is = (refl, is.1)
+    go (S.Script number) F.OutOfMemory is = refl
+    go (S.Script number) F.WriteFailed is = tt
 unwritten_after job explain file old new failure (inr is) other =
     absurd (other (ap (λ (it : Failure). it.fault) is))
 

@@ -11,6 +11,7 @@ use Rattle.sab_text.specs.declared.lines.Lines.TheVariants.{All, Acts}
 use Rattle.sab_command.specs.declared.job.RunForm.{RunForm}
 use Rattle.sab_command.specs.declared.job.RunForm.TheVariants.{Report, Script}
 use Rattle.sab_command.specs.declared.job.Job.TheVariants.{Replay, Check, Judge}
+use Rattle.sab_command.specs.declared.job.SearchForm.TheVariants.{Findings}
 use Rattle.sab_command.specs.declared.job.SearchJob.{SearchJob}
 use Rattle.sab_command.specs.declared.request.Task.{Task}
 use Rattle.sab_command.specs.declared.request.Task.TheVariants.{OfScript, OfTrace}
@@ -49,7 +50,7 @@ timeouts_at number =
 -- how the input is to be searched with these choices, if both numbers have a meaning
 abbrev pub searched_with : ℕ → Bool → Option Timeouts → Option VerdictFormat → Option SearchJob
 searched_with limit states (Some timeouts) (Some format) =
-    Some (record { timeouts = timeouts; limit = limit; format = format; states = states })
+    Some (record { timeouts = timeouts; limit = limit; form = Findings format states })
 searched_with limit states _ _ = None
 
 -- and if there is room for a state

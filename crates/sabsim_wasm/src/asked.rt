@@ -5,7 +5,7 @@ ghost use Rattle.sab_command.specs.Job.{HasRoom, IsTaskWithinLimits};
 ghost use Rattle.sabsim_wasm.specs.Asked.{form_at, format_at, search_at, task_at, timeouts_at, verdict_format_at};
 
 use sab_automata::Timeouts;
-use sab_command::{Job, RunForm, SearchJob, Task};
+use sab_command::{Job, RunForm, SearchForm, SearchJob, Task};
 use sab_text::{Format, Lines, ReportForm, VerdictFormat};
 
 /// What is to be done with the input; none if a number has no meaning.
@@ -77,8 +77,7 @@ pub(crate) fn search_of(timeouts: u32, limit: u32, format: u32, states: bool) ->
     Some(SearchJob {
         timeouts,
         limit,
-        format,
-        states,
+        form: SearchForm::Findings { format, states },
     })
 }
 

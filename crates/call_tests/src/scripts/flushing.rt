@@ -5,7 +5,7 @@
 use crate::expecting::expect;
 use crate::scripts::{STORE_AND_LOAD, STORED_AND_LOADED};
 use sab_automata::Timeouts;
-use sab_command::{Job, RaceJob, RunForm, SearchJob};
+use sab_command::{Job, RaceJob, RunForm, SearchForm, SearchJob};
 use sab_ending::Outcome;
 use sab_report::{Format, Lines, ReportForm, VerdictFormat};
 use sab_run::{Failure, judge_trace, run, run_race, run_search};
@@ -227,8 +227,10 @@ fn is_searched(alloc: Global, is_stuck: bool) -> bool {
     let search = SearchJob {
         timeouts: Timeouts::Early,
         limit: 2,
-        format: VerdictFormat::Plain,
-        states: false,
+        form: SearchForm::Findings {
+            format: VerdictFormat::Plain,
+            states: false,
+        },
     };
     let mut output = Basin::new(alloc, is_stuck);
     let returned = run_search(alloc, search, false, &mut SLEEPER.as_bytes(), &mut output);
