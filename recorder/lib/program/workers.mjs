@@ -19,7 +19,7 @@ import { sent } from "./values.mjs";
 
 const { SHARE_ENV } = /** @type {any} */ (threads);
 const { nextTick } = /** @type {any} */ (process);
-const emit = /** @type {any} */ (process.emit).bind(process);
+const emit = /** @type {any} */ (process).emit.bind(process);
 /** What the Worker of this node has: later versions have more. */
 const { prototype: engine } = /** @type {any} */ (threads.Worker);
 
