@@ -127,7 +127,7 @@ test("each exported name has a type, and is used below", async () => {
     const names = (...kinds) => found.filter(([, kind]) => kinds.includes(kind)).map(([, , name]) => name).sort();
     const words = `import("${from}").then((all) => console.log(Object.keys(all).sort().join()))`;
     assert.equal(succeeds(project, "node", ["-e", words]), `${names("function", "class").join()}\n`);
-    const imports = new RegExp(`^import .*\\{\\s(.*)\\s\\} from "${from}";$`, "gm");
+    const imports = new RegExp(`^import .*\\{\\s+(.*?),?\\s\\} from "${from}";$`, "gm");
     const used = [...readFileSync(join(project, `${user}.mts`), "utf8").matchAll(imports)];
     assert.deepEqual(used.flatMap(([, list]) => list.split(", ")).sort(), found.map(([, , name]) => name).sort());
   }

@@ -14,7 +14,9 @@ export class KeptAlive {
   /** @returns {boolean} whether something does, except what the machine may bring */
   isSome() {
     const { ports, timers, children, ends } = this.served;
-    if (timers.alive || this.hasTask() || ports.keeping().length > 0 || ends.keepers().length > 0) return true;
+    // What node has of its own under way may count as a timer for a moment.
+    if (timers.alive && timers.keepers().length > 0) return true;
+    if (this.hasTask() || ports.keeping().length > 0 || ends.keepers().length > 0) return true;
     let isSome = false;
     children.forEach(({ refed, listens }) => {
       isSome ||= refed || listens;

@@ -20,6 +20,7 @@ import { sent } from "./values.mjs";
 const { SHARE_ENV } = /** @type {any} */ (threads);
 const { nextTick } = /** @type {any} */ (process);
 const emit = /** @type {any} */ (process).emit.bind(process);
+const listenersOf = /** @type {any} */ (process).listenerCount.bind(process);
 /** What the Worker of this node has: later versions have more. */
 const { prototype: engine } = /** @type {any} */ (threads.Worker);
 
@@ -193,7 +194,8 @@ class Worker extends EventEmitter {
     const isFirst = (/** @type {unknown} */ name) => name === "message" && this.listenerCount("message") === 0;
     this.on("newListener", (/** @type {unknown} */ name) => isFirst(name) && this.#listens(true));
     this.on("removeListener", (/** @type {unknown} */ name) => isFirst(name) && this.#listens(false));
-    nextTick(() => emit("worker", this));
+    // A tick that a run leaves has its thread replaced, so there is one only if somebody listens by now.
+    if (listenersOf("worker") > 0) nextTick(() => emit("worker", this));
   }
 
   /**
