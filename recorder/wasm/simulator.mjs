@@ -33,7 +33,7 @@ const decoder = new TextDecoder();
 const GIVEN = { nothing: 0, bytes: 1, unreadable: 2 };
 
 /**
- * @typedef {object} Job what is to be done with an input
+ * @typedef {object} SimulatorJob what is to be done with an input
  * @property {"replay" | "check" | "judge" | "judge-trace"} job
  * @property {"plain" | "explained" | "json" | "svg" | "script"} [format] of the report; of a verdict plain or json;
  * plain if it isn't given
@@ -43,7 +43,7 @@ const GIVEN = { nothing: 0, bytes: 1, unreadable: 2 };
  */
 
 /**
- * @typedef {object} Ended how the program ends
+ * @typedef {object} CommandResult how the program ends
  * @property {number} status its exit status
  * @property {Uint8Array} output what it writes to standard output
  * @property {string} complaint what it writes to standard error
@@ -58,7 +58,7 @@ const GIVEN = { nothing: 0, bytes: 1, unreadable: 2 };
  * @property {boolean} [explain]
  */
 
-/** @typedef {Ended & { leftOut: number }} EndedSearch how many bytes of the output had no room */
+/** @typedef {CommandResult & { leftOut: number }} SearchCommandResult how many bytes of the output had no room */
 
 /** The simulator has stopped in the middle of a call: it is defective, or it needs a deeper stack. */
 export class Trapped extends Error {
@@ -72,7 +72,7 @@ export class Trapped extends Error {
 /** The host has no memory for a call. */
 class NoMemory extends Error {}
 
-/** How the program ends if there is no memory. @returns {Ended} */
+/** How the program ends if there is no memory. @returns {CommandResult} */
 const outOfMemory = () => ({ status: 4, output: NOTHING, complaint: "sabsim: 5 OutOfMemory\n" });
 
 /** A memory of the module, with the pages of it that are the host's. */
@@ -101,9 +101,9 @@ export class Instance {
   }
 
   /**
-   * @param {Job} job
+   * @param {SimulatorJob} job
    * @param {Uint8Array} input
-   * @returns {Ended}
+   * @returns {CommandResult}
    */
   run({ job, format = "plain", acts = false, finish = false, explain = false }, input) {
     const [which, how] = [JOBS.indexOf(job), FORMATS.indexOf(format)];
@@ -119,7 +119,7 @@ export class Instance {
    * @param {SearchJob} job
    * @param {Uint8Array} input
    * @param {number} room how many bytes the output may have
-   * @returns {EndedSearch}
+   * @returns {SearchCommandResult}
    */
   search({ timeouts, limit, format = "plain", states = false, explain = false }, input, room) {
     const numbers = [TIMEOUTS.indexOf(timeouts), limit, FORMATS.indexOf(format), Number(states), Number(explain)];
@@ -136,7 +136,7 @@ export class Instance {
    * @param {Uint8Array} input
    * @param {boolean} isTerminal
    * @param {number} [room] how many bytes the output has at least room for
-   * @returns {{ wants: number, ended: EndedSearch }}
+   * @returns {{ wants: number, ended: SearchCommandResult }}
    */
   command(line, given, input, isTerminal, room) {
     const at = this.#put(line, input);
@@ -184,7 +184,7 @@ export class Instance {
    * and the reply's address
    * @param {number} size of the input: most reports are a few times as long
    * @param {number} [room] at least
-   * @returns {{ wants: number, ended: EndedSearch }}
+   * @returns {{ wants: number, ended: SearchCommandResult }}
    */
   #ask(call, size, room = 0) {
     for (let wanted = Math.max(FIRST_ROOM, 4 * size, room); ; ) {
@@ -229,9 +229,9 @@ export class Simulator {
 
   /**
    * Does a job with an input.
-   * @param {Job} job
+   * @param {SimulatorJob} job
    * @param {Uint8Array} input
-   * @returns {Ended}
+   * @returns {CommandResult}
    * @throws {Trapped}
    */
   run(job, input) {
@@ -243,7 +243,7 @@ export class Simulator {
    * @param {SearchJob} job
    * @param {Uint8Array} input
    * @param {number} [room] how many bytes the output may have
-   * @returns {EndedSearch}
+   * @returns {SearchCommandResult}
    * @throws {Trapped}
    */
   search(job, input, room = job.states ? ROOM_OF_STATES : ROOM_OF_SEARCH) {
@@ -256,7 +256,7 @@ export class Simulator {
    * @param {(file: string | undefined) => Uint8Array} read returns what a file has, or what standard input has if none
    * is named; if it throws, the input can't be read
    * @param {boolean} [isTerminal] whether refusals are to be explained, as on a terminal
-   * @returns {EndedSearch}
+   * @returns {SearchCommandResult}
    * @throws {Trapped}
    */
   command(words, read, isTerminal = false) {
@@ -274,8 +274,8 @@ export class Simulator {
 
   /**
    * Makes a call in an instance. After a trap nothing is known about its memory, so the next call has another one.
-   * @param {(instance: Instance) => Ended} call
-   * @returns {Ended}
+   * @param {(instance: Instance) => CommandResult} call
+   * @returns {CommandResult}
    */
   #calling(call) {
     const kept = this.#kept;

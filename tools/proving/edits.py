@@ -10,7 +10,8 @@ Change = namedtuple("Change", "begin end text")
 
 
 class Edit:
-    """An edit of a crate: the functions whose bodies it changes, with the changes in each one's file, and how it is tried."""
+    """An edit of a crate: the functions whose bodies it changes, with the changes in each one's file, and how it is
+    tried."""
 
     def __init__(self, file, crate, functions, calls):
         self.file, self.name = file, os.path.basename(file)
@@ -42,7 +43,8 @@ def way_of(function, names, calls):
 
 
 def changes_between(old, new):
-    """Returns what differs between two texts with equally many lines, as an edit's texts have: a change for each line."""
+    """Returns what differs between two texts with equally many lines, as an edit's texts have: a change for each
+    line."""
     changes, at = [], 0
     for one, other in zip(old.split("\n"), new.split("\n")):
         if one != other:
@@ -54,8 +56,8 @@ def changes_between(old, new):
 
 
 def functions_touched(texts, folder, readers):
-    """Returns the functions that edited texts change, and that have a name of their own: those with a line which isn't in
-    the files of a folder. If there is none, it returns those that name a constant with such a line."""
+    """Returns the functions that edited texts change, and that have a name of their own: those with a line which isn't
+    in the files of a folder. If there is none, it returns those that name a constant with such a line."""
     functions = [function for reader in readers for function in reader.found]
     names, found = [function.name for function in functions], touched(texts, folder, functions)
     if not found:

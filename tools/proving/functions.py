@@ -10,15 +10,15 @@ from .kit import rtlib
 # A token of a file: where it begins and ends, in characters, and its text, which is empty for a literal.
 Token = namedtuple("Token", "begin end text")
 
-# A function: its name as rattle prints it; its file; where it begins, with its attributes, its own name's token, where its
-# body begins, and where it ends; how an edit of its body can be tried together with others.
+# A function: its name as rattle prints it; its file; where it begins, with its attributes, its own name's token, where
+# its body begins, and where it ends; how an edit of its body can be tried together with others.
 Function = namedtuple("Function", "name file begin name_token body end way")
 
 # A constant: its name, without a path; its file; where it begins, with its attributes, and where it ends.
 Constant = namedtuple("Constant", "name file begin end")
 
-# How an edit can be tried: in a copy of the function under another name, put after it; where the function is, as a trait's
-# impl has room for no copy; or alone.
+# How an edit can be tried: in a copy of the function under another name, put after it; where the function is, as a
+# trait's impl has room for no copy; or alone.
 IN_A_TWIN, IN_PLACE, ALONE = "in a twin", "in place", "alone"
 
 CLOSING = {"(": ")", "[": "]", "{": "}"}
@@ -248,7 +248,8 @@ def calls_of(rlib):
         of = (rest.get("generics") or {}).get("method_of")
         if isinstance(of, dict) and "Impl" in of:
             members.setdefault(of["Impl"][0], set()).add(name)
-    return {name: {to for it in strings_in(rest.get("body")) for to in ({it} if it in names else members.get(it, ()))} for name, rest in read}
+    called = lambda it: {it} if it in names else members.get(it, ())
+    return {name: {to for it in strings_in(rest.get("body")) for to in called(it)} for name, rest in read}
 
 
 def strings_in(value):

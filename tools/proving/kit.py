@@ -7,7 +7,10 @@ import shutil
 import sys
 
 # What is used of rt. Kits differ in other names.
-NAMES = "BACKENDS Crate IGNORED REACHES RENAMES edits_of free handles_of must_fail need processors read_edit run stop_on_words unread"
+NAMES = (
+    "BACKENDS Crate IGNORED REACHES RENAMES edits_of free handles_of must_fail need processors read_edit run"
+    " stop_on_words unread"
+)
 
 
 def stop(why):
@@ -36,7 +39,8 @@ rtlib = rt.rtlib
 
 
 def kit_sum():
-    """Returns a sum of the kit: its compiler, logic and libraries, and the scripts that judge what the compiler says."""
+    """Returns a sum of the kit: its compiler, logic and libraries, and the scripts that judge what the compiler
+    says."""
     files = [f"{rtlib.KIT}/WHAT", os.path.realpath(rt.__file__), os.path.realpath(rtlib.__file__)]
     return hashlib.sha256(repr([rtlib.sum_of(file) for file in files]).encode()).hexdigest()
 

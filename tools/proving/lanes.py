@@ -61,7 +61,8 @@ class Lanes:
 
     def drop_hopeless(self):
         """Drops what waits for a task that ended badly, or was dropped."""
-        is_hopeless = lambda it: any(not self.ended.get(below, below in self.left or self.is_running(below)) for below in it.waits_for)
+        may_serve = lambda below: self.ended.get(below, below in self.left or self.is_running(below))
+        is_hopeless = lambda it: not all(map(may_serve, it.waits_for))
         while any(map(is_hopeless, self.left)):
             self.left = [it for it in self.left if not is_hopeless(it)]
 
@@ -93,7 +94,8 @@ class Lanes:
         # One more than there are processors is planned for: a task that all others wait for gets its share sooner.
         idle = self.processors + 1 - used
         room = self.memory - sum(memory for _, _, memory in self.running.values())
-        if self.running and (task.is_alone or any(it.is_alone for it, _, _ in self.running.values()) or task.memory > room):
+        is_taken = task.is_alone or any(it.is_alone for it, _, _ in self.running.values())
+        if self.running and (is_taken or task.memory > room):
             return 0
         if idle < 1 and least == 1:
             return 0

@@ -1,5 +1,5 @@
-"""Makes a folder of modules that a check begins with, of what a crate's own proof has checked and its library holds; and
-reads from such modules which functions call which."""
+"""Makes a folder of modules that a check begins with, of what a crate's own proof has checked and its library holds;
+and reads from such modules which functions call which."""
 import io
 import os
 import re
@@ -15,7 +15,8 @@ class NoModules(Exception):
 def unpack_modules(crate, folder):
     """Writes the checked modules of the crate's library into a folder, as `rattle check --incremental` keeps them."""
     with open(f"{crate.rlib}/toolchain/checked.a", "rb") as it:
-        modules = [member for member in members_of(it.read()) if member.name.endswith(".oantt") and "/" not in member.name]
+        members = members_of(it.read())
+        modules = [member for member in members if member.name.endswith(".oantt") and "/" not in member.name]
     if not any(it.name.startswith(f"Rattle-{crate.name}-proofs.") for it in modules):
         raise NoModules(crate.name)
     inside = f"{folder}/{build_of(modules[0].data)}"
@@ -29,9 +30,9 @@ def unpack_modules(crate, folder):
 
 
 def save_nothing_of(functions, crate, folder):
-    """Has the next check over a folder of modules save none of the modules of these functions' code: a folder takes each
-    one's place. A check that can't save all prints no files to start proofs from. For these it would go once more through
-    each function that isn't proved. It decides and prints the same otherwise."""
+    """Has the next check over a folder of modules save none of the modules of these functions' code: a folder takes
+    each one's place. A check that can't save all prints no files to start proofs from. For these it would go once more
+    through each function that isn't proved. It decides and prints the same otherwise."""
     inside = f"{folder}/{os.listdir(folder)[0]}"
     longest = os.pathconf(inside, "PC_NAME_MAX")
     for name in functions:
@@ -43,9 +44,9 @@ def save_nothing_of(functions, crate, folder):
 
 
 def calls_in(crate):
-    """Returns for each function that the crate's own proof has checked which of these it calls or passes on, by rattle's
-    names: those of whose modules its code imports one. A function in a cycle of calls, whose name begins with `+`, imports
-    the code of the cycle: it calls itself."""
+    """Returns for each function that the crate's own proof has checked which of these it calls or passes on, by
+    rattle's names: those of whose modules its code imports one. A function in a cycle of calls, whose name begins with
+    `+`, imports the code of the cycle: it calls itself."""
     code, imports = re.compile(rf"Rattle-{crate.name}-proofs\.(.+)\.Code(\.Mir)?\.oantt"), {}
     with open(f"{crate.rlib}/toolchain/checked.a", "rb") as it:
         for member in members_of(it.read()):
@@ -54,7 +55,8 @@ def calls_in(crate):
                 imports.setdefault(found[1], set()).update(imports_of(member.data, f"Rattle-{crate.name}-proofs."))
     name_of = lambda path: f"{crate.name}::{path.replace('.', '::')}"
     is_in_cycle = lambda found: any(it.rpartition(".")[2].startswith("+") for it in found)
-    called = lambda path, found: {it for it in imports if it in found and it != path} | ({path} if is_in_cycle(found) else set())
+    others = lambda path, found: {it for it in imports if it in found and it != path}
+    called = lambda path, found: others(path, found) | ({path} if is_in_cycle(found) else set())
     return {name_of(path): set(map(name_of, called(path, found))) for path, found in imports.items()}
 
 
@@ -73,7 +75,8 @@ def imports_of(data, prefix):
 
 
 def build_of(data):
-    """Returns the name that a folder of modules gives the build of rattle, from a module that this build has checked."""
+    """Returns the name that a folder of modules gives the build of rattle, from a module that this build has
+    checked."""
     line = next(it for it in data.split(b"\n", 5) if it.startswith(b"--@ kernel "))
     return line.split()[2].decode().replace("/", "_")
 

@@ -1,4 +1,5 @@
-"""Makes tasks of proving crates, of running what was made of them, and of trying their edits; and counts what passed."""
+"""Makes tasks of proving crates, of running what was made of them, and of trying their edits; and counts what
+passed."""
 import os
 import re
 import shutil
@@ -223,6 +224,7 @@ def is_made_of(crate, sums):
 
 def seconds_of(crate):
     """Returns about how many seconds of one processor the proof of a crate takes: fitted to what was measured."""
-    definitions = sum(rtlib.text_of(file).count("\n") for file in rtlib.files_of(crate.folder) if file.endswith(".antt"))
+    files = [file for file in rtlib.files_of(crate.folder) if file.endswith(".antt")]
+    definitions = sum(rtlib.text_of(file).count("\n") for file in files)
     below = sum(it.count(rb"\n") for it in crate.below())
     return 25 + crate.count(rb"\n") / 12 + definitions / 80 + below / 250 + 15 * len(crate.of_kit)

@@ -22,8 +22,8 @@ class StaticProving(Proving):
         return f"{self.name}.bc"
 
     def prove(self, folder, jobs):
-        """Proves the library, keeps what was checked, and the code that the kit gives to its clang for x86-64. Nothing is
-        compiled."""
+        """Proves the library, keeps what was checked, and the code that the kit gives to its clang for x86-64. Nothing
+        is compiled."""
         # Later processors of this kind have instructions of their own, which the code could name.
         words = [*self.crate.words(["--jobs", str(jobs)], keeps=False), "--cpu=x86-64"]
         status = self.crate.prove(["check", *words, "-o", f"{folder}/{CHECKED}"])

@@ -40,7 +40,8 @@ def sum_of_scripts(names):
 
 
 class Sums:
-    """Sums of crates: of their files, of those below them, of the kit, of what HANDLES allows, and of how they are proved."""
+    """Sums of crates: of their files, of those below them, of the kit, of what HANDLES allows, and of how they are
+    proved."""
 
     def __init__(self):
         self.base, self.known = sum_of(kit_sum(), rt.Crate.allowed, sum_of_scripts("crates kit")), {}

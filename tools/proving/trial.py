@@ -33,7 +33,8 @@ class Trial:
         # The edits with which the crate is surely still proved over what is kept.
         self.proved = set()
         # The edits whose changed functions no check has tried, and that aren't to be tried as rt tries them.
-        self.untried = set() if alone else {edit.name for edit in self.edits} - {edit.name for batch in self.batches for edit in batch}
+        tried = {edit.name for batch in self.batches for edit in batch}
+        self.untried = set() if alone else {edit.name for edit in self.edits} - tried
 
     def read_calls(self):
         """Returns for each function of the crate which of its functions it calls or passes on."""
@@ -103,8 +104,8 @@ class Trial:
         return ({}, why, ()) if why else (self.results_of(judge, tried), "", ())
 
     def judge(self, tried, functions, room, kept):
-        """Checks what is tried in the copy of the crate in a folder, which has these functions. Returns a judge of what the
-        check said, why it has no verdict, or nothing, and the edits that can't be read then."""
+        """Checks what is tried in the copy of the crate in a folder, which has these functions. Returns a judge of what
+        the check said, why it has no verdict, or nothing, and the edits that can't be read then."""
         only = [word for it in tried for word in ("--only", it.name.partition("::")[2])]
         save_nothing_of({it.name for it in tried}, self.crate, kept)
         ran = run_check(self.crate, room, [*self.flags, *only], kept)
@@ -145,8 +146,8 @@ class Trial:
         return found
 
     def try_alone(self, edit, kept):
-        """Tries an edit alone: the functions that it changes, if no check has tried them, and then the crate as rt does:
-        over what is kept, and from nothing if it is read and isn't refused so."""
+        """Tries an edit alone: the functions that it changes, if no check has tried them, and then the crate as rt
+        does: over what is kept, and from nothing if it is read and isn't refused so."""
         result = self.try_touched(edit, kept) if edit.name in self.untried else None
         if result:
             return result
@@ -158,9 +159,10 @@ class Trial:
         return result_of(rt.must_fail(self.crate, edit.file, self.flags))
 
     def try_touched(self, edit, kept):
-        """Tries the functions that an edit changes or adds, or that name a constant which it changes, and nothing else of
-        the crate. Returns the edit's result if one of them is refused for a reason of its own. Else this decides nothing,
-        and it returns None; also if the edit changes more than code, since then not all that it changes is read."""
+        """Tries the functions that an edit changes or adds, or that name a constant which it changes, and nothing else
+        of the crate. Returns the edit's result if one of them is refused for a reason of its own. Else this decides
+        nothing, and it returns None; also if the edit changes more than code, since then not all that it changes is
+        read."""
         texts, why = rt.read_edit(edit.file, self.crate.folder)
         if why or not all(file.startswith("src/") for file in texts):
             return None
@@ -176,8 +178,8 @@ class Trial:
         return Result(REFUSED, line, True) if line else None
 
     def readers_of_texts(self, texts, room):
-        """Writes the crate with some texts of its files into a folder. Returns the readers of its files; none, if it can't
-        be read."""
+        """Writes the crate with some texts of its files into a folder. Returns the readers of its files; none, if it
+        can't be read."""
         write_texts(self.crate, texts, room)
         try:
             return readers_of(self.crate.name, room)
@@ -197,8 +199,8 @@ def result_of(answer):
 
 @contextmanager
 def copy_of(kept):
-    """Yields a copy of a folder of modules. A check keeps there what it checks of functions with edits, in place of what
-    the crate's own proof has checked, and the next check would check that again."""
+    """Yields a copy of a folder of modules. A check keeps there what it checks of functions with edits, in place of
+    what the crate's own proof has checked, and the next check would check that again."""
     with tempfile.TemporaryDirectory(prefix="sabsim-kept-") as own:
         shutil.copytree(kept, own, dirs_exist_ok=True)
         yield own
@@ -207,5 +209,5 @@ def copy_of(kept):
 def run_check(crate, room, flags, kept):
     """Checks the copy of a crate in a folder, over what a folder of modules keeps."""
     words = [rtlib.RATTLE, "check", *crate.words(flags, keeps=False), "--incremental", kept]
-    how = {"cwd": room, "stdin": subprocess.DEVNULL, "stdout": subprocess.PIPE, "stderr": subprocess.STDOUT, "errors": "replace"}
-    return subprocess.run([*rtlib.guarded(), *words], **how)
+    streams = {"stdin": subprocess.DEVNULL, "stdout": subprocess.PIPE, "stderr": subprocess.STDOUT}
+    return subprocess.run([*rtlib.guarded(), *words], cwd=room, errors="replace", **streams)

@@ -1,12 +1,12 @@
 """Writes a copy of a crate in which edits of functions' bodies can be tried together.
 
 A twin is the function with an edit in its body: the same attributes, contract and body, under another name, right after
-the function, with its own copy of the function's proof files. Nothing calls a twin, and a twin calls the functions as they
-are. So no edit can hide another one, and what a twin rests on is the crate as it is.
+the function, with its own copy of the function's proof files. Nothing calls a twin, and a twin calls the functions as
+they are. So no edit can hide another one, and what a twin rests on is the crate as it is.
 
-A method of a trait's impl has no room for a twin, and is edited in place, if neither a twin nor another function that is
-edited in place reaches it by calls. Then too, all that each one rests on is the crate as it is. So is a function with one
-edit and proof files of its own: in place it needs no copy of these, and no twin that shows that copies serve.
+A method of a trait's impl has no room for a twin, and is edited in place, if neither a twin nor another function that
+is edited in place reaches it by calls. Then too, all that each one rests on is the crate as it is. So is a function
+with one edit and proof files of its own: in place it needs no copy of these, and no twin that shows that copies serve.
 """
 import os
 import re
@@ -34,10 +34,12 @@ class Twin:
         function, begin = self.function, self.function.begin
         name = function.name_token
         changes = [Change(name.begin, name.end, self.short), *(self.edit.changes[function] if self.edit else [])]
-        return changed(source[begin : function.end], [Change(it.begin - begin, it.end - begin, it.text) for it in changes])
+        inside = [Change(it.begin - begin, it.end - begin, it.text) for it in changes]
+        return changed(source[begin : function.end], inside)
 
     def proof_files(self, crate):
-        """Returns the twin's proof files, as texts by their paths: copies of the function's that name the twin's modules."""
+        """Returns the twin's proof files, as texts by their paths: copies of the function's that name the twin's
+        modules."""
         own, copy, found = proof_folder(self.function.name), proof_folder(self.name), {}
         path = re.escape(".".join(self.function.name.split("::")[1:]))
         module = re.compile(rf"(?<![\w.])(Rattle\.{crate.name}\.(?:proofs|specs\.contracts)\.){path}(?=[.\s{{])")
@@ -76,8 +78,8 @@ def has_proof_files(crate, function):
 
 
 def tried_of(crate, edits, calls):
-    """Returns what tries edits together: twins, one with no edit for each function that has proof files of its own, which
-    shows by its proof that copies of these files serve; and functions edited in place."""
+    """Returns what tries edits together: twins, one with no edit for each function that has proof files of its own,
+    which shows by its proof that copies of these files serve; and functions edited in place."""
     placed = placed_of(crate, edits, calls)
     pairs = [(function, edit) for edit in edits if edit not in placed for function in edit.changes]
     pairs += [(function, None) for function in dict.fromkeys(it for it, _ in pairs) if has_proof_files(crate, function)]

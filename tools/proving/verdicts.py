@@ -12,7 +12,8 @@ PLACE = re.compile(r"(?:(note|warning|help): )?(?:\./)?((?:src|specs|proofs)/\S+
 FRONT_END = re.compile(r"(?:\./)?(src/\S+?):(\d+):\d+: error\[")
 # What says that a proof file names what went, and not that a goal is false.
 NAME_IS_GONE = re.compile(r"has no field|is not in scope|has no `|is no name|was not admitted")
-# What the line of a function says, if the function has a loop without a measure, and nothing else is known of its proof.
+# What the line of a function says, if the function has a loop without a measure, and nothing else is known of its
+# proof.
 LACKS_A_MEASURE = re.compile(r"no proof: expected a measure in (?:\./)?(proofs/\S+)/Invariants\.antt")
 # What a line says of an item that isn't proved since another one isn't, or that wasn't tried.
 IS_ABOUT_OTHERS = re.compile(r"waits? for|has not tried")
@@ -50,8 +51,8 @@ class Reading:
 
 
 class Judge:
-    """Judges twins, or functions edited in place, by what a check said of the text that has them, given the functions of
-    that text."""
+    """Judges twins, or functions edited in place, by what a check said of the text that has them, given the functions
+    of that text."""
 
     def __init__(self, reading, tried, functions, sources):
         self.reading, self.tried = reading, tried
@@ -79,8 +80,10 @@ class Judge:
         """Returns what is refused in no function that is tried, if anything: then the check decides nothing."""
         own = {said for it in self.tried for said in self.refusals(it)}
         place = next((said for _, _, said in self.reading.places if said not in own), "")
-        others = ((name, said) for name, said in self.reading.items.items() if not any(self.is_about(it, name) for it in self.tried))
-        return place or next((f"{name}: {said}" for name, said in others if not said.startswith(("proved", "assumed"))), "")
+        is_tried = lambda name: any(self.is_about(it, name) for it in self.tried)
+        others = ((name, said) for name, said in self.reading.items.items() if not is_tried(name))
+        refused = ((name, said) for name, said in others if not said.startswith(("proved", "assumed")))
+        return place or next((f"{name}: {said}" for name, said in refused), "")
 
     def verdict(self, it):
         """Returns the line that refuses a function for a reason of its own, or nothing and why there is none."""

@@ -93,8 +93,8 @@ const NO_AGENT: Option<TraceFault> = Some(TraceFault::NoAgent);
 
 const OUT_OF_RANGE: Option<TraceFault> = Some(TraceFault::OutOfRange);
 
-/// What an event shows; its agent, its block and its first byte; how many bytes are read or written, if it is an access;
-/// whether it writes; and why it is refused, if it is.
+/// What an event shows; its agent, its block and its first byte; how many bytes are read or written, if it is an
+/// access; whether it writes; and why it is refused, if it is.
 const EVENTS: [(&str, u32, u32, u32, Option<u32>, bool, Option<TraceFault>); 7] = [
     ("the last agent", 15, 0, 8, Some(4), true, None),
     ("the longest access", 15, 3, 0, Some(65_536), false, None),

@@ -1,6 +1,7 @@
 //! The block: bytes in which elements are read and written.
 
-ghost use Rattle.std.specs.Prelude.{◌≡◌, ◌+◌, ◌*◌, ◌^◌, ◌<◌, ◌≤◌, ◌++◌, ◌↔◌, [], length, take, drop, replicate, Err, IsTrue, IsOk, IfOk, OnErr, MatchOption};
+ghost use Rattle.std.specs.Prelude.{◌≡◌, ◌+◌, ◌*◌, ◌^◌, ◌<◌, ◌≤◌, ◌++◌, ◌↔◌, [], length, take, drop, replicate, Err};
+ghost use Rattle.std.specs.Prelude.{IsTrue, IsOk, IfOk, OnErr, MatchOption};
 ghost use Rattle.sab_block.specs.Block.{number, put, IsElementSize};
 ghost use Rattle.sab_block.specs.View.{block_len_of};
 ghost use Rattle.sab_block.specs.Access.{access_verdict, Acts};

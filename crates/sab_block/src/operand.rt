@@ -1,6 +1,7 @@
 //! Operands, and the raw elements that they are written as and read from.
 
-ghost use Rattle.std.specs.Prelude.{◌≡◌, ◌+◌, ◌*◌, ◌^◌, ◌<◌, ◌≤◌, Ok, Err, true, false, IsTrue, IfOk, IfSome, MatchBool, SomeIff};
+ghost use Rattle.std.specs.Prelude.{◌≡◌, ◌+◌, ◌*◌, ◌^◌, ◌<◌, ◌≤◌, Ok, Err, true, false, IsTrue, IfOk, IfSome};
+ghost use Rattle.std.specs.Prelude.{MatchBool, SomeIff};
 ghost use Rattle.sab_block.specs.Kind.{is_atomic, raw_count};
 ghost use Rattle.sab_block.specs.declared.thrown.Thrown.TheVariants.{TypeError};
 ghost use Rattle.sab_block.specs.Operand.{IsSafeInteger, whole_of, agrees, raw, value, operand};
@@ -114,8 +115,8 @@ pub fn from_raw(kind: Kind, raw: u64) -> Operand
     Operand::of(kind.is_big(), unwrapped(kind, raw))
 }
 
-/// The raw element that a whole number is written as in an element of the kind, whether or not its elements are BigInts:
-/// the number's low bits, as many as an element has (NumericToRawBytes).
+/// The raw element that a whole number is written as in an element of the kind, whether or not its elements are
+/// BigInts: the number's low bits, as many as an element has (NumericToRawBytes).
 ///
 /// The kind is one that the functions of `Atomics` take: of clamped and float kinds the standard says otherwise.
 #[tactic(auto, using(crate::proofs::RawElements::wraps))]

@@ -308,10 +308,12 @@ made in the act before them. From one of these, an edge leads to a call, an end,
 alone, or a node with a greater number.
 
 Standard output has a line for the search:
-  closed: 193 states, 320 acts, timeouts early
+  closed: 99 states, 164 acts, timeouts early
   not closed: 1000 states, 2300 acts, timeouts early; all runs of up to 12 acts
 Closed means that no schedule leads to another state. Else the search has as many states as
---limit says. Then each of these has a line, with the number of states and a shortest schedule:
+--limit says. States that differ only by an exchange of agents with the same automaton and the
+same block count as one. Then each of these has a line, with the number of states and a shortest
+schedule:
   deadlock: 5 states; 0 act 0, 1 wait           some agent hasn't finished, and none can act
   failed "gave up": 3 states; 0 act 1           an agent is at its end by this error
   no way out: 2 states; 1 act 0                 from there no schedule ever ends

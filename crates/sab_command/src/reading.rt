@@ -165,7 +165,8 @@ fn failure_of(matches: &ArgMatches<'_>) -> Option<u32>
 /// In which form what a search finds is to be written.
 fn search_form_of(matches: &ArgMatches<'_>) -> SearchForm
     ensures { IsSearchForm (first_value (found_of matches.now) (codes "format"))
-        (first_value (found_of matches.now) (codes "states")) (one_text (found_of matches.now) (codes "failure")) result }
+        (first_value (found_of matches.now) (codes "states")) (one_text (found_of matches.now) (codes "failure"))
+        result }
 {
     match matches.get_str("format") {
         Some("script") => SearchForm::Script {

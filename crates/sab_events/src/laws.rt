@@ -27,8 +27,8 @@ pub fn an_entry_depends_on_what_its_event_reads()
     ensures { (plan : PlanParts) (e : Entry) → IsPlan plan → DependsOnWhatItReads plan e }
 {}
 
-/// The event of an act reports what the entry's call does. It reads the element, writes it, and is in the critical section
-/// of its place's waiters, exactly if the call does so.
+/// The event of an act reports what the entry's call does. It reads the element, writes it, and is in the critical
+/// section of its place's waiters, exactly if the call does so.
 pub fn an_event_reports_its_call()
     ensures { (plan : PlanParts) (e : Entry) → IsPlan plan → ReportsItsCall plan e }
 {}

@@ -1,6 +1,7 @@
 //! A simulator that explains its moves.
 
-ghost use Rattle.std.specs.Prelude.{◌≡◌, ◌+◌, ◌-◌, ◌^◌, ◌<◌, ◌≤◌, ◌++◌, ◌∷◌, [], length, min, Err, OnErr, OnOk, IfOk, IfSome, IfNone, IsOk, IsOkUnless, None};
+ghost use Rattle.std.specs.Prelude.{◌≡◌, ◌+◌, ◌-◌, ◌^◌, ◌<◌, ◌≤◌, ◌++◌, ◌∷◌, [], length, min, Err, OnErr, OnOk, IfOk};
+ghost use Rattle.std.specs.Prelude.{IfSome, IfNone, IsOk, IsOkUnless, None};
 ghost use Rattle.sab_sim.specs.declared.sim_fault.SimFault.TheVariants.{NoAgent, Full, OutOfMemory};
 ghost use Rattle.sab_plan.specs.Schedule.{agent_of};
 ghost use Rattle.sab_object.specs.Object.{zero_blocks};
@@ -69,13 +70,16 @@ impl Explainer {
         ensures moves { OnOk result (self.new.moves ≡ self.old.moves ++ m ∷ []) }
         ensures journal { IfOk result (λ explained. self.new.journal ≡ self.old.journal ++ explained.entry ∷ []) }
         ensures fact { IfOk result (λ explained. IsFact self.old.plan self.old.journal explained.entry explained.fact) }
-        ensures only { IfOk result (λ explained. IsOnlyFact self.old.plan self.old.journal explained.entry explained.fact) }
-        ensures waker { IfOk result (λ explained. NamesWaker self.old.plan self.old.journal explained.entry explained.fact.found) }
+        ensures only { IfOk result (λ explained. IsOnlyFact self.old.plan self.old.journal explained.entry
+            explained.fact) }
+        ensures waker { IfOk result (λ explained. NamesWaker self.old.plan self.old.journal explained.entry
+            explained.fact.found) }
         ensures longer { OnOk result (length self.new.journal ≡ length self.old.journal + 1) }
         ensures err { OnErr result (self.new ≡ self.old) }
 
         ensures no_agent { length self.old.plan.scripts ≤ agent_of m → result ≡ Err NoAgent }
-        ensures full { agent_of m < length self.old.plan.scripts → length self.old.journal ≡ MAX_ENTRIES → result ≡ Err Full }
+        ensures full { agent_of m < length self.old.plan.scripts → length self.old.journal ≡ MAX_ENTRIES
+            → result ≡ Err Full }
         ensures memory { agent_of m < length self.old.plan.scripts → length self.old.journal < MAX_ENTRIES
             → IsOkUnless result OutOfMemory }
 

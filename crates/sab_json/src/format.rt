@@ -11,7 +11,8 @@ use sab_words::{FactFormat, Name};
 use std::io;
 use std::io::Write;
 
-/// A report as JSON: a line for each entry that has one, with its fact, then one for each block, and one for each agent.
+/// A report as JSON: a line for each entry that has one, with its fact, then one for each block, and one for each
+/// agent.
 ///
 /// Each line is read as its tree, if the plan's Numbers are safe integers.
 #[derive(Drop)]

@@ -1,6 +1,7 @@
 //! The last of the events that are alike.
 
-ghost use Rattle.std.specs.Prelude.{◌≡◌, ◌+◌, ◌<◌, ◌≤◌, ◌↔◌, ℕ, All, IfOk, IsTrue, MatchOption, Some, length, slice_get};
+ghost use Rattle.std.specs.Prelude.{◌≡◌, ◌+◌, ◌<◌, ◌≤◌, ◌↔◌, ℕ, All, IfOk, IsTrue, MatchOption, Some, length};
+ghost use Rattle.std.specs.Prelude.{slice_get};
 ghost use Rattle.sab_judge.specs.declared.cell.Cell.{Cell};
 ghost use Rattle.sab_judge.specs.declared.event.Event.{Event};
 ghost use Rattle.sab_judge.specs.declared.latest.Latest.{Latest};

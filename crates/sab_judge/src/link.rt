@@ -47,8 +47,8 @@ impl Link {
     }
 }
 
-/// Where a link jumps to whose event stands behind this one: so that of two jumps of the same width there comes one that
-/// is twice as wide, and some 2 log n steps lead to any of n events (Myers, "An applicative random-access stack").
+/// Where a link jumps to whose event stands behind this one: so that of two jumps of the same width there comes one
+/// that is twice as wide, and some 2 log n steps lead to any of n events (Myers, "An applicative random-access stack").
 fn jump_behind(trace: &[Event], links: &[Link], i: usize, previous: u32) -> u32
     requires small { i < MAX_EVENTS }
     requires links { AreLinks trace.now i links.now }

@@ -53,12 +53,14 @@ impl Past {
 
     /// The last event among the waiters of a place.
     pub(crate) fn last_at_waiters(&self, place: Place) -> Option<usize>
-        ensures { (trace : List Event) (n : ℕ) → IsPast trace n self.now → IsLastBelow trace (AtWaiters place) n result }
+        ensures { (trace : List Event) (n : ℕ) → IsPast trace n self.now
+            → IsLastBelow trace (AtWaiters place) n result }
     {
         self.waiters.get(&(place.block, place.byte)).copied()
     }
 
-    /// The last event that writes a byte below the limit, and up to where below the limit it is that of the bytes behind.
+    /// The last event that writes a byte below the limit, and up to where below the limit it is that of the bytes
+    /// behind.
     pub(crate) fn last_writer(&self, block: u32, byte: u64, limit: u64) -> Held
         requires order { AreOrdered self.now.writers }
         requires below { byte < limit }

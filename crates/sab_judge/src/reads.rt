@@ -3,7 +3,8 @@
 ghost use Rattle.std.specs.Prelude.{◌<◌, ◌≡◌, length, Some};
 ghost use Rattle.std.specs.Option.{ForSome};
 ghost use Rattle.sab_judge.specs.Event.{event_at};
-ghost use Rattle.sab_judge.specs.Clock.{AreClocks, KnowsMore, KnowsOnlyBefore, KnowsWhatIsRead, KnowsWhoHandedOn, Learns};
+ghost use Rattle.sab_judge.specs.Clock.{AreClocks, KnowsMore, KnowsOnlyBefore, KnowsWhatIsRead, KnowsWhoHandedOn};
+ghost use Rattle.sab_judge.specs.Clock.{Learns};
 ghost use Rattle.sab_judge.specs.Sought.{IsLastBelow, IsReadFrom, Writes};
 ghost use Rattle.sab_judge.specs.Past.{IsPast};
 
@@ -46,7 +47,8 @@ pub(crate) fn learned_by_entering(
     }
 }
 
-/// The event with a SeqCst access of equal range from which the `j`-th event reads the byte, whose last writer is given.
+/// The event with a SeqCst access of equal range from which the `j`-th event reads the byte, whose last writer is
+/// given.
 fn read_from(trace: &[Event], j: usize, block: u32, byte: u64, last: Option<usize>) -> Option<usize>
     requires within { j < length trace.now }
     requires last { IsLastBelow trace.now (Writes block byte) j last }

@@ -1,12 +1,14 @@
 //! Stretches of bytes that have one last writer.
 
 ghost use Rattle.std.specs.Prelude.{◌≡◌, ◌<◌, ◌≤◌, IfOk, length};
-ghost use Rattle.sab_judge.specs.Stretch.{AreInOrder, Gives, GivesUpTo, HasByte, IsOverwritten, IsRewritten, IsSplit, no_stretch, stretch_at, writer_of};
+ghost use Rattle.sab_judge.specs.Stretch.{AreInOrder, Gives, GivesUpTo, HasByte, IsOverwritten, IsRewritten, IsSplit};
+ghost use Rattle.sab_judge.specs.Stretch.{no_stretch, stretch_at, writer_of};
 ghost use Rattle.sab_judge.specs.declared.trace.TheConstants.Trace.{MAX_EVENTS};
 
 use std::alloc::{AllocError, Global};
 
-/// The bytes of a block from one on, up to where the next stretch begins. All of them have the same last writer, or none.
+/// The bytes of a block from one on, up to where the next stretch begins. All of them have the same last writer, or
+/// none.
 #[derive(Clone, Copy)]
 pub(crate) struct Stretch {
     pub(crate) start: u32,

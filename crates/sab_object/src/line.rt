@@ -1,6 +1,7 @@
 //! The line of waiters.
 
-ghost use Rattle.std.specs.Prelude.{◌≡◌, ◌<◌, ◌≤◌, ℕ, ◌||◌, ◌&&◌, ◌==◌, not, true, false, Contains, length, take, filter, slice_index_or, vec_capacity};
+ghost use Rattle.std.specs.Prelude.{◌≡◌, ◌<◌, ◌≤◌, ℕ, ◌||◌, ◌&&◌, ◌==◌, not, true, false, Contains, length, take};
+ghost use Rattle.std.specs.Prelude.{filter, slice_index_or, vec_capacity};
 ghost use Rattle.std.specs.List.{list_any};
 ghost use Rattle.sab_object.specs.Object.{woken_count, waiters, without_first, is_at};
 ghost use Rattle.sab_object.specs.Kept.{AreAgents, is_in};
@@ -13,7 +14,8 @@ pub fn wake(line: &mut Vec<Waiter>, woken: &mut [bool], place: Place, count: Opt
     requires sixteen { length woken.old ≤ 16 }
     ensures many { result ≡ woken_count count (length (waiters place line.old.items)) }
     ensures line { line.new.items ≡ without_first result place line.old.items }
-    ensures woken { (b : ℕ) → slice_index_or woken.new b false ≡ (slice_index_or woken.old b false || list_any (λ a. a == b) (take result (waiters place line.old.items))) }
+    ensures woken { (b : ℕ) → slice_index_or woken.new b false
+        ≡ (slice_index_or woken.old b false || list_any (λ a. a == b) (take result (waiters place line.old.items))) }
     ensures agents { AreAgents (length woken.old) line.new.items }
     ensures capacity { vec_capacity line.new ≡ vec_capacity line.old }
 {
@@ -63,7 +65,8 @@ pub fn depart(woken: &mut [bool], agent: u32)
 /// Takes a waiter off the line, and returns whether it was there.
 pub fn take_off(line: &mut Vec<Waiter>, waiter: Waiter) -> bool
     ensures there { result ≡ true → Contains line.old.items waiter }
-    ensures line { result ≡ true → line.new.items ≡ filter (λ w. not (is_at waiter.place w && (w.agent == waiter.agent))) line.old.items }
+    ensures line { result ≡ true → line.new.items ≡ filter
+        (λ w. not (is_at waiter.place w && (w.agent == waiter.agent))) line.old.items }
     ensures absent { result ≡ false → Contains line.old.items waiter → ⊥ }
     ensures agents { (n : ℕ) → AreAgents n line.old.items → AreAgents n line.new.items }
     ensures capacity { vec_capacity line.new ≡ vec_capacity line.old }

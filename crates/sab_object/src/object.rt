@@ -27,7 +27,8 @@ pub fn perform(
     requires sixteen { length woken.old ≤ 16 }
     requires room { 16 ≤ vec_capacity line.old }
 
-    ensures does { DoesCall can_block agent view.now call (state_of blocks.old line.old.items woken.old) result (state_of blocks.new line.new.items woken.new) }
+    ensures does { DoesCall can_block agent view.now call (state_of blocks.old line.old.items woken.old) result
+        (state_of blocks.new line.new.items woken.new) }
     ensures outcome { IsOutcome result }
     ensures lens { map length blocks.new ≡ map length blocks.old }
     ensures agents { AreAgents (length woken.old) line.new.items }

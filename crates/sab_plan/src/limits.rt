@@ -57,7 +57,8 @@ pub fn names_views(lens: &[u32], views: &[PlanView], scripts: &[Script]) -> bool
 
 /// Whether each view was made for its block's length.
 fn fit_blocks(lens: &[u32], views: &[PlanView]) -> bool
-    ensures { IsTrue result ↔ All (λ (v : PlanView). slice_get lens.now v.block ≡ Some (block_len_of v.view)) views.now }
+    ensures { IsTrue result ↔ All (λ (v : PlanView). slice_get lens.now v.block
+        ≡ Some (block_len_of v.view)) views.now }
 {
     views.iter().all(|view| lens.get(view.block as usize) == Some(&view.view.block_len()))
 }

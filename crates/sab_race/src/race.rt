@@ -1,6 +1,7 @@
 //! A race as far as it came.
 
-ghost use Rattle.std.specs.Prelude.{◌≡◌, ◌≢◌, ℕ, ◌<◌, ◌≤◌, ◌↔◌, length, All, IsTrue, IsFalse, IfOk, IfSome, IfNone, IsErrOf, SomeIndex};
+ghost use Rattle.std.specs.Prelude.{◌≡◌, ◌≢◌, ℕ, ◌<◌, ◌≤◌, ◌↔◌, length, All, IsTrue, IsFalse, IfOk, IfSome, IfNone};
+ghost use Rattle.std.specs.Prelude.{IsErrOf, SomeIndex};
 ghost use Rattle.sab_plan.specs.Script.{ScriptParts};
 ghost use Rattle.sab_plan.specs.Plan.{calls_of};
 ghost use Rattle.sab_sim.specs.Fits.{IsOnly};
@@ -37,7 +38,8 @@ impl Model for Race {
     ghost view = { λ race. record
         { plan = race.sim.plan; spins = race.spins; schedule = race.sim.moves; agendas = race.agendas.items } };
 
-    ghost invariant = { λ race. IsUnderWay race.sim.plan race.spins race.sim.moves (length race.sim.journal) race.sim.reserved
+    ghost invariant = { λ race. IsUnderWay race.sim.plan race.spins race.sim.moves (length race.sim.journal)
+        race.sim.reserved
         race.agendas.items };
 }
 
@@ -111,7 +113,8 @@ impl Race {
     /// All moves of an agent, once more.
     pub fn copy_moves(&self, alloc: Global, agent: u32) -> Result<Vec<Move>, AllocError>
         requires { agent < length self.now.plan.scripts }
-        ensures moves { IfOk result (λ moves. moves.items ≡ moves_of (calls_of self.now.plan agent) agent self.now.spins) }
+        ensures moves { IfOk result (λ moves. moves.items
+            ≡ moves_of (calls_of self.now.plan agent) agent self.now.spins) }
         ensures most { IfOk result (λ moves. length moves.items ≤ MAX_ENTRIES) }
     {
         self.agendas[agent as usize].copy_moves(alloc)

@@ -29,7 +29,8 @@ pub(crate) fn report_facts<F: FactFormat, W: Write>(
 ) -> Result<Report, ToolFault>
     requires plan { IsPlan plan }
     requires moves { AreMovesOf plan schedule.now }
-    ensures ok { IfOk result (ReportsFacts (F.texts format.old) plan schedule.now (W.contents w.old) (W.contents w.new)) }
+    ensures ok { IfOk result (ReportsFacts (F.texts format.old) plan schedule.now (W.contents w.old)
+        (W.contents w.new)) }
     ensures err { IfErr result (IsReportingFault (W.contents w.old) (W.contents w.new)) }
 {
     let explainer = explainer_for(alloc, plan, schedule)?;

@@ -35,13 +35,13 @@ pub struct Judged {
     pub is_racy: bool,
 }
 
-/// Runs a script, judges the run for unordered accesses, writes the verdict, and returns what the run came to; it doesn't
-/// flush.
+/// Runs a script, judges the run for unordered accesses, writes the verdict, and returns what the run came to; it
+/// doesn't flush.
 ///
-/// The first races are listed, at most [`MAX_REPORTED`]. OrdinaryData if a view's name begins with `ordinary_` or `init_`:
-/// such a script stands for a run with ordinary accesses, which it has as stores or not at all, so no verdict on it
-/// would be one on that run. WriteFailed if a write failed; nothing is said then about how much was written. Any other
-/// fault is a refusal of the script, or want of memory. Except after WriteFailed nothing was written.
+/// The first races are listed, at most [`MAX_REPORTED`]. OrdinaryData if a view's name begins with `ordinary_` or
+/// `init_`: such a script stands for a run with ordinary accesses, which it has as stores or not at all, so no verdict
+/// on it would be one on that run. WriteFailed if a write failed; nothing is said then about how much was written. Any
+/// other fault is a refusal of the script, or want of memory. Except after WriteFailed nothing was written.
 #[tactic(auto, using(sab_tool::proofs::ReplaySteps::keeps_same, crate::proofs::Judgeable::ordinary_found, crate::proofs::Judgeable::ordinary_refused, crate::proofs::Judgeable::unwritten_verdict))]
 pub fn judge_as<W: Write>(
     alloc: Global,

@@ -10,11 +10,12 @@ ghost use Rattle.sab_report.specs.Spelling.{IsReportedAsSpelled};
 /// What a line of JSON has as a call's `does` is what a script spells for that call. A value that spells it is there
 /// where its view has one of the names, and its numbers are in range.
 pub fn calls_are_reported_as_spelled()
-    ensures { (names : List (List ℕ)) (d : Data) (call : Call) → SpellsCall names d call → IsReportedAsSpelled names call }
+    ensures { (names : List (List ℕ)) (d : Data) (call : Call) → SpellsCall names d call
+        → IsReportedAsSpelled names call }
 {}
 
-/// What a format has noted of an agent, after any journal, is the agent's last entry with an effect: its own, or a notify
-/// that woke it. Each format says by it since when the agent has been as it is.
+/// What a format has noted of an agent, after any journal, is the agent's last entry with an effect: its own, or a
+/// notify that woke it. Each format says by it since when the agent has been as it is.
 pub fn the_last_entry_of_an_agent_is_noted()
     ensures { NotesLast }
 {}

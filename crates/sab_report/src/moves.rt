@@ -32,7 +32,8 @@ pub(crate) fn report_moves<W: Write>(
     requires numbers { HasSafeNumbers plan }
     requires names { AreNames names.now }
     requires moves { AreMovesOf plan schedule.now }
-    ensures ok { IfOk result (ReportsMoves report_form names.now plan schedule.now (W.contents w.old) (W.contents w.new)) }
+    ensures ok { IfOk result (ReportsMoves report_form names.now plan schedule.now (W.contents w.old)
+        (W.contents w.new)) }
     ensures err { IfErr result (IsReportingFault (W.contents w.old) (W.contents w.new)) }
 {
     let lines = report_form.lines;

@@ -3,7 +3,8 @@
 ghost use Rattle.std.specs.Prelude.{◌≡◌, IfOk, IfErr, IfSome, OnOk};
 ghost use Rattle.std.specs.Io.KnownBytes.{Appends, IsAtEnd, Keeps};
 ghost use Rattle.sab_run.specs.Explaining.{IsExplanation};
-ghost use Rattle.sab_run.specs.Running.{ReplaysIn, Runs, RunsGiven, IsFaultOfReplay, IsFaultOf, IsRunFault, IsUnwritten};
+ghost use Rattle.sab_run.specs.Running.{ReplaysIn, Runs, RunsGiven, IsFaultOfReplay, IsFaultOf, IsRunFault};
+ghost use Rattle.sab_run.specs.Running.{IsUnwritten};
 
 use crate::explaining::explanation_of;
 use crate::failure::Failure;

@@ -21,10 +21,10 @@ use std::io::{Read, Write};
 /// Searches all schedules of the file of automata that a reader gives, writes what it finds or a script, and flushes.
 ///
 /// TooLong if the reader gave more than [`MAX_FILE`] bytes, ReadFailed if a read failed, OutOfMemory if there is no
-/// memory, and WriteFailed if a write or the flush failed; nothing is said then about how much was written. TooMany if a
-/// script is asked for and no script can have the failure's run. Every other fault, and TooMany too, is that of a file
-/// that is refused: then the failure has the place and the reason, if they are asked for. Except after WriteFailed nothing
-/// was written, unless memory ran out while each state was written.
+/// memory, and WriteFailed if a write or the flush failed; nothing is said then about how much was written. TooMany if
+/// a script is asked for and no script can have the failure's run. Every other fault, and TooMany too, is that of a
+/// file that is refused: then the failure has the place and the reason, if they are asked for. Except after WriteFailed
+/// nothing was written, unless memory ran out while each state was written.
 #[tactic(auto, using(crate::proofs::Searched::searched_given, crate::proofs::Searched::unread))]
 pub fn run_search<R: Read, W: Write>(
     alloc: Global,

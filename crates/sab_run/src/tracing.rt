@@ -20,9 +20,9 @@ use std::io::{Read, Write};
 
 /// Judges a trace that a reader gives for unordered accesses, writes the verdict, and flushes.
 ///
-/// The first races are listed, at most [`MAX_REPORTED`]. A line of the trace that is refused is reported with its fault.
-/// ReadFailed if a read failed, OutOfMemory if there is no memory, and WriteFailed if a write or the flush failed;
-/// nothing is said then about how much was written. After every other fault nothing was written.
+/// The first races are listed, at most [`MAX_REPORTED`]. A line of the trace that is refused is reported with its
+/// fault. ReadFailed if a read failed, OutOfMemory if there is no memory, and WriteFailed if a write or the flush
+/// failed; nothing is said then about how much was written. After every other fault nothing was written.
 pub fn judge_trace<R: Read, W: Write>(
     alloc: Global,
     format: VerdictFormat,

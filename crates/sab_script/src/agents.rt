@@ -69,7 +69,8 @@ pub(crate) fn read_agents(
     views: &Views,
     trees: &[Value],
 ) -> Result<Vec<Script>, Located>
-    ensures found { Finds (λ scripts. scripts.items) (SpellsScripts (view_names views.now) (items_view trees.now)) result }
+    ensures found { Finds (λ scripts. scripts.items) (SpellsScripts (view_names views.now) (items_view trees.now))
+        result }
     ensures reported { IfErr result (IsTrueWhere at (array (items_view trees.now))
         (λ root. (at ≡ Location.Member Member.Agents) × HasNames root (view_names views.now))) }
 {

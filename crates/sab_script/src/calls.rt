@@ -58,7 +58,8 @@ fn rmw_of(
 ) -> Result<Call, Located>
     ensures found { Finds (λ c. c)
         (λ c. SpellsParts (function_of_op op) view index (items_view operands.now) (spelling_of c)) result }
-    ensures reported { IfErr result (λ e. (root : Data) → HasArguments root at (function_of_op op) (items_view operands.now)
+    ensures reported { IfErr result (λ e. (root : Data)
+        → HasArguments root at (function_of_op op) (items_view operands.now)
         → IsTrueOf root e) }
 {
     let value = one_operand(at, operands)?;

@@ -39,7 +39,8 @@ pub(crate) fn read_each<R: Reader>(
     most: usize,
     trees: &[Value],
 ) -> Result<Vec<R::Element>, Located>
-    ensures found { Finds (λ elements. elements.items) (SpellsUpTo most (R.Spells reader.now) (items_view trees.now)) result }
+    ensures found { Finds (λ elements. elements.items) (SpellsUpTo most (R.Spells reader.now) (items_view trees.now))
+        result }
     ensures reported { IfErr result (IsTrueWhere at (array (items_view trees.now))
         (λ root. IsListOf unit at × (most ≡ limit_of unit) × ((i : ℕ) → R.Knows reader.now root (item_at at i)))) }
 {

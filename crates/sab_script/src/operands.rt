@@ -86,7 +86,8 @@ pub(crate) fn operand(at: Location, tree: &Value) -> Result<Operand, Located>
 #[tactic(auto, using(crate::proofs::Lengths::as_many))]
 pub(crate) fn no_operand(at: Location, trees: &[Value]) -> Result<(), Located>
     ensures found { Finds (λ u. u) (λ _. SpellsArguments (items_view trees.now) []) result }
-    ensures reported { IfErr result (λ e. (root : Data) (name : List ℕ) → HasArguments root at name (items_view trees.now)
+    ensures reported { IfErr result (λ e. (root : Data) (name : List ℕ)
+        → HasArguments root at name (items_view trees.now)
         → TakesJust name [] → IsTrueOf root e) }
 {
     let [] = trees else {
@@ -99,7 +100,8 @@ pub(crate) fn no_operand(at: Location, trees: &[Value]) -> Result<(), Located>
 #[tactic(auto, using(crate::proofs::Lengths::as_many))]
 pub(crate) fn one_operand(at: Location, trees: &[Value]) -> Result<Operand, Located>
     ensures found { Finds (λ x. x) (λ x. SpellsArguments (items_view trees.now) (A.Value x ∷ [])) result }
-    ensures reported { IfErr result (λ e. (root : Data) (name : List ℕ) → HasArguments root at name (items_view trees.now)
+    ensures reported { IfErr result (λ e. (root : Data) (name : List ℕ)
+        → HasArguments root at name (items_view trees.now)
         → TakesJust name (Wanted.Operand ∷ []) → IsTrueOf root e) }
 {
     let [value] = trees else {
@@ -111,8 +113,10 @@ pub(crate) fn one_operand(at: Location, trees: &[Value]) -> Result<Operand, Loca
 /// The two operands of a call.
 #[tactic(auto, using(crate::proofs::Lengths::as_many))]
 pub(crate) fn two_operands(at: Location, trees: &[Value]) -> Result<(Operand, Operand), Located>
-    ensures found { Finds (λ p. p) (λ p. SpellsArguments (items_view trees.now) (A.Value p.0 ∷ A.Value p.1 ∷ [])) result }
-    ensures reported { IfErr result (λ e. (root : Data) (name : List ℕ) → HasArguments root at name (items_view trees.now)
+    ensures found { Finds (λ p. p) (λ p. SpellsArguments (items_view trees.now) (A.Value p.0 ∷ A.Value p.1 ∷ []))
+        result }
+    ensures reported { IfErr result (λ e. (root : Data) (name : List ℕ)
+        → HasArguments root at name (items_view trees.now)
         → TakesJust name (Wanted.Operand ∷ Wanted.Operand ∷ []) → IsTrueOf root e) }
 {
     let [expected, replacement] = trees else {
@@ -154,7 +158,8 @@ pub(crate) fn timed_operand(
     trees: &[Value],
 ) -> Result<(Operand, Option<i64>), Located>
     ensures found { Finds (λ p. p) (λ p. SpellsArguments (items_view trees.now) (A.Value p.0 ∷ optional p.1)) result }
-    ensures reported { IfErr result (λ e. (root : Data) (name : List ℕ) → HasArguments root at name (items_view trees.now)
+    ensures reported { IfErr result (λ e. (root : Data) (name : List ℕ)
+        → HasArguments root at name (items_view trees.now)
         → TakesTimed name 1 → IsTrueOf root e) }
 {
     let [value, rest @ ..] = trees else {

@@ -26,7 +26,8 @@ const _: () = prove!(MAX_MOVES == 100_000);
 fn read_move(at: Location, agents: u32, tree: &Value) -> Result<Move, Located>
     ensures found { Finds (λ m. m) (SpellsMove agents (view tree.now)) result }
     ensures reported { IfErr result (IsTrueWhere at (view tree.now)
-        (λ root. ((k : ℕ) × (at ≡ Location.Item Member.Schedule k)) × HasItems root (Location.Member Member.Agents) agents)) }
+        (λ root. ((k : ℕ) × (at ≡ Location.Item Member.Schedule k))
+        × HasItems root (Location.Member Member.Agents) agents)) }
 {
     if let Value::Object(_) = tree {
         let mut rest = members(at, tree)?;

@@ -1,7 +1,8 @@
 //! Parts of a JSON tree.
 
 ghost use Rattle.std.specs.Prelude.{◌≡◌, ◌⊎◌, IfOk, IfErr, OnOk, OnErr};
-ghost use Rattle.serde_json.specs.Data.{Data, Members as MemberList, string, boolean, array, object, no_members, member as member_then};
+ghost use Rattle.serde_json.specs.Data.{Data, Members as MemberList, string, boolean, array, object, no_members};
+ghost use Rattle.serde_json.specs.Data.{member as member_then};
 ghost use Rattle.serde_json.specs.View.{view, items_view, members_view};
 ghost use Rattle.sab_script.specs.Reading.{Finds};
 ghost use Rattle.sab_refusal.specs.Location.{member_name};

@@ -9,7 +9,8 @@ ghost use Rattle.sab_script.specs.Places.{form_of};
 ghost use Rattle.sab_script.specs.Truth.{IsTrueOf, IsTrueWhere};
 ghost use Rattle.sab_script.specs.Known.{HasLens};
 ghost use Rattle.sab_script.specs.ViewPlaces.{HasBlocks, HasView, IsTrueOfView};
-ghost use Rattle.sab_script.specs.Views.{description, count_on, SpellsDescription, SpellsView, SpellsViews, IsDescribed, AreDescribed};
+ghost use Rattle.sab_script.specs.Views.{description, count_on, SpellsDescription, SpellsView, SpellsViews};
+ghost use Rattle.sab_script.specs.Views.{IsDescribed, AreDescribed};
 ghost use Rattle.sab_refusal.specs.Reason.{fault_of};
 
 use crate::form::Form;

@@ -1,6 +1,7 @@
 //! The simulator.
 
-ghost use Rattle.std.specs.Prelude.{◌≡◌, ℕ, ◌<◌, ◌≤◌, ◌^◌, ◌+◌, ◌-◌, ◌++◌, ◌∷◌, [], length, map, min, replicate, All, Err, IsOk, IfOk, OnOk, OnErr, IsOkUnless};
+ghost use Rattle.std.specs.Prelude.{◌≡◌, ℕ, ◌<◌, ◌≤◌, ◌^◌, ◌+◌, ◌-◌, ◌++◌, ◌∷◌, [], length, map, min, replicate, All};
+ghost use Rattle.std.specs.Prelude.{Err, IsOk, IfOk, OnOk, OnErr, IsOkUnless};
 ghost use Rattle.sab_plan.specs.declared.entry.Entry.{Entry};
 ghost use Rattle.sab_sim.specs.declared.sim_fault.SimFault.TheVariants.{NoAgent, Full, OutOfMemory};
 ghost use Rattle.sab_plan.specs.Schedule.{agent_of};
@@ -50,7 +51,8 @@ impl Model for Sim {
       reserved = min (spare_of s.moves) (spare_of s.journal);
     } };
 
-    ghost invariant = { λ s. IsKept s.plan s.moves.items s.journal.items s.machine × HasRoom s.plan s.block_room s.agent_room };
+    ghost invariant = { λ s. IsKept s.plan s.moves.items s.journal.items s.machine
+        × HasRoom s.plan s.block_room s.agent_room };
 }
 
 // The clauses cite the constant: so its number is held here.
@@ -95,7 +97,8 @@ impl Sim {
         ensures err { OnErr result (self.new ≡ self.old) }
 
         ensures no_agent { length self.old.plan.scripts ≤ agent_of m → result ≡ Err NoAgent }
-        ensures full { agent_of m < length self.old.plan.scripts → length self.old.journal ≡ MAX_ENTRIES → result ≡ Err Full }
+        ensures full { agent_of m < length self.old.plan.scripts → length self.old.journal ≡ MAX_ENTRIES
+            → result ≡ Err Full }
         ensures memory { agent_of m < length self.old.plan.scripts → length self.old.journal < MAX_ENTRIES
             → IsOkUnless result OutOfMemory }
 

@@ -14,8 +14,8 @@ use sab_words::{FactFormat, Name};
 use std::io;
 use std::io::Write;
 
-/// A document of Scalable Vector Graphics: a row for each move, a lane for each agent, and below them who isn't done and
-/// the blocks.
+/// A document of Scalable Vector Graphics: a row for each move, a lane for each agent, and below them who isn't done
+/// and the blocks.
 #[derive(Drop)]
 pub struct Picture<'a> {
     names: &'a [Name],

@@ -2,7 +2,8 @@
 
 ghost use Rattle.std.specs.Prelude.{◌≡◌, ◌+◌, ◌*◌, ◌-◌, ◌≤◌, ◌<◌, ◌^◌, ◌++◌, [], length};
 ghost use Rattle.sab_xml.specs.Xml.{node_text};
-ghost use Rattle.sab_svg.specs.Pieces.{class_text, label, label_start, rectangle, call_bar, wait_bar, open_call_bar, open_wait_bar, across, down, line_start, title, agent_words, group_start};
+ghost use Rattle.sab_svg.specs.Pieces.{class_text, label, label_start, rectangle, call_bar, wait_bar, open_call_bar};
+ghost use Rattle.sab_svg.specs.Pieces.{open_wait_bar, across, down, line_start, title, agent_words, group_start};
 
 use crate::class::Class;
 use sab_text::Chunk;

@@ -17,9 +17,9 @@ pub struct Place {
 
 /// The place where a text stops being JSON.
 ///
-/// It is that of the first byte of the first token that is broken: no text that is read begins with everything up to the
-/// token's end. A word or a number with a byte behind it is judged as a whole: `[tru]` stops at `tru`. If no token is
-/// broken, the text ends too early, and the place is behind its last byte.
+/// It is that of the first byte of the first token that is broken: no text that is read begins with everything up to
+/// the token's end. A word or a number with a byte behind it is judged as a whole: `[tru]` stops at `tru`. If no token
+/// is broken, the text ends too early, and the place is behind its last byte.
 pub fn place_of(text: &[u8]) -> Place
     ensures { IsPlace text.now result }
 {

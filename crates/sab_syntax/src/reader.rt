@@ -79,7 +79,9 @@ pub(crate) struct Reader {
 
 impl Reader {
     ghost use Rattle.std.specs.Prelude.{Ok, Err};
-    ghost use Rattle.sab_syntax.specs.Reader.{opening, takes_value, takes_name, Steps, step, begin, begin_string, begin_word, no_word, open_bracket, close_bracket, pass_comma, pass_colon, in_string, in_literal, in_number, by_operator, is_between, is_in_string};
+    ghost use Rattle.sab_syntax.specs.Reader.{opening, takes_value, takes_name, Steps, step, begin, begin_string};
+    ghost use Rattle.sab_syntax.specs.Reader.{begin_word, no_word, open_bracket, close_bracket, pass_comma, pass_colon};
+    ghost use Rattle.sab_syntax.specs.Reader.{in_string, in_literal, in_number, by_operator, is_between, is_in_string};
 
     /// Before a text.
     pub fn new() -> Reader

@@ -24,9 +24,9 @@ pub enum Stop {
 
 /// Where a text stops being JSON.
 ///
-/// It is at the first token that is broken: no text that is read begins with everything up to the token's end. A word or
-/// a number with a byte behind it is judged as a whole, and a string from its first quote on. A word or a number at the
-/// end of the text is judged by what it can become. If no token is broken, the text ends too early.
+/// It is at the first token that is broken: no text that is read begins with everything up to the token's end. A word
+/// or a number with a byte behind it is judged as a whole, and a string from its first quote on. A word or a number at
+/// the end of the text is judged by what it can become. If no token is broken, the text ends too early.
 #[tactic(auto, using(crate::proofs::Walking::stop_stops))]
 pub fn stop_of(text: &[u8]) -> Stop
     ensures place { result ≡ stop_of text.now }

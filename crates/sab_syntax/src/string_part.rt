@@ -4,8 +4,8 @@ use crate::fault::Fault;
 
 /// What a string's next byte belongs to.
 ///
-/// An escape of four digits is a code unit of UTF-16. The first of a surrogate pair is from d800 to dbff; the second has
-/// to be behind it, and is from dc00 to dfff.
+/// An escape of four digits is a code unit of UTF-16. The first of a surrogate pair is from d800 to dbff; the second
+/// has to be behind it, and is from dc00 to dfff.
 #[derive(Clone, Copy)]
 pub(crate) enum StringPart {
     /// The text itself.
@@ -64,7 +64,8 @@ impl StringPart {
 }
 
 ghost use Rattle.std.specs.Prelude.{◌≡◌};
-ghost use Rattle.sab_syntax.specs.String.{plain_to, escape_to, is_escape, is_hex, is_from_c, digit_to, surrogate_to, pair_to, second_to};
+ghost use Rattle.sab_syntax.specs.String.{plain_to, escape_to, is_escape, is_hex, is_from_c, digit_to, surrogate_to};
+ghost use Rattle.sab_syntax.specs.String.{pair_to, second_to};
 
 /// Behind a byte of the text itself.
 fn plain(byte: u8) -> Result<Option<StringPart>, Fault>

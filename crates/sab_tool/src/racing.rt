@@ -46,8 +46,8 @@ pub fn race_bytes<R: Threads + Wait + Sync, W: Write>(
     race_mixed(rt, alloc, script, share, spins, 0, w)
 }
 
-/// The same, with the threads mixed by a seed: they yield as [`Mix`] says, and the owner of the rings begins at one that
-/// is drawn when it looks for its next move.
+/// The same, with the threads mixed by a seed: they yield as [`Mix`] says, and the owner of the rings begins at one
+/// that is drawn when it looks for its next move.
 ///
 /// By the seed 0 none yields, and the owner goes round.
 pub fn race_mixed<R: Threads + Wait + Sync, W: Write>(

@@ -1,7 +1,8 @@
 //! The members of an event's object.
 
 ghost use Rattle.std.specs.Prelude.{◌≡◌, ℕ, ℤ, Bool, List, Option, IfSome, IfNone, codes};
-ghost use Rattle.serde_json.specs.Data.{Num, Data, Members as MemberList, number as number_data, boolean, string, object as object_data, member as member_then};
+ghost use Rattle.serde_json.specs.Data.{Num, Data, Members as MemberList, number as number_data, boolean, string};
+ghost use Rattle.serde_json.specs.Data.{object as object_data, member as member_then};
 ghost use Rattle.serde_json.specs.View.{view, members_view, number_view};
 ghost use Rattle.sab_trace.specs.declared.deed.Deed.{Deed};
 ghost use Rattle.sab_trace.specs.declared.numbers.Numbers.{Numbers};

@@ -175,7 +175,8 @@ pub(crate) fn push_count(
     chunk.push(b"\n");
 }
 
-/// What is judged, as a string of JSON. A script has calls of `Atomics` alone, whatever the code behind it does besides.
+/// What is judged, as a string of JSON. A script has calls of `Atomics` alone, whatever the code behind it does
+/// besides.
 #[tactic(auto, unfolding(json::specs::Print::escape_byte))]
 fn judged_text(sides: &Sides) -> &'static [u8]
     ensures text { result.now ≡ compact_text (string (judged_of sides.now)) }

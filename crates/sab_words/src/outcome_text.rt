@@ -2,7 +2,8 @@
 
 ghost use Rattle.std.specs.Prelude.{◌≡◌, ◌+◌, ◌≤◌, ◌++◌, length};
 ghost use Rattle.sab_words.specs.CallText.{element_text};
-ghost use Rattle.sab_words.specs.FactText.{is_same, changed_text, wrote_text, stayed_text, exchanged_text, compared_text, element_is, outcome_text};
+ghost use Rattle.sab_words.specs.FactText.{is_same, changed_text, wrote_text, stayed_text, exchanged_text};
+ghost use Rattle.sab_words.specs.FactText.{compared_text, element_is, outcome_text};
 
 use crate::call_text::{push_element, push_stand};
 use crate::name::Name;

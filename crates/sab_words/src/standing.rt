@@ -2,7 +2,8 @@
 
 ghost use Rattle.std.specs.Prelude.{◌≡◌, ◌+◌, ◌≤◌, ◌++◌, length};
 ghost use Rattle.sab_words.specs.CallText.{call_text, element_text};
-ghost use Rattle.sab_words.specs.Explained.{passed_text, at_text, begun_text, waits_text, unleft_text, standing_words, standing_line};
+ghost use Rattle.sab_words.specs.Explained.{passed_text, at_text, begun_text, waits_text, unleft_text, standing_words};
+ghost use Rattle.sab_words.specs.Explained.{standing_line};
 
 use crate::call_text::{push_call, push_element, push_stand};
 use crate::column::Column;

@@ -2,7 +2,8 @@
 
 ghost use Rattle.std.specs.Prelude.{◌≡◌, ◌+◌, ◌≤◌, ◌++◌, length};
 ghost use Rattle.sab_words.specs.CallText.{element_text};
-ghost use Rattle.sab_words.specs.FactText.{ahead_text, unwoken_text, idle_text, nobody_text, one_woken_text, more_woken_text, woken_text, still_text, some_text, notified_text};
+ghost use Rattle.sab_words.specs.FactText.{ahead_text, unwoken_text, idle_text, nobody_text, one_woken_text};
+ghost use Rattle.sab_words.specs.FactText.{more_woken_text, woken_text, still_text, some_text, notified_text};
 
 use crate::call_text::push_element;
 use crate::counts::{

@@ -44,15 +44,16 @@ pub extern "C" fn sabsim_run(
     *reply = reply_to_task(alloc, task, explain, input, room);
 }
 
-/// Searches all schedules of the input's bytes, a file of automata, and puts what the program writes then into the host's
-/// room.
+/// Searches all schedules of the input's bytes, a file of automata, and puts what the program writes then into the
+/// host's room.
 ///
 /// `timeouts` says when a wait may time out: 0 for early, 1 for last, 2 for never. `limit` is the greatest number of
 /// states, `format` 0 for plain or 2 for json, and `states` says whether each state is written. If a number has no
 /// meaning, or the limit is 0, the status is 2, and nothing is written.
 ///
-/// It searches once, whatever the room is: the room has the first lines of standard output, as many as fit, and the reply
-/// says how many bytes are left out. If the file is refused or there is no memory, the room is as after [`sabsim_run`].
+/// It searches once, whatever the room is: the room has the first lines of standard output, as many as fit, and the
+/// reply says how many bytes are left out. If the file is refused or there is no memory, the room is as after
+/// [`sabsim_run`].
 #[unsafe(no_mangle)]
 #[tactic(auto, using(crate::proofs::Replies::searched))]
 pub extern "C" fn sabsim_search(
@@ -80,8 +81,8 @@ pub extern "C" fn sabsim_search(
 /// At 0 the reply says what the host has to read, if anything: `wants` is 1 for standard input, and 2 for the file
 /// whose name is in the room. `is_terminal`: whether standard error is a terminal, on which each refusal is explained.
 ///
-/// A race ends with 9 NoThread once its script is read: it needs threads, which only the native program has. Of a search
-/// the room has the lines that fit, as after [`sabsim_search`].
+/// A race ends with 9 NoThread once its script is read: it needs threads, which only the native program has. Of a
+/// search the room has the lines that fit, as after [`sabsim_search`].
 #[unsafe(no_mangle)]
 pub extern "C" fn sabsim_command(
     alloc: Global,

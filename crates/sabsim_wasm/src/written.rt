@@ -6,7 +6,8 @@ ghost use Rattle.sab_run.specs.Failure.{unexplained};
 ghost use Rattle.sab_command.specs.declared.request.Task.TheVariants.{OfSearch};
 ghost use Rattle.sab_command.specs.Job.{HasRoom, IsTaskWithinLimits};
 ghost use Rattle.sabsim_wasm.specs.Exports.{PutsSuch, PutsTask, RepliesToSearch, RepliesToTask};
-ghost use Rattle.sabsim_wasm.specs.Program.{EndsOfRace, EndsOfScript, EndsOfTrace, Fails, IsOfBytes, done, no_memory, written_by, written_of};
+ghost use Rattle.sabsim_wasm.specs.Program.{EndsOfRace, EndsOfScript, EndsOfTrace, Fails, IsOfBytes, done, no_memory};
+ghost use Rattle.sabsim_wasm.specs.Program.{written_by, written_of};
 ghost use Rattle.sabsim_wasm.specs.Room.{Puts};
 
 use crate::reply::{Reply, put, put_lines, put_no_memory};
@@ -49,8 +50,8 @@ pub(crate) fn reply_to_task(
     }
 }
 
-/// Searches the input as is asked for, if something is, and puts the lines that the program writes and that fit into the
-/// room.
+/// Searches the input as is asked for, if something is, and puts the lines that the program writes and that fit into
+/// the room.
 pub(crate) fn reply_to_search(
     alloc: Global,
     job: Option<SearchJob>,

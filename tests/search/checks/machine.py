@@ -30,6 +30,9 @@ class Agent:
     def node(self):
         return self.nodes[self.at]
 
+    def is_like(self, other):
+        return (self.automaton, self.can_block) == (other.automaton, other.can_block)
+
 
 class Machine:
     """The memory and the agents of a run. `lost` is the result without an edge, as (automaton, node, answer)."""
@@ -57,16 +60,20 @@ class Machine:
         it.agents = [agent.copy() for agent in self.agents]
         return it
 
-    def described(self):
-        """Returns the state as text: equal for equal states alone."""
+    def row(self):
+        """Returns the state as a result describes it."""
         line = sorted((agent.ticket, n, *agent.place) for n, agent in enumerate(self.agents) if agent.place)
-        return repr({
+        return {
             "blocks": [block.hex() for block in self.memory],
             "line": [list(it[1:]) for it in line],
             "woken": [n for n, agent in enumerate(self.agents) if agent.is_woken],
             "nodes": [agent.at for agent in self.agents],
             "recent": [agent.recent for agent in self.agents],
-        })  # fmt: skip
+        }  # fmt: skip
+
+    def described(self):
+        """Returns the state as text: equal for equal states alone."""
+        return repr(self.row())
 
     def go(self, agent, answer):
         """Goes along the edge of an answer."""

@@ -7,12 +7,14 @@ MOST_CONFLICTS, MOST_FINAL = 100, 1_000
 
 
 def schedule_to(found, number):
-    """Returns the acts that lead to a state, from the first one on."""
-    acts = []
-    while found[number].parent is not None:
-        act = found[number].act
-        acts.insert(0, [act.agent, act.did])
-        number = found[number].parent
+    """Returns the acts that lead to a state, from the first one on, by the agents as a run has them."""
+    rows = [found[number]]
+    while rows[0].parent is not None:
+        rows.insert(0, found[rows[0].parent])
+    names, acts = rows[0].order, []
+    for row in rows[1:]:
+        acts.append([names[row.act.agent], row.act.did])
+        names = [names[agent] for agent in row.order]
     return acts
 
 

@@ -25,11 +25,15 @@ class Unknown(NamedTuple):
 
 
 class Act(NamedTuple):
-    """What an agent did, in words, and the state to which it leads, or the edge that isn't there."""
+    """What an agent did, in words, and the state to which it leads, or the edge that isn't there.
+
+    `order` has for each place of that state the agent that has come there from the state before, if agents were sorted.
+    """
 
     agent: int
     did: str
     to: Union[State, Unknown]
+    order: Optional[Tuple[int, ...]] = None
 
 
 class Segment(NamedTuple):

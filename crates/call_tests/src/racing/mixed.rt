@@ -11,8 +11,8 @@ use std::test::Fail;
 const COUNTS: [u32; 4] = [1, 2, 0, 1];
 
 /// For each seed whose moves its owner makes, in order, out of rings that are full. By the seed 0 it goes round. By
-/// another it looks first into the ring that a number of SplitMix64 leaves over by 4, and then up and round for one with
-/// a move; the numbers begin with the one at the seed itself, and were computed elsewhere.
+/// another it looks first into the ring that a number of SplitMix64 leaves over by 4, and then up and round for one
+/// with a move; the numbers begin with the one at the seed itself, and were computed elsewhere.
 const DRAWN: [(u64, [u32; 12]); 4] = [
     (0, [0, 1, 3, 0, 1, 3, 0, 1, 3, 1, 1, 1]),
     (1, [1, 1, 3, 3, 3, 1, 0, 1, 1, 0, 0, 1]),

@@ -183,8 +183,8 @@ const ORDERS: [&[Pass]; 5] = [
     &[Pass::Up(1), Pass::Down(1), Pass::Up(1)],
 ];
 
-/// While an agent makes the first moves of its call, each other is held back before its own first or last one. So in the
-/// first two orders no thread but the agent's own is free to make them.
+/// While an agent makes the first moves of its call, each other is held back before its own first or last one. So in
+/// the first two orders no thread but the agent's own is free to make them.
 #[test]
 fn sixteen_agents_come_as_their_threads_do(rt: HostRuntime) -> Result<(), Fail> {
     for passes in &ORDERS {

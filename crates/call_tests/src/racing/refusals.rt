@@ -37,7 +37,8 @@ fn is_too_long<R: Threads + Wait + Sync>(
     Ok(raced.err() == Some(RaceFault::TooManyMoves) && Arc::strong_count(&gate) == 1)
 }
 
-/// The second plan has one move more than a journal can have entries: 1,042 waits of 1,004 moves and 803 additions of three.
+/// The second plan has one move more than a journal can have entries: 1,042 waits of 1,004 moves and 803 additions of
+/// three.
 #[test]
 fn more_moves_than_a_journal_can_have_are_refused(rt: HostRuntime) -> Result<(), Fail> {
     for way in &Way::BOTH {

@@ -63,8 +63,8 @@ fn an_owner_without_patience_goes_round_full_rings(rt: HostRuntime) -> Result<()
     Ok(())
 }
 
-/// Holds the owner back once it made the first move, until each ring has all its moves but the last. The last ones come one
-/// by one once those were made.
+/// Holds the owner back once it made the first move, until each ring has all its moves but the last. The last ones come
+/// one by one once those were made.
 #[derive(Drop)]
 struct Filling {
     order: Order,

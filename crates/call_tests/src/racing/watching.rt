@@ -35,8 +35,8 @@ impl<H: Hold> Watch<H> {
         }
     }
 
-    /// Whether all that was waited for came, so many moves of each agent were reported, before and after each, in order,
-    /// and no call is under way.
+    /// Whether all that was waited for came, so many moves of each agent were reported, before and after each, in
+    /// order, and no call is under way.
     pub fn saw(&self, moves: &[u32]) -> bool {
         !self.was_missed.load(Ordering::SeqCst)
             && self.began.are(moves)

@@ -183,8 +183,8 @@ pub fn input(alloc: Global) -> Found {
     }
 }
 
-/// A setup is read of a tree. It has the plan that the reader of tokens makes of the same script, one view that is named
-/// `a`, and the moves of the schedule.
+/// A setup is read of a tree. It has the plan that the reader of tokens makes of the same script, one view that is
+/// named `a`, and the moves of the schedule.
 pub fn setup(alloc: Global) -> Result<Found, Unmade> {
     let tree = match Value::from_str(alloc, THREE_WHO_WAIT) {
         Ok(tree) => tree,

@@ -23,7 +23,8 @@ fn not_below_zero(numeral: &Numeral<'_>) -> Option<i64>
     }
 }
 
-/// The whole number from -(2^53 - 1) to -1 that a numeral behind a minus writes; `None` where it writes another, as `-0`.
+/// The whole number from -(2^53 - 1) to -1 that a numeral behind a minus writes; `None` where it writes another, as
+/// `-0`.
 fn below_zero(numeral: &Numeral<'_>) -> Option<i64>
     ensures { IfSome result (λ z. (number_from true numeral.now ≡ Some (of_integer z)) × IsSafeInteger z) }
 {

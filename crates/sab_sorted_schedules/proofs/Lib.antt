@@ -1,0 +1,5 @@
+mod Begun
+mod Numbers
+mod Room
+mod Following
+mod Taking
