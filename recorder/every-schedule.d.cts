@@ -1,6 +1,6 @@
 // The types of `everySchedule` of the library. `tests/types` compares them with the code's own.
 
-import type { ExploreOptions } from "./recorder.cjs";
+import type { ExploreOptions, OfEvery } from "./options.cjs";
 
 /**
  * Tries every schedule of the agents of a module. Their code is learned, each agent alone, and all states are searched.
@@ -14,14 +14,6 @@ export class NotAsLearned extends Error {}
 
 /** What `everySchedule` takes: the options of `explore`, for a module of agents, and how far it searches. */
 export type EveryOptions = ExploreOptions & OfEvery;
-
-/** How far every schedule is tried. */
-export interface OfEvery {
-  /** For how many seconds it searches, above 0 and 3,600 at most; else 60. */
-  within?: number;
-  /** How many states it finds at most; else 1,000,000. */
-  states?: number;
-}
 
 /** Something that was found in every schedule. */
 export interface FoundBySchedule {
@@ -53,6 +45,11 @@ export interface EverySchedule {
   /** Why not. */
   open: string | null;
   agents: number;
+  /**
+   * Whether states that differ only by an exchange of like agents count as one. That is so if no agent looks at its
+   * number, and two agents can both block, or both can't.
+   */
+  areAlike: boolean;
   states: number;
   acts: number;
   /** All schedules up to so many acts were tried; null: every one was. */

@@ -7,18 +7,20 @@ import { formatted } from "./lib/command/formats.mjs";
 import { merged, partsOf } from "./lib/command/merging.mjs";
 import { print } from "./lib/command/print.mjs";
 import { messageOf } from "./lib/command/problems.mjs";
-import { STATUS } from "./lib/command/status.mjs";
+import { EXIT_STATUS } from "./lib/command/status.mjs";
 import { missingText } from "./lib/command/summary-text.mjs";
 import { usageWords, versionLine } from "./lib/keeping/program.mjs";
 import { Refused } from "./lib/options/refused.mjs";
-import { OPTIONS } from "./lib/options/table.mjs";
+import { OPTIONS, defaultText } from "./lib/options/table.mjs";
+
+const DEFAULT = defaultText(OPTIONS.format);
 
 const USAGE = `usage: ${usageWords("merge")} FILE.. [options]
 
 Joins summaries of the recorder that --format json printed, as those of shards. The result is the summary that one
 command line for all these runs would print. A file may have several, each on a line of its own; - is standard input.
 
-  --format FORM   how the summary of all is printed: plain, or json, which is one line [default: plain]
+  --format FORM   how the summary of all is printed: plain, or json, which is one line [default: ${DEFAULT}]
   -h, --help      this text
   -V, --version   the version
 
@@ -54,7 +56,7 @@ async function run(words) {
   const { values, positionals: files } = wordsOf(words);
   if (values.help || values.version) {
     await print(values.help ? USAGE : versionLine("merge"));
-    return STATUS.NONE_FAILED;
+    return EXIT_STATUS.NONE_FAILED;
   }
   if (files.length === 0) throw new Refused("the summaries' files are missing; --help shows more");
   const { kind, ifNone } = OPTIONS.format;
@@ -63,8 +65,8 @@ async function run(words) {
   await print(formatted(summary, format));
   const problems = [...summary.missing.map(missingText), ...summary.problems];
   problems.forEach(complain);
-  if (summary.stopped !== null || problems.length > 0) return STATUS.NOT_DONE;
-  return summary.failed > 0 ? STATUS.SOME_FAILED : STATUS.NONE_FAILED;
+  if (summary.stopped !== null || problems.length > 0) return EXIT_STATUS.NOT_DONE;
+  return summary.failed > 0 ? EXIT_STATUS.SOME_FAILED : EXIT_STATUS.NONE_FAILED;
 }
 
 /** @returns {Promise<number>} the status */
@@ -73,7 +75,7 @@ async function main() {
     return await run(process.argv.slice(2));
   } catch (problem) {
     complain(problem);
-    return problem instanceof Refused ? STATUS.REFUSED : STATUS.NOT_DONE;
+    return problem instanceof Refused ? EXIT_STATUS.REFUSED : EXIT_STATUS.NOT_DONE;
   }
 }
 

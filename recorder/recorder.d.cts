@@ -1,11 +1,8 @@
 // The types of the package. `tests/types` compares them with the code's own. They don't need node's types.
 export * from "./every-schedule.cjs";
+export * from "./options.cjs";
 
-/** A URL, if the types of the user's project know one: node's, or those of browsers. */
-type ModuleUrl = typeof globalThis extends { URL: new (...given: never[]) => infer Url } ? Url : never;
-
-/** An AbortSignal, if the types of the user's project know one. */
-type StopSignal = typeof globalThis extends { AbortSignal: { prototype: infer Signal } } ? Signal : never;
+import type { ExploreOptions, RecordOptions } from "./options.cjs";
 
 /**
  * Runs the agents of a module, or a program, once, under the schedule of one seed. The simulator checks the run, unless
@@ -48,110 +45,6 @@ export class Difference extends Error {
   /** sabsim's verdict on the trace, if that is what differs. */
   judged?: string;
 }
-
-/** What each run may have. */
-export interface RunOptions {
-  /** For the agents, or for the program; else none. */
-  args?: string[];
-  /** Who moves next; else "mixed". */
-  strategy?: "mixed" | "uniform" | "partial-order" | `switch:${number}`;
-  /** Whether who moves next is drawn before each call, not only before those by which agents meet in pilot runs. */
-  everywhere?: boolean;
-  /** The share of draws that may end a timed wait early. 0: none; "never": no timed wait ends; else 0.05. */
-  timeouts?: number | "never";
-  /** How many moves the run may have, 1 to 100,000; else 100,000. */
-  maxMoves?: number;
-  /** For how many seconds an agent may make no call, above 0 and 3,600 at most; else 10. */
-  seconds?: number;
-  /**
-   * Whether a run with unordered accesses fails; else "fail". Two accesses of different agents are unordered if they
-   * touch the same byte, at least one writes, they aren't both by Atomics on just the same bytes, and nothing orders
-   * them.
-   */
-  races?: "fail" | "allow";
-  /** Whether a run that meets a limit fails; else "fail". */
-  limits?: "fail" | "allow";
-  /** The path of the native program, which checks runs in place of the module. False: runs aren't checked. */
-  sabsim?: string | boolean;
-  /** Whether the outcome has its trace. */
-  trace?: boolean;
-}
-
-/** What the runs of a module of agents have. */
-export interface OfModule {
-  /** The agents' module: a URL, or a path, from the folder of the file that calls `record`. */
-  module: string | ModuleUrl;
-  program?: undefined;
-  /** How many agents, 1 to 16; else what the module's `setup` says. */
-  agents?: number;
-  /** The bytes of each buffer: one to four, each 0 to 65,536; else what the module's `setup` says. */
-  buffers?: number[];
-  /** The agents that can't block; else what the module's `setup` says, and else none. */
-  noBlock?: number[];
-  /** What is done with ordinary reads and writes; else "watch". */
-  ordinary?: "watch" | "store" | "refuse";
-  /** Whether a run fails if agents use shared memory that isn't recorded, as their own; else "fail". */
-  unrecorded?: "fail" | "allow";
-  /** The time that clocks show agents: the run's own or the machine's; else "run". */
-  clock?: "run" | "real";
-  /** Fills the buffers before the run, and before each of its pilots, in place of the module's `init`. */
-  init?: WithBuffers;
-  /**
-   * Is called after a run that finished, in place of the module's `check`: what it throws fails the run, as does
-   * `false` or an error that it returns.
-   */
-  check?: WithBuffers;
-}
-
-/** What the runs of a whole program have, which makes its own threads and shared memory. */
-export interface OfProgram {
-  /** The program's main module: a URL, or a path, from the folder of the file that calls `record`. */
-  program: string | ModuleUrl;
-  module?: undefined;
-  /** Whether a run that is stuck fails; else "fail". It is stuck if nothing can move and something keeps it alive. */
-  stuck?: "fail" | "allow";
-  /** By how many milliseconds the run's clock may be ahead of what waits, by early ends; 0: by none; else 100. */
-  early?: number;
-  /** Whether the program is for browsers: its main module stands for a page; else it is for node. */
-  web?: boolean;
-  /** The runs whose output is shown on standard error; else the first one. */
-  programOutput?: "all" | "none";
-  /** What plain aligned accesses of WebAssembly to shared memory are: C's `volatile` is relaxed; else "ordinary". */
-  wasmAccesses?: "ordinary" | "relaxed";
-}
-
-/** What one run may have besides. */
-export interface OneRun {
-  /** A whole number from 0 to 2^53 - 1; else 1. */
-  seed?: number;
-  /** Whether the outcome of a run that fails is that of the shortest one that fails in the same way; else false. */
-  shorten?: boolean;
-}
-
-/** What many runs may have besides. */
-export interface ManyRuns {
-  /** As "1..1000", which begins at 1 and ends at 1000; a number: so many of them, from 1 on; else "1..100". */
-  seeds?: string | number | { first: number; last: number };
-  /**
-   * How many groups of workers run side by side, 1 to 64: one in this process, several in a process for each; else 1.
-   * With several, `init` and `check` can't be given: they are functions of this process.
-   */
-  jobs?: number;
-  /** Every run that fails is checked, and one in so many of the others; 0: no run is; else 1, so all. */
-  checkEvery?: number;
-  /** Whether each seed gets new workers; else what the module keeps in variables stays. */
-  fresh?: boolean;
-  /** Whether the first failing run is the last, unless it fails only after the early end of a timed wait. */
-  failFast?: boolean;
-  /** Ends all runs when it is aborted. */
-  signal?: StopSignal;
-}
-
-/** The options of one run: of a module of agents, or of a program. */
-export type RecordOptions = RunOptions & OneRun & (OfModule | OfProgram);
-
-/** The options of many runs: of a module of agents, or of a program. */
-export type ExploreOptions = RunOptions & ManyRuns & (OfModule | OfProgram);
 
 /** How a run ended; `race`: it finished, `check` found nothing, and it has unordered accesses. */
 export type Ending = "finished" | "deadlock" | "stuck" | "failed" | "check" | "race" | "limit";

@@ -94,7 +94,7 @@ function readerOf(words) {
 
 /**
  * @param {string[]} words of the command line
- * @returns {import("./wasm/simulator.mjs").EndedSearch}
+ * @returns {import("./wasm/simulator.mjs").SearchCommandResult}
  * @throws {Error} if the module stops in the middle, or can't be compiled
  */
 function endedBy(words) {

@@ -1,22 +1,32 @@
 // The types of `sabsim/test`. `tests/types` compares them with the code's own.
 
-import type { ManyRuns, OfModule, OfProgram, RunOptions } from "./recorder.cjs";
+import type { ManyRuns, OfModule, OfProgram, RunOptions } from "./options.cjs";
 
 /** What is done with a failing run. */
 export interface OfTrial {
-  /** The folder in which a failing run is kept, from the working directory; else a new one for temporary files. */
-  out?: string;
-  /** False: a failing run is shown and kept as it was found, and not the shortest that fails in the same way. */
-  shorten?: boolean;
+  // tools/sections.mjs makes this from the table of options: trial
   /**
-   * Whether every schedule of a module of agents is tried, as by `everySchedule`. It fails if something is found, and
-   * if not every schedule could be tried; else false.
+   * Tries every schedule of a module of agents, as `everySchedule` does. The test fails if something is found, and if
+   * not every schedule could be tried. Else false.
    */
   all?: boolean;
-  /** With `all`: for how many seconds it searches, above 0 and 3,600 at most; else 60. */
+  /** For how many seconds the search of every schedule goes on. A number above 0, and 3,600 at most; else 60. */
   within?: number;
-  /** With `all`: how many states it finds at most; else 1,000,000. */
+  /**
+   * How many states the search of every schedule finds at most. A whole number from 1 to 20,000,000; else 1,000,000.
+   */
   states?: number;
+  /**
+   * The folder in which the failing run is kept, from the working directory. Else a folder of each test's own among the
+   * system's temporary files, the same one each time.
+   */
+  out?: string;
+  /**
+   * Whether the shortest run that fails in the same way is returned, or is shown and kept, in place of the one that was
+   * found. Else false for `record`, and true in tests.
+   */
+  shorten?: boolean;
+  // Up to here.
 }
 
 /**

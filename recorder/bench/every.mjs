@@ -50,7 +50,7 @@ whose futures looked alike in tests, and made no real runs.
 /** @param {string[]} kinds @returns {string[]} each once */
 const once = (kinds) => [...new Set(kinds)].sort();
 
-/** @param {import("../lib/seeds/job.mjs").Checked} outcome of a real run @returns {string[]} what it finds */
+/** @param {import("../lib/seeds/job.mjs").CheckedOutcome} outcome of a real run @returns {string[]} what it finds */
 function kindsOf({ detail, ending, races }) {
   const threw = ending === "failed" && /^agent \d+ threw /.test(detail);
   const own = ending === "finished" || ending === "race" ? [] : [threw ? "threw" : ending];

@@ -2,7 +2,7 @@
 
 import { parentPort, workerData } from "node:worker_threads";
 import { Asker } from "../lib/every/learning/asking.mjs";
-import { loadCode } from "../lib/every/learning/code.mjs";
+import { loadCode } from "../lib/every/learning/learned-code.mjs";
 import { Learned } from "../lib/every/learning/learned.mjs";
 import { installRealm } from "../lib/every/learning/realm.mjs";
 import { Kinds, blocksIn } from "../lib/every/search/result.mjs";
@@ -11,7 +11,7 @@ const { urls, flaw, limit, isUnmergedToo = true } = workerData;
 const asker = new Asker();
 installRealm(asker);
 
-/** @param {import("../lib/every/learning/code.mjs").Code} code @param {boolean} isUnmerged */
+/** @param {import("../lib/every/learning/learned-code.mjs").LearnedCode} code @param {boolean} isUnmerged */
 function learned(code, isUnmerged) {
   const one = new Learned(code, asker, { args: [], place: {}, timeouts: "early", limit, isUnmerged });
   const search = one.search();

@@ -14,7 +14,7 @@ import { tmpdir } from "node:os";
 import { join } from "node:path";
 import { parseArgs } from "node:util";
 import { fileURLToPath } from "node:url";
-import { OnlyByTime, hiddenWaits } from "../lib/command/only-by-time.mjs";
+import { OnlyByTimeWaits, hiddenWaits } from "../lib/command/only-by-time.mjs";
 import { checkedOptions } from "../lib/library/library-options.mjs";
 import { Refused } from "../lib/options/refused.mjs";
 import { Job } from "../lib/seeds/job.mjs";
@@ -52,7 +52,7 @@ export async function counted(module, { seeds, jobs }, further = {}) {
   const runs = new Runs(options, jobs === 1 ? { job: new Job() } : {});
   /** @type {Counted} */
   const counts = { failed: 0, first: undefined, endings: new Map(), hidden: 0 };
-  const onlyByTime = new OnlyByTime();
+  const onlyByTime = new OnlyByTimeWaits();
   for await (const outcome of outcomesOf(runs)) {
     const { fails, seed, ending } = outcome;
     onlyByTime.add(outcome);

@@ -1,13 +1,13 @@
 // A run whose schedule was changed, as a page shows it, and what is different from the recorded run. This code doesn't
 // depend on how things are shown.
 
-import { isStandIn } from "../schedule/report.mjs";
+import { isStandIn } from "../schedule/report-entries.mjs";
 import { sizeOf, valueAt } from "./elements.mjs";
 import { isOrdinary } from "./steps.mjs";
 import { callText, counted, valueText } from "./words.mjs";
 
 /** @typedef {import("../schedule/differences.mjs").Differences} Differences */
-/** @typedef {import("../schedule/report.mjs").Report} Report */
+/** @typedef {import("../schedule/report-entries.mjs").Report} Report */
 /** @typedef {import("../schedule/turns.mjs").Script} Script */
 /** @typedef {import("./run-data.mjs").Event} Event */
 /** @typedef {import("./model.mjs").Run} Run */

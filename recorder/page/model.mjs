@@ -5,7 +5,7 @@ import { helpersIn } from "../script/helpers.mjs";
 import { Rows } from "./memory-rows.mjs";
 import { Views, write } from "./elements.mjs";
 import { Stepper } from "./steps.mjs";
-import { elementText } from "./words.mjs";
+import { viewElementText } from "./words.mjs";
 
 /** @typedef {import("./run-data.mjs").RunData} RunData */
 /** @typedef {import("./steps.mjs").Step} Step */
@@ -96,7 +96,7 @@ export class Run {
     const { place, what, fact, entry } = this.steps[at];
     if (what === "wait" && fact?.place !== undefined) {
       const line = lines.get(placeKey(fact.place.block, fact.place.byte)) ?? [];
-      const element = elementText(fact.does);
+      const element = viewElementText(fact.does);
       if (line.includes(agent)) return { place, is: "waits", does: `waits at ${element} since ${entry}` };
       return { place, is: "woken", does: `was woken at ${element}` };
     }

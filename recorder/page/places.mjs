@@ -1,6 +1,6 @@
 // Where the places that `sabsim check` names are in a script's text: `line 2, column 5`, `agents[3].calls[37][1]`.
 
-import { TOKEN } from "../schedule/text.mjs";
+import { TOKEN } from "../schedule/schedule-text.mjs";
 
 /** @typedef {[number, number]} Span the first character, and the one behind the last */
 

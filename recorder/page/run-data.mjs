@@ -1,6 +1,6 @@
 // What the page of a run is made from.
 
-/** @typedef {import("../schedule/report.mjs").Entry} Entry */
+/** @typedef {import("../schedule/report-entries.mjs").ReportEntry} ReportEntry */
 /** @typedef {import("./words.mjs").View} View */
 
 /**
@@ -28,7 +28,7 @@
  * @property {number[]} blocks their lengths
  * @property {View[]} views
  * @property {View[]} arrays of the code, by which ordinary accesses were made
- * @property {Entry[]} entries those that act, wait, leave and are stuck
+ * @property {ReportEntry[]} entries those that act, wait, leave and are stuck
  * @property {Record<string, any>[]} standings of agents whose calls haven't all returned
  * @property {Event[]} events of the trace; none if it isn't known
  * @property {boolean} isWhole whether all are there; if not, those that are ordinary and don't race are missing

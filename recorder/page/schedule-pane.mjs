@@ -21,7 +21,7 @@ const EDITS = [
 const LINES_SHOWN = 200;
 
 /**
- * @typedef {object} Host what the page does for this part
+ * @typedef {object} SchedulePaneHost what the page does for this part
  * @property {() => number | undefined} chosen the turn of the step that is chosen
  * @property {(at: number | undefined) => void} onChange shows the run as it is now, at a turn
  * @property {(agent: number, call: number) => void} goTo chooses the step of a call
@@ -36,7 +36,7 @@ const LINES_SHOWN = 200;
  */
 
 export class SchedulePane {
-  /** @param {Editing} editing @param {Host} host */
+  /** @param {Editing} editing @param {SchedulePaneHost} host */
   constructor(editing, host) {
     this.editing = editing;
     this.host = host;

@@ -2,9 +2,9 @@
 
 import { by } from "./dom.mjs";
 
-/** @typedef {{ status: number, output: Uint8Array, complaint: string }} Ended */
-/** @typedef {{ command: (words: string[], read: () => Uint8Array) => Ended }} Simulator */
-/** @typedef {new (module: WebAssembly.Module) => Simulator} SimulatorClass */
+/** @typedef {{ status: number, output: Uint8Array, complaint: string }} SimulatedResult */
+/** @typedef {{ command: (words: string[], read: () => Uint8Array) => SimulatedResult }} PageSimulator */
+/** @typedef {new (module: WebAssembly.Module) => PageSimulator} SimulatorClass */
 
 // Browsers have it, and the types of older ones don't.
 const { DecompressionStream: Unpacking } = /** @type {any} */ (globalThis);

@@ -1,6 +1,6 @@
 // The steps of a run, from the entries of its report and the events of its trace.
 
-import { isStandIn } from "../schedule/report.mjs";
+import { isStandIn } from "../schedule/report-entries.mjs";
 import { helpersIn } from "../script/helpers.mjs";
 import { storedBytes } from "../script/values.mjs";
 import { labelOf, writtenView } from "../script/written.mjs";
@@ -8,7 +8,7 @@ import { changesBy, sizeOf } from "./elements.mjs";
 import { endingText } from "./endings.mjs";
 import { callText, changesText, entryText, handOverText, standingText, valueText } from "./words.mjs";
 
-/** @typedef {import("../schedule/report.mjs").Entry} Entry */
+/** @typedef {import("../schedule/report-entries.mjs").ReportEntry} ReportEntry */
 /** @typedef {import("./elements.mjs").Change} Change */
 /** @typedef {import("./elements.mjs").Stored} Stored */
 /** @typedef {import("./elements.mjs").Views} Views */
@@ -39,7 +39,7 @@ import { callText, changesText, entryText, handOverText, standingText, valueText
  * @property {Stored[]} stores
  * @property {Change[]} changes of elements, by the stores
  * @property {boolean} isSwitch whether another agent has made the step before
- * @property {Entry} [fact]
+ * @property {ReportEntry} [fact]
  * @property {boolean} [isReworded] whether its sentence isn't the report's: a message, or a wait that is handed over
  */
 
@@ -182,7 +182,7 @@ export class Stepper {
     else this.#call(entry, sentence, place, event);
   }
 
-  /** @param {Entry} entry */
+  /** @param {ReportEntry} entry */
   #store(entry) {
     const { agent, entry: number } = entry;
     const stores = this.#storesOf(entry);
@@ -202,7 +202,7 @@ export class Stepper {
     step.stores.push(...stores);
   }
 
-  /** @param {Entry} entry @param {string} sentence @param {number} place @param {number | undefined} event */
+  /** @param {ReportEntry} entry @param {string} sentence @param {number} place @param {number | undefined} event */
   #call(entry, sentence, place, event) {
     const { agent, what, entry: number, does, place: at } = entry;
     this.pending[agent] = [];
@@ -220,7 +220,10 @@ export class Stepper {
     });
   }
 
-  /** @param {Entry} entry @returns {string | undefined} that a program's message is sent or received, if one is */
+  /**
+   * @param {ReportEntry} entry
+   * @returns {string | undefined} that a program's message is sent or received, if one is
+   */
   #messageText({ agent, does: [name], place }) {
     const { senders, blocks } = this.data;
     if (senders === undefined || name !== "notify" || place?.block !== blocks.length - 1) return undefined;
@@ -232,26 +235,26 @@ export class Stepper {
     return `${isSent ? "sends" : "receives"} message ${message}${text === "" ? "" : `: ${text}`}`;
   }
 
-  /** @param {Entry} entry @param {string} sentence */
+  /** @param {ReportEntry} entry @param {string} sentence */
   #stuck(entry, sentence) {
     const { agent, entry: number, does } = entry;
     const text = does.length === 0 ? "no call" : callText(does);
     this.#add({ what: "stuck", agent, entry: number, sentence, text, answer: "can't move", fact: entry });
   }
 
-  /** @param {Entry} entry @returns {View} */
+  /** @param {ReportEntry} entry @returns {View} */
   #viewOf({ does: [, name] }) {
     return /** @type {View} */ (this.views.byName.get(`${name}`));
   }
 
-  /** @param {Entry} entry that has a place @param {boolean} writes @returns {Access} */
+  /** @param {ReportEntry} entry that has a place @param {boolean} writes @returns {Access} */
   #accessOf(entry, writes) {
-    const { block, byte } = /** @type {import("../schedule/report.mjs").Place} */ (entry.place);
+    const { block, byte } = /** @type {import("../schedule/report-entries.mjs").Place} */ (entry.place);
     const view = this.#viewOf(entry);
     return { block, byte, size: sizeOf(view), writes, view };
   }
 
-  /** @param {Entry} entry @returns {Stored[]} */
+  /** @param {ReportEntry} entry @returns {Stored[]} */
   #storesOf(entry) {
     const { found = {}, place, what } = entry;
     if (what !== "act" || place === undefined || found.after === undefined || found.after === found.before) return [];
@@ -277,14 +280,14 @@ function bytesText({ block, byte, size }, view) {
 
 /**
  * Whether an entry isn't about a call that its agent made: it stands for an ordinary write, or is stuck.
- * @param {Entry} entry
+ * @param {ReportEntry} entry
  */
 const isNoCall = ({ what, does }) => what === "stuck" || isStandIn(does);
 
 /** @param {Event} event */
 export const isOrdinary = ({ does }) => does === "read" || does === "write";
 
-/** @param {Entry} entry @returns {string} the result of a call, in short */
+/** @param {ReportEntry} entry @returns {string} the result of a call, in short */
 function answerText({ what, does: [name], answer, found = {} }) {
   if (what === "wait") return "waits";
   if (what === "leave") return answer === "ok" ? "goes on" : "its time is up";

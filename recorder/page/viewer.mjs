@@ -21,13 +21,13 @@ const LETTERS = new Map([["p", "switch-back"], ["n", "switch-forward"], ["f", "f
 const KEEPS_KEYS = "#code, #memory-pane, textarea, select, .keeps-keys";
 
 /**
- * @typedef {object} Host what the page does for it
+ * @typedef {object} ViewerHost what the page does for it
  * @property {() => void} onChosen another step is chosen
  * @property {(key: string) => boolean} onLetter whether a key in the timeline is one of the page's own; then it is done
  */
 
 export class Viewer {
-  /** @param {Run} run @param {Host} host */
+  /** @param {Run} run @param {ViewerHost} host */
   constructor(run, host) {
     this.run = run;
     this.host = host;

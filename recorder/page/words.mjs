@@ -3,7 +3,7 @@
 
 import { handOverOf } from "../script/helpers.mjs";
 
-/** @typedef {import("../schedule/report.mjs").Entry} Entry */
+/** @typedef {import("../schedule/report-entries.mjs").ReportEntry} ReportEntry */
 /** @typedef {import("../script/text.mjs").View} View */
 
 /**
@@ -23,7 +23,7 @@ export const callText = ([name, view, ...others]) => `${name}(${[view, ...others
 
 /**
  * A notify by which a thread and its helper hand a wait of waitAsync over.
- * @param {Entry} entry
+ * @param {ReportEntry} entry
  * @returns {string | undefined} undefined: it is another call
  */
 export function handOverText({ agent, does }) {
@@ -36,7 +36,7 @@ export function handOverText({ agent, does }) {
 }
 
 /** @param {(string | number)[]} does @returns {string} the element that a call names */
-export const elementText = ([, view, index]) => `${view}[${index}]`;
+export const viewElementText = ([, view, index]) => `${view}[${index}]`;
 
 // More changes of one step are only counted.
 const MOST_CHANGES = 8;
@@ -54,7 +54,7 @@ export const counted = (count, one, several) => `${count} ${count === 1 ? one : 
 
 /**
  * Why a call throws, by the first check that fails.
- * @param {Entry} entry
+ * @param {ReportEntry} entry
  * @param {Known} known
  */
 function failureText({ agent, does, found = {}, answer }, { views }) {
@@ -72,11 +72,11 @@ function failureText({ agent, does, found = {}, answer }, { views }) {
 
 /**
  * Whom a notify wakes.
- * @param {Entry} entry
+ * @param {ReportEntry} entry
  * @param {Known} known
  */
 function notifyText({ does, found = {} }, { waits }) {
-  const element = elementText(does);
+  const element = viewElementText(does);
   const { waited, woken } = /** @type {{ waited: number, woken: number[] }} */ (found);
   if (waited === 0) return `wakes nobody: nobody waits at ${element}`;
   if (woken.length === 0) {
@@ -89,10 +89,10 @@ function notifyText({ does, found = {} }, { waits }) {
   return left === 0 ? `wakes ${whom}` : `wakes ${whom}; ${counted(left, "still waits", "still wait")}`;
 }
 
-/** @param {Entry} entry @param {Known} known @returns {string} what an act did */
+/** @param {ReportEntry} entry @param {Known} known @returns {string} what an act did */
 function actText(entry, known) {
   const { does, answer, found = {} } = entry;
-  const element = elementText(does);
+  const element = viewElementText(does);
   const [before, after] = [valueText(found.before), valueText(found.after)];
   if (answer === "TypeError" || answer === "RangeError") return `throws: ${failureText(entry, known)}`;
   switch (does[0]) {
@@ -111,12 +111,12 @@ function actText(entry, known) {
 
 /**
  * Why an agent couldn't move.
- * @param {Entry} entry
+ * @param {ReportEntry} entry
  * @param {Known} known
  */
 function stuckText({ agent, call, why, does, since, found = {} }, { waits }) {
   if (does.length === 0) return call === 0 ? "it has no calls" : "all its calls have returned";
-  const [element, wait] = [elementText(does), waits[agent] ?? since];
+  const [element, wait] = [viewElementText(does), waits[agent] ?? since];
   switch (why) {
     case "waiting": return `waits at ${element} since ${wait}, in ${callText(does)}`;
     case "endless": return `waits at ${element} since ${wait}, and ${callText(does)} has no timeout`;
@@ -127,7 +127,7 @@ function stuckText({ agent, call, why, does, since, found = {} }, { waits }) {
 
 /**
  * The words of an entry: of an act, a wait or the end of one. For a begin and a return they say only that.
- * @param {Entry} entry
+ * @param {ReportEntry} entry
  * @param {Known} known
  * @returns {string}
  */
@@ -137,10 +137,10 @@ export function entryText(entry, known) {
   switch (what) {
     case "begin": return `calls ${call}`;
     case "return": return /Error$/.test(`${answer}`) ? `throws out of ${call}` : `returns from ${call}`;
-    case "wait": return `${call} waits at ${elementText(does)}${placeInLine(found.ahead)}`;
+    case "wait": return `${call} waits at ${viewElementText(does)}${placeInLine(found.ahead)}`;
     case "leave":
       if (answer === "ok") return `${call} was woken by ${found.woken_by}`;
-      return `${call} times out after waiting at ${elementText(does)} since ${since}`;
+      return `${call} times out after waiting at ${viewElementText(does)} since ${since}`;
     case "stuck": return stuckText(entry, known);
     default: return `${call} ${actText(entry, known)}`;
   }
@@ -164,7 +164,7 @@ export function standingText({ at, does, since, notified, woken_by: by }) {
     case "begun": return `began ${call} at ${since} and hasn't acted`;
     case "woken": return `was woken by ${by} and hasn't left ${call}`;
     case "waits": {
-      const element = elementText(does);
+      const element = viewElementText(does);
       const since0 = `waits at ${element} since ${since}, in ${call}`;
       return notified
         ? `${since0}; ${element} was notified since, waking others or nobody`

@@ -1,9 +1,9 @@
 // What is different between the reports of two schedules of the same calls.
 
-import { isStandIn } from "./report.mjs";
+import { isStandIn } from "./report-entries.mjs";
 
-/** @typedef {import("./report.mjs").Entry} Entry */
-/** @typedef {import("./report.mjs").Report} Report */
+/** @typedef {import("./report-entries.mjs").ReportEntry} ReportEntry */
+/** @typedef {import("./report-entries.mjs").Report} Report */
 
 /**
  * @template T
@@ -27,7 +27,7 @@ import { isStandIn } from "./report.mjs";
 /**
  * The entry of each call that has its answer, without stores that stand for something else.
  * @param {Report} report
- * @returns {Map<string, Entry>}
+ * @returns {Map<string, ReportEntry>}
  */
 function answered({ entries }) {
   const acts = entries.filter(({ what, does }) => (what === "act" || what === "leave") && !isStandIn(does));
@@ -68,7 +68,7 @@ export function differencesOf(before, after) {
   /**
    * The calls whose results differ.
    * @template T
-   * @param {(entry: Entry | undefined) => T} part
+   * @param {(entry: ReportEntry | undefined) => T} part
    * @returns {Different<T>[]}
    */
   const differing = (part) => calls.flatMap(([key, { agent, call, does }]) => {

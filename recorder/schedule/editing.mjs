@@ -2,16 +2,16 @@
 
 import { SCRIPT_LIMITS } from "../script/limits.mjs";
 import { differencesOf } from "./differences.mjs";
-import { isWhole, replayedAsWritten, replayedWhole } from "./fitting.mjs";
-import { readReport } from "./report.mjs";
-import { textWith } from "./text.mjs";
+import { isWholeSchedule, replayedAsWritten, replayedWhole } from "./fitting.mjs";
+import { readReport } from "./report-entries.mjs";
+import { textWith } from "./schedule-text.mjs";
 import { turnsOf } from "./turns.mjs";
 
 /** @typedef {import("./edits.mjs").Edit} Edit */
 /** @typedef {import("./fitting.mjs").Replayed} Replayed */
-/** @typedef {import("./report.mjs").Report} Report */
-/** @typedef {import("./turns.mjs").Move} Move */
-/** @typedef {import("./turns.mjs").Turn} Turn */
+/** @typedef {import("./report-entries.mjs").Report} Report */
+/** @typedef {import("./turns.mjs").ScheduleMove} ScheduleMove */
+/** @typedef {import("./turns.mjs").ScheduleTurn} ScheduleTurn */
 
 /** @typedef {{ status: number, output: Uint8Array, complaint: Uint8Array }} Simulated */
 /** @typedef {(words: string[], input: Uint8Array) => Simulated} Simulate what the program does with its words */
@@ -51,13 +51,16 @@ export class Editing {
      * Whether each turn has all moves of its draw, and is made anew with all of them; if not, turns keep the moves that
      * they have.
      */
-    this.isWhole = isWhole(this.script, this.recorded);
+    this.isWhole = isWholeSchedule(this.script, this.recorded);
     this.now = this.recorded;
-    /** @type {{ turns: Turn[], moves: Move[], starts: number[], at: number }[]} before each change; `at` was chosen */
+    /**
+     * @type {{ turns: ScheduleTurn[], moves: ScheduleMove[], starts: number[], at: number }[]} before each change; `at`
+     * was chosen
+     */
     this.before = [];
   }
 
-  /** @param {Move[]} moves @returns {Report} @throws {NotReplayed} */
+  /** @param {ScheduleMove[]} moves @returns {Report} @throws {NotReplayed} */
   #replay(moves) {
     const { moves: most, text: longest } = SCRIPT_LIMITS;
     const text = this.textWith(moves);
@@ -66,9 +69,9 @@ export class Editing {
     return readReport(outputOf(this.simulate, REPLAY, text));
   }
 
-  /** @param {Turn[]} turns @returns {Replayed} @throws {NotReplayed} */
+  /** @param {ScheduleTurn[]} turns @returns {Replayed} @throws {NotReplayed} */
   #replayed(turns) {
-    /** @param {Move[]} moves */
+    /** @param {ScheduleMove[]} moves */
     const replay = (moves) => this.#replay(moves);
     if (!this.isWhole) return replayedAsWritten(turns, replay);
     return replayedWhole(this.script, turns, replay, this.now);

@@ -2,20 +2,20 @@
 // changes nothing itself.
 
 /** @typedef {import("./fitting.mjs").Replayed} Replayed */
-/** @typedef {import("./turns.mjs").Turn} Turn */
+/** @typedef {import("./turns.mjs").ScheduleTurn} ScheduleTurn */
 
-/** @typedef {{ turns: Turn[], at: number }} Edited the turns, and where the one is now that was chosen */
+/** @typedef {{ turns: ScheduleTurn[], at: number }} Edited the turns, and where the one is now that was chosen */
 /** @typedef {{ why: string }} NotEdited */
 /** @typedef {(replayed: Replayed, at: number) => Edited | NotEdited} Edit of the turn at a position */
 
 const FIXED = "stores for ordinary writes, and for what init left, keep their place";
 
-/** @param {Turn[]} turns @param {number} at @param {number} removed @param {...Turn} added */
+/** @param {ScheduleTurn[]} turns @param {number} at @param {number} removed @param {...ScheduleTurn} added */
 const spliced = (turns, at, removed, ...added) => [...turns.slice(0, at), ...added, ...turns.slice(at + removed)];
 
 /**
  * Changes the order of two turns that follow each other.
- * @param {Turn[]} turns
+ * @param {ScheduleTurn[]} turns
  * @param {number} first
  * @param {number} chosen the one that was chosen
  * @returns {Edited | NotEdited}

@@ -2,27 +2,27 @@
 // has two, and one that doesn't has three. So the turns are laid out by what is known, and replayed. If the replay
 // shows that a wait does something else, they are laid out anew.
 
-import { isStandIn } from "./report.mjs";
+import { isStandIn } from "./report-entries.mjs";
 
-/** @typedef {import("./report.mjs").Entry} Entry */
-/** @typedef {import("./report.mjs").Report} Report */
-/** @typedef {import("./turns.mjs").Move} Move */
+/** @typedef {import("./report-entries.mjs").ReportEntry} ReportEntry */
+/** @typedef {import("./report-entries.mjs").Report} Report */
+/** @typedef {import("./turns.mjs").ScheduleMove} ScheduleMove */
 /** @typedef {import("./turns.mjs").Script} Script */
-/** @typedef {import("./turns.mjs").Turn} Turn */
+/** @typedef {import("./turns.mjs").ScheduleTurn} ScheduleTurn */
 
 /**
- * @typedef {"passes" | "joins" | "leaves" | "stuck"} Outcome of a turn: the agent makes a call; it joins the line of
- * waiters; it ends a wait; it can't move
+ * @typedef {"passes" | "joins" | "leaves" | "stuck"} TurnOutcome of a turn: the agent makes a call; it joins the line
+ * of waiters; it ends a wait; it can't move
  */
 
 /**
  * @typedef {object} Layout
- * @property {Move[]} moves
+ * @property {ScheduleMove[]} moves
  * @property {number[]} starts for each turn the position of its first move
- * @property {Outcome[]} outcomes that the turns are laid out for
+ * @property {TurnOutcome[]} outcomes that the turns are laid out for
  */
 
-/** @typedef {{ turns: Turn[], moves: Move[], starts: number[], report: Report }} Replayed */
+/** @typedef {{ turns: ScheduleTurn[], moves: ScheduleMove[], starts: number[], report: Report }} Replayed */
 
 const MOVES = { passes: 3, joins: 2, leaves: 2, stuck: 1 };
 
@@ -36,8 +36,8 @@ const callKey = (agent, call) => `${agent} ${call}`;
  * @param {At} at
  * @param {(string | number)[][]} calls of the agent
  * @param {boolean} timeUp
- * @param {Outcome | undefined} guess
- * @returns {Outcome}
+ * @param {TurnOutcome | undefined} guess
+ * @returns {TurnOutcome}
  */
 function outcomeAt({ call, waits, isStuck }, calls, timeUp, guess) {
   if (waits && (guess === "leaves" || guess === "stuck")) return guess;
@@ -46,7 +46,7 @@ function outcomeAt({ call, waits, isStuck }, calls, timeUp, guess) {
   return calls[call][0] === "wait" && guess === "joins" ? "joins" : "passes";
 }
 
-/** @param {Entry} first of a turn @param {Entry | undefined} second @returns {Outcome} */
+/** @param {ReportEntry} first of a turn @param {ReportEntry | undefined} second @returns {TurnOutcome} */
 function outcomeOf({ what }, second) {
   if (what === "leave") return "leaves";
   if (what === "stuck") return "stuck";
@@ -55,8 +55,8 @@ function outcomeOf({ what }, second) {
 
 /**
  * @param {Script} script
- * @param {Turn[]} turns
- * @param {(turn: number, agent: number, at: At) => Outcome | undefined} guess the outcome of a turn
+ * @param {ScheduleTurn[]} turns
+ * @param {(turn: number, agent: number, at: At) => TurnOutcome | undefined} guess the outcome of a turn
  * @returns {Layout}
  */
 function laidOut({ agents }, turns, guess) {
@@ -91,7 +91,7 @@ const outcomesOf = (starts, { entries }) => starts.map((start) => outcomeOf(entr
  * @param {Script} script
  * @param {Replayed} replayed with the moves that it has
  */
-export function isWhole(script, { turns, moves, starts, report }) {
+export function isWholeSchedule(script, { turns, moves, starts, report }) {
   const outcomes = outcomesOf(starts, report);
   return JSON.stringify(laidOut(script, turns, (turn) => outcomes[turn]).moves) === JSON.stringify(moves);
 }
@@ -104,8 +104,8 @@ const joinsOf = ({ entries }) =>
  * Makes turns that are all whole: the agent makes its next call to the end, joins the line of waiters, or goes on from
  * there. If it can't move, the turn is one move without an effect.
  * @param {Script} script
- * @param {Turn[]} turns
- * @param {(moves: Move[]) => Report} replay
+ * @param {ScheduleTurn[]} turns
+ * @param {(moves: ScheduleMove[]) => Report} replay
  * @param {Pick<Replayed, "turns" | "starts" | "report">} before in which most turns are the same
  * @returns {Replayed}
  */
@@ -130,8 +130,8 @@ export function replayedWhole(script, turns, replay, before) {
 
 /**
  * Makes turns with the moves that they have.
- * @param {Turn[]} turns
- * @param {(moves: Move[]) => Report} replay
+ * @param {ScheduleTurn[]} turns
+ * @param {(moves: ScheduleMove[]) => Report} replay
  * @returns {Replayed}
  */
 export function replayedAsWritten(turns, replay) {

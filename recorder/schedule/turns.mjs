@@ -2,29 +2,29 @@
 // the stores for what the agent wrote ordinarily before its next call. Such stores that don't follow a draw, and those
 // of `init`, are a turn of their own, which is fixed.
 
-import { isStandIn } from "./report.mjs";
+import { isStandIn } from "./report-entries.mjs";
 
-/** @typedef {import("./report.mjs").Entry} Entry */
-/** @typedef {number | { timeout: number }} Move as a script has it */
+/** @typedef {import("./report-entries.mjs").ReportEntry} ReportEntry */
+/** @typedef {number | { timeout: number }} ScheduleMove as a script has it */
 
 /**
  * @typedef {object} Script
  * @property {{ block: boolean, calls: (string | number)[][] }[]} agents
- * @property {Move[]} schedule
+ * @property {ScheduleMove[]} schedule
  */
 
 /**
- * @typedef {object} Turn
+ * @typedef {object} ScheduleTurn
  * @property {number} agent
  * @property {boolean} timeUp whether it ends the time of a wait
  * @property {boolean} isFixed whether it has only stores
- * @property {Move[]} moves as the schedule had them when the turn was made
+ * @property {ScheduleMove[]} moves as the schedule had them when the turn was made
  */
 
 /**
  * Whether a move belongs to the turn of the move before it.
- * @param {Entry} entry of the move
- * @param {Entry | undefined} before
+ * @param {ReportEntry} entry of the move
+ * @param {ReportEntry | undefined} before
  */
 function goesOn({ agent, what, does }, before) {
   if (before?.agent !== agent || before.what === "stuck") return false;
@@ -35,11 +35,11 @@ function goesOn({ agent, what, does }, before) {
 /**
  * The turns of a schedule.
  * @param {Script} script
- * @param {Entry[]} entries of its replay, one for each move
- * @returns {Turn[]}
+ * @param {ReportEntry[]} entries of its replay, one for each move
+ * @returns {ScheduleTurn[]}
  */
 export function turnsOf({ schedule }, entries) {
-  /** @type {Turn[]} */
+  /** @type {ScheduleTurn[]} */
   const turns = [];
   schedule.forEach((move, at) => {
     const { agent, does } = entries[at];

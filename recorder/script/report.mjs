@@ -1,7 +1,7 @@
 // Reports: their form, the one that a replay of a run's script has to give, and how two of them differ.
 
 /**
- * @typedef {object} Entry what a move did
+ * @typedef {object} EntryText what a move did
  * @property {number} agent that moved
  * @property {number} call its number among the agent's
  * @property {string} text what it did, in the report's words
@@ -9,7 +9,7 @@
 
 /**
  * The text of a report (docs/FORMATS.md has its form).
- * @param {Entry[]} entries one for each move
+ * @param {EntryText[]} entries one for each move
  * @param {string[]} bytes of each block at the end, in hexadecimal digits
  * @param {{ returned: number, calls: number }[]} progress of each agent: how many of its calls returned
  * @returns {string}
@@ -51,7 +51,9 @@ function stepsOf({ joined, answer }) {
  * @param {import("./text.mjs").Transcript} transcript
  */
 function movesText({ calls, moves }) {
-  const cursors = calls.map((_, agent) => ({ call: 0, step: 0, head: headOf(agent, 0) }));
+  const cursors = [];
+  // Not by `map`: its array is of another kind once the engine has optimized this, and then this is compiled anew.
+  for (let agent = 0; agent < calls.length; agent += 1) cursors.push({ call: 0, step: 0, head: headOf(agent, 0) });
   let text = "";
   for (let position = 0; position < moves.length; position += 1) {
     const { agent } = moves[position];

@@ -2,9 +2,10 @@
 //
 // usage: node recorder/tests/run.mjs [NAME ..] [--unit] [--require-all]
 //
-// With words only the files whose names contain one of them are run. `--unit` runs only files that start no thread and
-// no process. If SABSIM in the environment names the built program, it checks the runs, except with `--unit`. Without
-// it the recorder is tested alone, with node and nothing else: the simulator's module checks the runs.
+// With words only the files whose names contain one of them are run; a name has its folder, as unit/nearest.test.mjs.
+// `--unit` runs only those of the folder unit, which start no thread and no process. If SABSIM in the environment names
+// the built program, it checks the runs, except with `--unit`. Without it the recorder is tested alone, with node and
+// nothing else: the simulator's module checks the runs.
 //
 // The last line is `N passed, M failed`, and the status is 0 only if no test failed. The line before says which tests
 // were left out, since this machine lacks something. Some tests watch threads by the clock. So if tests fail, their
@@ -17,7 +18,9 @@ import { availableParallelism } from "node:os";
 import { join, resolve } from "node:path";
 import { fileURLToPath } from "node:url";
 import { closingLines, readReport, wholeOf } from "./helpers/results.mjs";
-import { Mistaken, REFUSAL, UNIT, WITHOUT_OTHERS, askedBy } from "./helpers/test-files.mjs";
+import {
+  Mistaken, REFUSAL, WITHOUT_OTHERS, askedBy, isUnitTest, keepSeconds, namesOfAll,
+} from "./helpers/test-files.mjs";
 
 const FOLDER = fileURLToPath(new URL("./", import.meta.url));
 const BUILT = fileURLToPath(new URL("../../crates/sabsim/out/sabsim", import.meta.url));
@@ -41,7 +44,7 @@ const MISTAKEN = 2;
  * @param {string} name
  * @param {Record<string, string | undefined>} env
  */
-const startsNothing = (name, env) => UNIT.has(name) && env.SABSIM === undefined;
+const startsNothing = (name, env) => isUnitTest(name) && env.SABSIM === undefined;
 
 /**
  * Runs a file of tests.
@@ -72,8 +75,8 @@ function printResult({ name, passed, failed, leftOut, problems, seconds }) {
   console.log(`${name}: ${counts.join(", ")}, ${seconds.toFixed(1)} s`);
   if (failed === 0) return;
   console.log(problems);
-  if (UNIT.has(name) && problems.includes(REFUSAL)) {
-    console.log(`${name} is in the list UNIT of helpers/test-files.mjs, and starts a thread or a process`);
+  if (isUnitTest(name) && problems.includes(REFUSAL)) {
+    console.log(`${name} is in the folder unit, and starts a thread or a process`);
   }
 }
 
@@ -136,6 +139,7 @@ async function main(words) {
     [CERTIFICATES]: undefined,
     SABSIM: sabsim,
   });
+  if (names.length === namesOfAll().length) keepSeconds(results);
   const hasSabsim = sabsim !== undefined;
   if (!hasSabsim && !isUnit) printLeftOut();
   const whole = wholeOf(results, second, { hasSabsim, requireAll });

@@ -4,7 +4,7 @@ import * as declared from "../recorder.mjs";
 import * as difference from "../lib/check/difference.mjs";
 import * as exploring from "../lib/library/explore.mjs";
 import * as every from "../lib/library/every-schedule.mjs";
-import * as recording from "../lib/library/recorder.mjs";
+import * as recording from "../lib/library/record-runs.mjs";
 import * as refused from "../lib/options/refused.mjs";
 import * as remote from "../lib/seeds/remote-job.mjs";
 import * as again from "../lib/seeds/first-again.mjs";
@@ -15,7 +15,7 @@ import type {
   ExploreOptions, ProgramTrialOptions, TrialOptions, WithBuffers,
 } from "../lib/library/library-options.mjs";
 import type { Ending } from "../lib/run/outcome.mjs";
-import type { Side, RaceReport } from "../lib/run/findings.mjs";
+import type { Side, RaceReport } from "../lib/run/race-reports.mjs";
 import type { Shortened } from "../lib/shorter/shorten.mjs";
 import type { WholeSummary } from "../lib/command/summary-form.mjs";
 
@@ -35,7 +35,7 @@ export type Held = [
   Holds<Same<Flat<declaredTesting.TrialOptions>, Flat<TrialOptions>>>,
   Holds<Same<Flat<declaredTesting.ProgramTrialOptions>, Flat<ProgramTrialOptions>>>,
   Holds<Same<keyof typeof declaredTesting, keyof typeof writtenTesting>>,
-  Holds<Same<Flat<declared.Outcome>, Flat<recording.Outcome>>>,
+  Holds<Same<Flat<declared.Outcome>, Flat<recording.RecordedOutcome>>>,
   Holds<Same<declared.Ending, Ending>>,
   Holds<Same<Flat<declared.Race>, Flat<RaceReport>>>,
   Holds<Same<Flat<declared.RaceSide>, Flat<Side>>>,

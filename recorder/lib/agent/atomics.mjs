@@ -14,14 +14,14 @@ const { wait: WAIT, notify: NOTIFY } = CALL_NUMBERS;
 /** @typedef {import("./elsewhere.mjs").Functions} Functions */
 
 /**
- * @typedef {object} Own how the calls of one agent are made
+ * @typedef {object} AgentCalls how the calls of one agent are made
  * @property {(buffer: unknown) => number} blockOf the position of a buffer among those that are recorded, or -1
  * @property {(call: Call, view: object, called: Function) => unknown} make blocks until it is the agent's turn; the
  * agent's own frame is above the function that was called
  * @property {(why: string) => never} refuse ends the run, for a call that no script can have
  */
 
-/** @typedef {Own & import("./elsewhere.mjs").Elsewhere} Asking */
+/** @typedef {AgentCalls & import("./elsewhere.mjs").Elsewhere} Asking */
 
 /**
  * What a script has for a call. What the language converts is converted here, in its order.

@@ -51,9 +51,9 @@ export function shareWithContexts(theirs) {
     installInContext(global, typeof given !== "symbol", theirs);
     return global;
   };
-  replaceNeeded(vm, "createContext", () => methodOf((_, [given, ...others]) => made(given, others)));
+  replaceNeeded(vm, "createContext", (engine) => methodOf((_, [given, ...others]) => made(given, others), engine));
   replaceNeeded(vm, "runInNewContext", (engine) => methodOf((self, [code, given, options]) =>
-    apply(engine, self, [code, made(given, [optionsOf(options)]), options])));
+    apply(engine, self, [code, made(given, [optionsOf(options)]), options]), engine));
   replaceNeeded(Script.prototype, "runInNewContext", (engine) => methodOf((self, [given, options]) =>
-    apply(engine, self, [made(given, [optionsOf(options)]), options])));
+    apply(engine, self, [made(given, [optionsOf(options)]), options]), engine));
 }

@@ -6,7 +6,7 @@ import { CALLS, CALL_NUMBERS, CONSTRUCTORS, isBigKind } from "../../script/kinds
 import { SCRIPT_LIMITS } from "../../script/limits.mjs";
 import { isWhole, isWithin128Bits, shown } from "../../script/operands.mjs";
 import { engineCall } from "./engine.mjs";
-import { bigOf, wholeOf } from "./ordinary/numbers.mjs";
+import { bigOf, wholeOf } from "./ordinary/argument-conversions.mjs";
 
 const { wait: WAIT, compareExchange: COMPARE_EXCHANGE } = CALL_NUMBERS;
 const { RangeError: EngineRangeError, SharedArrayBuffer: EngineShared } = globalThis;

@@ -10,10 +10,10 @@ const { wait: WAIT, notify: NOTIFY, load: LOAD, store: STORE, compareExchange: C
 /** @typedef {import("../memory/records.mjs").Call} Call */
 
 /** @param {Call} call @returns {boolean} whether a call's index is one of its view's */
-export const isWithin = (call) => call.index >= 0 && call.index < call.length;
+export const isIndexWithin = (call) => call.index >= 0 && call.index < call.length;
 
 /** @param {Call} call @returns {number} how many bytes it touches; 0: none */
-export const bytesAsked = (call) => (isWithin(call) ? call.bytes ?? SIZES[call.kind] : 0);
+export const bytesAsked = (call) => (isIndexWithin(call) ? call.bytes ?? SIZES[call.kind] : 0);
 
 /** @param {Call} call @returns {number} what a call may do, as flags, before it is done */
 export function flagsAsked(call) {

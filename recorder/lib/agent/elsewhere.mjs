@@ -90,7 +90,7 @@ function wait(engine, how, given, buffer) {
  * @param {unknown} buffer on which it is made; undefined if it is made on no array of integers
  */
 export function callElsewhere(engine, how, name, given, buffer) {
-  if (!how.isRecording() || !how.unseen.isTheirs(buffer)) return apply(engine[name], engine, given);
+  if (!how.isRecording() || !how.unseen.isProgramMemory(buffer)) return apply(engine[name], engine, given);
   if (name === "wait") return wait(engine, how, given, buffer);
   if (name === "notify" && how.notify !== undefined) return how.notify(given);
   count(how, buffer);

@@ -1,7 +1,7 @@
 // Where in its code an agent is: the frame of what has called the recorder, or a function of the engine that the
 // recorder stands for.
 
-import { UNKNOWN } from "../memory/sources.mjs";
+import { UNKNOWN_SOURCE } from "../memory/sources.mjs";
 import { mapGet, mapSet, set, uncurried } from "../primordials.mjs";
 import { watching } from "./ordinary/context.mjs";
 
@@ -162,14 +162,14 @@ export const sourceHere = () => placeOf(agentsFrame(sourceHere));
 /** @returns {string | undefined} the same, of code that makes no ordinary access now: that takes half the time */
 export const sourceOfCall = () => placeOf(farFrame(sourceOfCall));
 
-/** @typedef {() => string | undefined} Later finds a place of the agent's own code when it is called */
+/** @typedef {() => string | undefined} PlaceFinder finds a place of the agent's own code when it is called */
 
 /**
  * The same place, found later: that takes most of the time. As a rule the agent's frame is near the one of what its
  * code has called.
  * @param {Function} called the frames above its own are left out
  * @param {number} [near] how many frames are looked at now
- * @returns {Later}
+ * @returns {PlaceFinder}
  */
 export function sourceLater(called, near = FEW_FRAMES) {
   const frame = firstOfAgents(framesHere(called, near));
@@ -198,11 +198,11 @@ export function isCalledByAgents(called) {
 /**
  * The number of where the agent's code is.
  * @param {Sources} sources of the agent
- * @returns {number} `UNKNOWN` if no frame of it is found, or there is no room for it
+ * @returns {number} `UNKNOWN_SOURCE` if no frame of it is found, or there is no room for it
  */
 export function numberHere(sources) {
   const frame = agentsFrame(numberHere);
-  return frame === undefined ? UNKNOWN : numberOf(sources, frame);
+  return frame === undefined ? UNKNOWN_SOURCE : numberOf(sources, frame);
 }
 
 /**

@@ -6,15 +6,15 @@ import {
   apply, construct, defineProperty, getOwnPropertyDescriptor, proxyOf, put, weakGet, weakSet,
 } from "../primordials.mjs";
 import { isCalledByAgents, sourceHere } from "./frames.mjs";
-import { leadsAbroad, peerOf } from "./ordinary/threads.mjs";
+import { leadsAbroad, peerOf } from "./ordinary/given-to-threads.mjs";
 
 const { WeakMap: EngineWeakMap } = globalThis;
 
-/** @typedef {typeof import("node:worker_threads").default} Threads */
+/** @typedef {import("./ordinary/given-to-threads.mjs").ThreadsModule} ThreadsModule */
 /** @typedef {import("./unseen.mjs").Unseen} Unseen */
 
 /**
- * @typedef {object} Serving
+ * @typedef {object} AgentMessageContext
  * @property {() => boolean} isPlaying whether the agent has a part in a run now
  * @property {() => never} end ends the run, for what was noted
  */
@@ -23,7 +23,7 @@ const LISTENING = Object.freeze(["on", "once", "addListener", "addEventListener"
 const HANDLERS = Object.freeze(["onmessage", "onmessageerror"]);
 
 export class Messages {
-  /** @param {Unseen} unseen @param {Serving} serving @param {Threads} threads */
+  /** @param {Unseen} unseen @param {AgentMessageContext} serving @param {ThreadsModule} threads */
   constructor(unseen, serving, threads) {
     this.unseen = unseen;
     this.serving = serving;
@@ -54,7 +54,7 @@ export class Messages {
     }
   }
 
-  /** @param {Threads} threads */
+  /** @param {ThreadsModule} threads */
   #watchPorts(threads) {
     const { prototype } = threads.MessagePort;
     this.#replace(prototype, "postMessage", (port) => this.#post(port));
@@ -94,7 +94,7 @@ export class Messages {
 
   /**
    * A BroadcastChannel reaches other agents, and all other threads of this process.
-   * @param {Threads} threads
+   * @param {ThreadsModule} threads
    */
   #watchChannels(threads) {
     const Engine = threads.BroadcastChannel;
@@ -113,7 +113,7 @@ export class Messages {
     this.#watchHandlers(Engine.prototype);
   }
 
-  /** @param {Threads} threads */
+  /** @param {ThreadsModule} threads */
   #watchWorkers(threads) {
     const { prototype } = threads.Worker;
     for (const name of ["on", "once", "addListener"]) {

@@ -29,13 +29,16 @@ export function isWatchable(buffer, note) {
   return false;
 }
 
-/** @typedef {(made: any, isAgents: boolean) => void} Noting gets what a constructor has made, and whether for agents */
+/**
+ * @typedef {(made: any, isAgents: boolean) => void} MadeCallback gets what a constructor has made, and whether for
+ * agents
+ */
 
 /**
  * Puts a constructor in the place of an engine's own one, which reports what it makes.
  * @param {object} owner
  * @param {string} name
- * @param {Noting} note
+ * @param {MadeCallback} note
  */
 function noteMaking(owner, name, note) {
   /** @type {Function} */
@@ -60,7 +63,7 @@ function noteMaking(owner, name, note) {
  */
 function noteWebAssembly(unseen) {
   const known = new EngineWeakMap();
-  /** @type {Noting} */
+  /** @type {MadeCallback} */
   const note = (memory) => {
     const buffer = memoryBuffer(memory);
     if (!Unseen.isShared(buffer) || weakGet(known, memory) === true) return;

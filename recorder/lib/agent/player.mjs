@@ -7,13 +7,13 @@ import { JOIN, LEAVE, MAKE, TIME_UP } from "../board/journal.mjs";
 import { placeNumber } from "../memory/known-places.mjs";
 import { PHASE, WORD } from "../memory/layout.mjs";
 import { FLAG } from "../memory/log.mjs";
-import { byteOf } from "../memory/memory.mjs";
-import { NOTED } from "./accesses.mjs";
+import { byteOf } from "../memory/recorded-memory.mjs";
+import { NOTED } from "./ordinary-accesses.mjs";
 import { foundBy, leftOpen } from "./answer.mjs";
-import { bytesAsked, effectOf, flagsAsked, isOnlyByTime, isWithin } from "./effects.mjs";
+import { bytesAsked, effectOf, flagsAsked, isIndexWithin, isOnlyByTime } from "./effects.mjs";
 import { engineCall } from "./engine.mjs";
 import { numberAbove } from "./frames.mjs";
-import { Part, RunIsOver } from "./part.mjs";
+import { AgentRun, RunIsOver } from "./agent-run.mjs";
 import { undone } from "./undone.mjs";
 
 const { wait: WAIT, notify: NOTIFY } = CALL_NUMBERS;
@@ -23,17 +23,17 @@ const { RangeError: EngineRangeError, TypeError: EngineTypeError } = globalThis;
 const COMPARES = FLAG.ATOMIC | FLAG.READS | FLAG.WAITERS;
 
 /** @typedef {import("../memory/records.mjs").Call} Call */
-/** @typedef {import("./ordinary/context.mjs").Place} Place */
-/** @typedef {import("./table.mjs").Table} Table */
+/** @typedef {import("./ordinary/context.mjs").WatchedPlace} WatchedPlace */
+/** @typedef {import("./agent-context.mjs").AgentContext} AgentContext */
 
 export class Player {
-  /** @param {number} agent its number @param {Table} table */
-  constructor(agent, table) {
+  /** @param {number} agent its number @param {AgentContext} context */
+  constructor(agent, context) {
     this.agent = agent;
-    this.table = table;
+    this.context = context;
     /** The run in which it began last. What an earlier worker of the agent has begun isn't begun again. */
-    this.started = table.board.turn.lastStart(agent);
-    this.part = new Part(agent, table);
+    this.started = context.board.turn.lastStart(agent);
+    this.part = new AgentRun(agent, context);
   }
 
   /** Whether the agent has a part in a run now. */
@@ -46,7 +46,7 @@ export class Player {
    * @returns {number} one of the board's `ORDER`
    */
   awaitOrder() {
-    const { board } = this.table;
+    const { board } = this.context;
     this.started = board.turn.awaitStart(this.agent, this.started);
     return board.ordered();
   }
@@ -60,7 +60,7 @@ export class Player {
     this.begin();
     let problem;
     try {
-      problem = leftOpen(body(), "an agent", this.table.later.place);
+      problem = leftOpen(body(), "an agent", this.context.later.place);
     } catch (thrown) {
       problem = `threw ${described(thrown)}`;
     }
@@ -73,7 +73,7 @@ export class Player {
    * @param {(thrown: unknown) => string} described
    */
   serve(body, described) {
-    const { board, later } = this.table;
+    const { board, later } = this.context;
     let problem;
     later.begin();
     try {
@@ -83,7 +83,7 @@ export class Player {
       problem = `threw ${described(thrown)}`;
     }
     later.end();
-    board.turn.goHome(this.agent);
+    board.turn.becomeIdle(this.agent);
     board.end.end("finished", problem ?? "");
   }
 
@@ -116,7 +116,7 @@ export class Player {
     this.#ask(call);
     this.untilTurn();
     before?.();
-    this.part.stayInRow(call);
+    this.part.followSchedule(call);
     this.#made(call);
     return source;
   }
@@ -155,43 +155,43 @@ export class Player {
 
   /**
    * Notes an ordinary access that is about to be made.
-   * @param {Place} place
+   * @param {WatchedPlace} place
    * @param {number} from its first byte in the block
    * @param {number} to the byte behind its last one
    * @param {boolean} writes
    */
   seen(place, from, to, writes) {
     const { part } = this;
-    if (part.isOver || this.table.board.words[WORD.ENDED] !== 0) part.interrupted();
+    if (part.isOver || this.context.board.words[WORD.ENDED] !== 0) part.interrupted();
     const noted = part.accesses.note(place, from, to, writes, part.made);
     if (noted === NOTED.SPINS) part.spins("it reads the same bytes again and again without a call of Atomics");
     if (noted !== NOTED.FULL) return;
-    part.meetsLimit(`more than ${this.table.log.most} reads and writes were made that differ`);
+    part.meetsLimit(`more than ${this.context.log.most} reads and writes were made that differ`);
   }
 
   /** @returns {boolean} whether the agent prints nothing: its run is made only to learn or to compare, or is over */
   isSilent() {
     const { isOver, isPlaying } = this.part;
-    const { words } = this.table.board;
+    const { words } = this.context.board;
     return words[WORD.IS_PILOT] === 1 || words[WORD.IS_SILENT] === 1 || (isPlaying && isOver);
   }
 
   /** @returns {number} what time it is in the run */
   look() {
     this.part.needsRun();
-    this.table.board.spins.found(this.agent);
-    this.table.board.vain?.news();
-    return this.table.board.clock.look();
+    this.context.board.spins.found(this.agent);
+    this.context.board.vain?.news();
+    return this.context.board.clock.look();
   }
 
   /** @param {number} milliseconds for which the agent sleeps, and nobody else can wake it */
   doze(milliseconds) {
     this.part.needsRun();
-    this.table.board.clock.pass(milliseconds);
+    this.context.board.clock.pass(milliseconds);
   }
 
   begin() {
-    const { board, stores, later, messages, unseen, chance } = this.table;
+    const { board, stores, later, messages, unseen, chance } = this.context;
     this.part.begin();
     messages.begin();
     unseen.begin();
@@ -206,11 +206,11 @@ export class Player {
   #access(call, view, source) {
     const value = this.#tried(call, source, () => {
       const from = byteOf(call);
-      if (isWithin(call)) this.table.stores.touch(call.block, from, from + SIZES[call.kind]);
+      if (isIndexWithin(call)) this.context.stores.touch(call.block, from, from + SIZES[call.kind]);
       return engineCall(call, view);
     });
     const from = byteOf(call);
-    if (this.table.memory.takeOver(call.block, from, from + SIZES[call.kind])) this.table.board.spins.news();
+    if (this.context.memory.syncShadow(call.block, from, from + SIZES[call.kind])) this.context.board.spins.news();
     this.#log(MAKE, call, FLAG.ATOMIC | effectOf(call, value), source);
     return this.#answer(value, MAKE);
   }
@@ -224,7 +224,7 @@ export class Player {
   #notify(call, view, source) {
     this.#tried(call, source, () => engineCall(call, view));
     this.#log(MAKE, call, FLAG.WAITERS, source);
-    return this.#answer(this.table.board.line.notify(call.block, byteOf(call), call.limit), MAKE);
+    return this.#answer(this.context.board.line.notify(call.block, byteOf(call), call.limit), MAKE);
   }
 
   /**
@@ -235,7 +235,7 @@ export class Player {
    * @param {Function} called
    */
   #wait(call, view, source, called) {
-    const { board, canBlock } = this.table;
+    const { board, canBlock } = this.context;
     const word = this.compared(call, view, source, canBlock);
     if (call.limit !== undefined) board.spins.watch();
     if (word === "not-equal") return this.ends(call, word, source);
@@ -243,14 +243,14 @@ export class Player {
     const milliseconds = call.limit === undefined ? undefined : call.milliseconds ?? call.limit;
     board.wait(this.agent, call.block, byteOf(call), milliseconds);
     this.untilTurn();
-    this.part.stayInRow();
+    this.part.followSchedule();
     const end = board.deadlines.end(this.agent, milliseconds ?? 0);
     if (end === END.WOKEN) {
       this.#log(LEAVE, call, FLAG.WAITERS, source);
       return this.#answer("ok", LEAVE);
     }
     if (isOnlyByTime(call, view, end)) {
-      const line = numberAbove(this.table.sources, called);
+      const line = numberAbove(this.context.sources, called);
       this.#log(TIME_UP, call, FLAG.WAITERS | FLAG.ONLY_BY_TIME, line);
     } else this.#log(TIME_UP, call, FLAG.WAITERS, source);
     return this.#answer("timed-out", TIME_UP);
@@ -265,10 +265,10 @@ export class Player {
    * @returns {"not-equal" | "timed-out"}
    */
   compared(call, view, source, isAllowed = true) {
-    const { stores } = this.table;
+    const { stores } = this.context;
     return this.#tried(call, source, () => {
       const from = byteOf(call);
-      if (isWithin(call)) stores.touch(call.block, from, from + SIZES[call.kind]);
+      if (isIndexWithin(call)) stores.touch(call.block, from, from + SIZES[call.kind]);
       const found = engineCall(call, view);
       if (!isAllowed) throw new EngineTypeError("Atomics.wait cannot be called in this context");
       return found;
@@ -283,9 +283,9 @@ export class Player {
 
   /** @param {Call} call a wait that joins the line @param {number} source @param {number} [more] flags */
   joins(call, source, more = 0) {
-    this.table.records.join(this.part.made);
+    this.context.records.join(this.part.made);
     this.#log(JOIN, call, COMPARES | more, source);
-    this.table.board.did(this.agent, JOIN);
+    this.context.board.did(this.agent, JOIN);
   }
 
   /**
@@ -302,7 +302,7 @@ export class Player {
     } catch (error) {
       const isRange = error instanceof EngineRangeError;
       // No index is to blame, so the stack ran out: that is no answer of the call.
-      if (isRange && isWithin(call)) this.part.outOfStack();
+      if (isRange && isIndexWithin(call)) this.part.outOfStack();
       this.#log(MAKE, call, 0, source);
       this.#answer(isRange ? "RangeError" : "TypeError", MAKE);
       throw error;
@@ -312,7 +312,7 @@ export class Player {
   /** @param {number} event @param {Call} call @param {number} flags @param {number} source */
   #log(event, call, flags, source) {
     const from = byteOf(call);
-    this.table.log.append(
+    this.context.log.append(
       event, this.agent, call.call, flags, this.part.made, call.block, from, from + SIZES[call.kind], call, source,
     );
   }
@@ -325,7 +325,7 @@ export class Player {
    * @returns {T}
    */
   #answer(answer, event) {
-    const { board, records } = this.table;
+    const { board, records } = this.context;
     records.answer(this.part.made, answer);
     if (board.spins.isWatching()) this.#lookForSpin(event);
     this.part.made += 1;
@@ -338,14 +338,14 @@ export class Player {
 
   /** @param {number} event that was logged for the agent's last call, which has its answer */
   #lookForSpin(event) {
-    const { board: { spins }, records } = this.table;
+    const { board: { spins }, records } = this.context;
     if (event !== LEAVE && records.comesAgain(this.part.made)) spins.repeated(this.agent);
     else spins.found(this.agent);
   }
 
   /** @param {Call} call that the agent asks for */
   #ask(call) {
-    const { board } = this.table;
+    const { board } = this.context;
     const bytes = bytesAsked(call);
     const byte = byteOf(call);
     const from = bytes === 0 ? 0 : placeNumber(call.block, byte);
@@ -355,21 +355,21 @@ export class Player {
 
   /** @param {Call} call that is made now */
   #made(call) {
-    this.table.records.begin(this.part.made, call);
-    this.table.board.vain?.news();
+    this.context.records.begin(this.part.made, call);
+    this.context.board.vain?.news();
     this.part.last = call;
   }
 
   /** Sleeps until the agent's move was picked. */
   untilTurn() {
-    const { board } = this.table;
+    const { board } = this.context;
     if (!board.pass(this.agent)) board.turn.sleep(this.agent);
-    if (board.isOverFor(this.agent)) this.part.sentHome();
+    if (board.isOverFor(this.agent)) this.part.cancelled();
   }
 
   /** @param {string | undefined} problem why the agent's code ended early, if it did */
   #finish(problem) {
-    const { board, later, messages, unseen } = this.table;
+    const { board, later, messages, unseen } = this.context;
     later.end();
     if (problem === undefined && !this.part.isOver) messages.noteLeft();
     unseen.write();
@@ -385,7 +385,7 @@ export class Player {
     }
     this.part.isPlaying = false;
     board.line.become(this.agent, PHASE.FINISHED);
-    board.turn.goHome(this.agent);
+    board.turn.becomeIdle(this.agent);
     if (!hasTurn) return;
     const why = problem ?? undone(later, "an agent");
     if (why === undefined) board.pass(this.agent);
@@ -394,6 +394,6 @@ export class Player {
 
   /** @param {Function} called @returns {number} where the agent's code is, if sources are noted */
   #source(called) {
-    return this.table.board.words[WORD.NOTES_SOURCES] === 1 ? numberAbove(this.table.sources, called) : 0;
+    return this.context.board.words[WORD.NOTES_SOURCES] === 1 ? numberAbove(this.context.sources, called) : 0;
   }
 }

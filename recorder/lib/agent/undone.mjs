@@ -1,13 +1,13 @@
 // Why a run fails when an agent has left something behind, in words.
 
-import { callText, viewName } from "../memory/spelling.mjs";
+import { namedCallText, viewName } from "../memory/spelling.mjs";
 
-/** @typedef {import("./later.mjs").Later} Later */
+/** @typedef {import("./pending-work.mjs").PendingWork} PendingWork */
 
 /**
  * @param {string} what goes on later, in words
  * @param {string} who
- * @param {Later} later which knows where, if anybody does
+ * @param {PendingWork} later which knows where, if anybody does
  */
 export const laterText = (what, who, { place }) =>
   `goes on later, by ${what}, but ${who} must be synchronous${atText(place)}`;
@@ -17,7 +17,7 @@ export const atText = (place) => (place === undefined ? "" : `\n    at ${place}`
 
 /**
  * What code that has ended has left undone.
- * @param {Later} later
+ * @param {PendingWork} later
  * @param {string} who
  * @returns {string | undefined}
  */
@@ -32,15 +32,15 @@ export function undone(later, who) {
 
 /**
  * A change of a byte that nothing stands for.
- * @param {import("../memory/memory.mjs").Change} change
+ * @param {import("../memory/recorded-memory.mjs").ByteChange} change
  * @param {{ agent: number, made: number, last: import("../memory/records.mjs").Call | undefined,
- *   table: import("./table.mjs").Table }} part of the agent that made it
+ *   context: import("./agent-context.mjs").AgentContext }} part of the agent that made it
  */
-export function changeText({ block, byte, was, is }, { agent, made, last, table }) {
+export function changeText({ block, byte, was, is }, { agent, made, last, context }) {
   const when = last === undefined || made === 0
     ? "before its first call"
-    : `after its call ${made - 1}, ${callText(viewName(table.lengths, last), last)}`;
+    : `after its call ${made - 1}, ${namedCallText(viewName(context.lengths, last), last)}`;
   const what = `agent ${agent} changed byte ${byte} of block ${block} from ${was} to ${is}`;
-  if (table.ordinary === "watch") return `${what} where no access was seen, ${when}: try --ordinary store`;
+  if (context.ordinary === "watch") return `${what} where no access was seen, ${when}: try --ordinary store`;
   return `${what} without a call of Atomics, ${when}`;
 }

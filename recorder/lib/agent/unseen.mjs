@@ -13,7 +13,7 @@ const { WeakMap: EngineWeakMap, SharedArrayBuffer: EngineShared } = globalThis;
 const MOST_USES = 100_000;
 
 /**
- * @typedef {object} Memory shared memory that isn't recorded
+ * @typedef {object} UnrecordedMemory shared memory that isn't recorded
  * @property {Note} note of the run that goes on
  * @property {number} run the number of the run in which it was used last
  */
@@ -24,7 +24,7 @@ export class Unseen {
     this.isAllowed = isAllowed;
     /** @type {Notes | undefined} the notes that it is written to; none while the module is being loaded */
     this.notes = undefined;
-    /** @type {WeakMap<object, Memory>} by their buffers */
+    /** @type {WeakMap<object, UnrecordedMemory>} by their buffers */
     this.memories = new EngineWeakMap();
     /**
      * @type {WeakMap<object, boolean>} buffers that aren't watched: whether they are the recorder's or node's, or
@@ -65,7 +65,7 @@ export class Unseen {
   }
 
   /** @param {unknown} buffer @returns {buffer is SharedArrayBuffer} whether calls of Atomics on it are noted */
-  isTheirs(buffer) {
+  isProgramMemory(buffer) {
     return Unseen.isShared(buffer) && weakGet(this.others, buffer) !== true;
   }
 

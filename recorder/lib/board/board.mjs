@@ -10,17 +10,17 @@ import { FLAG } from "../memory/log.mjs";
 import { NamedPlaces } from "../memory/named-places.mjs";
 import { NotedPlaces } from "../memory/noted-places.mjs";
 import { Random } from "../memory/random.mjs";
-import { Answers } from "./answers.mjs";
+import { RealAnswers } from "./real-answers.mjs";
 import { AsyncWaiters } from "./async-waiters.mjs";
 import { Clock } from "./clock.mjs";
 import { Deadlines } from "./deadlines.mjs";
 import { End } from "./end.mjs";
 import { Journal, MOST_MOVES, MOVES } from "./journal.mjs";
 import { Lags } from "./lags.mjs";
-import { Line } from "./line.mjs";
-import { LOOK, Row, STRAYS } from "./row.mjs";
+import { WaiterLine } from "./line.mjs";
+import { DIVERGES, DrawnSchedule, REAL_ANSWER } from "./drawn-schedule.mjs";
 import { Spins } from "./spins.mjs";
-import { NOBODY_MOVES, Strategy } from "./strategy.mjs";
+import { NOBODY_CAN_MOVE, Strategy } from "./strategy.mjs";
 import { NEVER } from "./strategy/ways.mjs";
 import { REASON_BYTES, Turn } from "./turn.mjs";
 import { Vain } from "./vain.mjs";
@@ -43,7 +43,7 @@ const TEXT_BYTES = 16_384;
  * @property {SharedArrayBuffer} vain
  * @property {SharedArrayBuffer} places
  * @property {SharedArrayBuffer} noted
- * @property {import("./row.mjs").RowMemory} row
+ * @property {import("./drawn-schedule.mjs").DrawnScheduleMemory} row
  * @property {SharedArrayBuffer} [waiters] of a program: for the waits of Atomics.waitAsync
  * @property {SharedArrayBuffer} [names] of a program: the names by which pilots know its memory
  */
@@ -63,7 +63,7 @@ export class Board {
       vain: Vain.memory(agents),
       places: KnownPlaces.memory(),
       noted: NotedPlaces.memory(),
-      row: Row.memory(),
+      row: DrawnSchedule.memory(),
     };
   }
 
@@ -79,15 +79,15 @@ export class Board {
     this.spins = new Spins(this.words, agents);
     const isProgram = rules.early !== undefined;
     const lags = isProgram ? new Lags(memory.lags, this.words, this.clock, this.spins, rules) : undefined;
-    this.line = new Line(this.words, agents, this.waiters, lags);
+    this.line = new WaiterLine(this.words, agents, this.waiters, lags);
     this.journal = new Journal(this.words, new Float64Array(memory.views), agents);
     const { places, names } = memory;
     this.noted = new NotedPlaces(memory.noted);
     this.places = names === undefined ? new KnownPlaces(places) : new NamedPlaces(places, names);
     this.deadlines = new Deadlines(memory.early, this.words, this.clock, this.spins, agents, lags);
     this.vain = isProgram ? new Vain(memory.vain, this.words, agents) : undefined;
-    this.answers = new Answers(this.words, this.deadlines, agents);
-    this.row = new Row(memory.row, this.deadlines, this.answers, this.words, agents);
+    this.answers = new RealAnswers(this.words, this.deadlines, agents);
+    this.row = new DrawnSchedule(memory.row, this.deadlines, this.answers, this.words, agents);
     const random = new Random(new Int32Array(memory.words, WORD.RANDOM * 4, 4));
     this.strategy = new Strategy(this.words, rules, random, this.places, this.row, this.deadlines, this.answers);
   }
@@ -122,12 +122,12 @@ export class Board {
     this.turn.start(0);
   }
 
-  /** Sends home the agents that ask or wait in a run that has ended. */
-  dismiss() {
-    this.end.dismiss();
+  /** Cancels the agents that ask or wait in a run that has ended. */
+  cancelAll() {
+    this.end.cancelAll();
     for (let agent = 0; agent < this.rules.agents; agent += 1) {
       const phase = this.line.phase(agent);
-      if (phase !== PHASE.RUNS && phase !== PHASE.FINISHED) this.turn.sendHome(agent);
+      if (phase !== PHASE.RUNS && phase !== PHASE.FINISHED) this.turn.cancel(agent);
     }
   }
 
@@ -149,7 +149,7 @@ export class Board {
   pass(agent) {
     const { answers, strategy, turn, end, line, rules } = this;
     const first = strategy.nextToStart();
-    if (first !== NOBODY_MOVES) {
+    if (first !== NOBODY_CAN_MOVE) {
       turn.start(first);
       return false;
     }
@@ -162,8 +162,8 @@ export class Board {
       return false;
     }
     const next = strategy.next();
-    if (next === STRAYS) end.end("failed", "");
-    else if (next === NOBODY_MOVES) end.end(this.#standstill(), "");
+    if (next === DIVERGES) end.end("failed", "");
+    else if (next === NOBODY_CAN_MOVE) end.end(this.#standstill(), "");
     else if (next !== agent) turn.give(next);
     return next === agent;
   }
@@ -233,25 +233,25 @@ export class Board {
   /**
    * A real answer has come to an agent: that is its move.
    * @param {number} agent
-   * @returns {boolean} whether it may come now; if not, the run has strayed from its row by it
+   * @returns {boolean} whether it may come now; if not, the run has diverged from its row by it
    */
   answered(agent) {
     const { answers, row, strategy } = this;
     if (!row.admits(agent)) return false;
     answers.goesOn(agent);
     this.vain?.news();
-    strategy.moves(agent, agent + LOOK);
+    strategy.moves(agent, agent + REAL_ANSWER);
     if (answers.came(agent)) this.turned();
     return true;
   }
 
   /** @param {number} agent that has looked for a real answer in vain */
-  missed(agent) {
-    this.answers.missed(agent);
+  polledInVain(agent) {
+    this.answers.polledInVain(agent);
     this.row.misses();
   }
 
-  /** @returns {import("./end.mjs").Ended} how a run ends if nobody can move */
+  /** @returns {import("./end.mjs").BoardEnding} how a run ends if nobody can move */
   #standstill() {
     const { line, words } = this;
     if (this.#anyAgent((each) => line.waits(each) && !line.isIdle(each))) return "deadlock";

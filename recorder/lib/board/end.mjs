@@ -8,7 +8,7 @@ const { load, store, compareExchange, wait, notify } = Atomics;
 const encode = uncurried(TextEncoder.prototype.encodeInto);
 const encoder = new TextEncoder();
 
-/** @typedef {"finished" | "deadlock" | "failed" | "limit" | "stuck"} Ended how a run ends by itself */
+/** @typedef {"finished" | "deadlock" | "failed" | "limit" | "stuck"} BoardEnding how a run ends by itself */
 
 /**
  * @typedef {object} Met who has met a limit
@@ -16,7 +16,7 @@ const encoder = new TextEncoder();
  * @property {boolean} spins whether it does the same again and again
  */
 
-/** @type {readonly Ended[]} */
+/** @type {readonly BoardEnding[]} */
 const ENDINGS = Object.freeze(["finished", "deadlock", "failed", "limit", "stuck"]);
 
 // The word ENDED.
@@ -66,19 +66,19 @@ export class End {
     if (found !== ENDED) wait(this.words, WORD.ENDED, found, milliseconds);
   }
 
-  /** @returns {boolean} whether the agents of this run are sent home */
+  /** @returns {boolean} whether the agents of this run are cancelled */
   isOver() {
     return load(this.words, WORD.OVER) === 1;
   }
 
-  /** @returns {boolean} whether agents are sent home since none could move any more, though not all had ended */
+  /** @returns {boolean} whether agents are cancelled since none could move any more, though not all had ended */
   isStandstill() {
     const ending = ENDINGS[this.words[WORD.ENDING]];
     return this.isOver() && (ending === "stuck" || ending === "deadlock");
   }
 
-  /** Sends home the agents of a run that has ended. */
-  dismiss() {
+  /** Cancels the agents of a run that has ended. */
+  cancelAll() {
     store(this.words, WORD.OVER, 1);
   }
 
@@ -94,8 +94,8 @@ export class End {
   }
 
   /**
-   * Ends the run. The agent's thread that does it still has to go home.
-   * @param {Ended} ending
+   * Ends the run. The agent's thread that does it still has to become idle.
+   * @param {BoardEnding} ending
    * @param {string} detail
    */
   end(ending, detail) {
@@ -108,7 +108,7 @@ export class End {
 
   /**
    * The same, if no agent has the turn any more.
-   * @param {Ended} ending
+   * @param {BoardEnding} ending
    * @param {string} detail
    */
   close(ending, detail) {
@@ -119,14 +119,14 @@ export class End {
 
   /**
    * How the run ended. What a deadlock is made of is in the log alone.
-   * @returns {{ ending: Ended, detail: string }}
+   * @returns {{ ending: BoardEnding, detail: string }}
    */
   result() {
     const detail = this.text.toString("utf8", 0, this.words[WORD.TEXT_LENGTH]);
     return { ending: ENDINGS[this.words[WORD.ENDING]], detail };
   }
 
-  /** @param {Ended} ending @param {string} detail */
+  /** @param {BoardEnding} ending @param {string} detail */
   #note(ending, detail) {
     this.words[WORD.TEXT_LENGTH] = encode(encoder, detail, this.text).written;
     this.words[WORD.ENDING] = positionIn(ENDINGS, ending);

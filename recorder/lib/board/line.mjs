@@ -5,7 +5,7 @@ import { NO_WAITER } from "./async-waiters.mjs";
 
 const { load } = Atomics;
 
-export class Line {
+export class WaiterLine {
   /**
    * @param {Int32Array} words of the board
    * @param {number} agents how many

@@ -5,13 +5,13 @@
 
 import { AGENT_WORD, PHASE, WORD, wordOf } from "../memory/layout.mjs";
 import { MOST_MOVES } from "./journal.mjs";
-import { isLook, moverOf } from "./row.mjs";
+import { isRealAnswer, moverOf } from "./drawn-schedule.mjs";
 import { Able } from "./strategy/able.mjs";
-import { Asked } from "./strategy/asked.mjs";
+import { PendingAccesses } from "./strategy/pending-accesses.mjs";
 import { Late } from "./strategy/late.mjs";
 import { Slow } from "./strategy/slow.mjs";
 import { Starts } from "./strategy/starts.mjs";
-import { STRATEGIES } from "./strategy/table.mjs";
+import { STRATEGIES } from "./strategy/strategies.mjs";
 import { NEVER, PILOT_WAYS } from "./strategy/ways.mjs";
 
 const { imul } = Math;
@@ -33,7 +33,7 @@ const { imul } = Math;
 /** @typedef {import("../memory/random.mjs").Random} Random */
 
 /** What `next` returns if nobody moves any more. */
-export const NOBODY_MOVES = -1;
+export const NOBODY_CAN_MOVE = -1;
 
 // The draw is among all that can move: each call may concern other agents.
 const NOBODY_GOES_ON = -2;
@@ -80,9 +80,9 @@ export class Strategy {
    * @param {Rules} rules
    * @param {Random} random
    * @param {import("../memory/known-places.mjs").KnownPlaces} places
-   * @param {import("./row.mjs").Row} row
+   * @param {import("./drawn-schedule.mjs").DrawnSchedule} row
    * @param {import("./deadlines.mjs").Deadlines} deadlines
-   * @param {import("./answers.mjs").Answers} answers
+   * @param {import("./real-answers.mjs").RealAnswers} answers
    */
   constructor(words, rules, random, places, row, deadlines, answers) {
     this.words = words;
@@ -95,7 +95,7 @@ export class Strategy {
     this.deadlines = deadlines;
     this.answers = answers;
     this.able = new Able(rules.agents);
-    this.asked = new Asked(words, places);
+    this.asked = new PendingAccesses(words, places);
     this.slow = new Slow(words, random);
     this.late = new Late(words, random, this.asked, rules.agents);
     this.ways = this.#made(rules.ways);
@@ -105,7 +105,7 @@ export class Strategy {
   /** @param {number} seed @param {boolean} [isPilot] */
   begin(seed, isPilot = false) {
     const { words } = this;
-    words[WORD.LAST] = NOBODY_MOVES;
+    words[WORD.LAST] = NOBODY_CAN_MOVE;
     words[WORD.IS_PILOT] = isPilot ? 1 : 0;
     this.starts.begin();
     words[WORD.STRATEGY] = seed % (isPilot ? this.pilotWays : this.ways).length;
@@ -143,15 +143,15 @@ export class Strategy {
   }
 
   /**
-   * @returns {number} an agent that begins now, or `NOBODY_MOVES`: one that is due, that is to move next by the row, or
-   * any if nobody else can go on
+   * @returns {number} an agent that begins now, or `NOBODY_CAN_MOVE`: one that is due, that is to move next by the row,
+   * or any if nobody else can go on
    */
   nextToStart() {
     const { row, starts } = this;
-    if (starts.areAll) return NOBODY_MOVES;
-    const wanted = row.isForced() ? row.wanted() : NOBODY_MOVES;
-    const isWanted = wanted !== NOBODY_MOVES && !starts.hasBegun(wanted);
-    return isWanted || starts.isDue || !this.#canGoOn() ? starts.next() : NOBODY_MOVES;
+    if (starts.areAll) return NOBODY_CAN_MOVE;
+    const wanted = row.isForced() ? row.wanted() : NOBODY_CAN_MOVE;
+    const isWanted = wanted !== NOBODY_CAN_MOVE && !starts.hasBegun(wanted);
+    return isWanted || starts.isDue || !this.#canGoOn() ? starts.next() : NOBODY_CAN_MOVE;
   }
 
   /** @returns {boolean} whether an agent that has begun can go on by itself, and does more than read the same again */
@@ -163,14 +163,14 @@ export class Strategy {
     return false;
   }
 
-  /** @returns {number} who moves next; `NOBODY_MOVES` if nobody can, `STRAYS` if a row can't be followed */
+  /** @returns {number} who moves next; `NOBODY_CAN_MOVE` if nobody can, `STRAYS` if a row can't be followed */
   next() {
     const { row, words } = this;
     const next = row.isForced() ? row.next() : this.#drawn();
     if (next < 0) return next;
     const agent = moverOf(next);
     // A real answer is noted when it has come.
-    const looks = isLook(next) || (!row.isForced() && this.#looks(next));
+    const looks = isRealAnswer(next) || (!row.isForced() && this.#looks(next));
     words[WORD.LOOKS] = looks ? 1 : 0;
     if (!looks) this.moves(agent, next);
     return agent;
@@ -180,7 +180,7 @@ export class Strategy {
   moves(agent, drawn) {
     this.row.note(drawn);
     this.words[WORD.LAST] = agent;
-    if (!isLook(drawn)) this.answers.moved(agent);
+    if (!isRealAnswer(drawn)) this.answers.moved(agent);
   }
 
   /** @returns {boolean} whether there are moves left for whatever is done next */
@@ -191,14 +191,14 @@ export class Strategy {
     return words[WORD.MOVES] + words[WORD.MORE_ANSWERS] + MOST_MOVES <= most;
   }
 
-  /** @returns {number} who moves next by the seed, or `NOBODY_MOVES` */
+  /** @returns {number} who moves next by the seed, or `NOBODY_CAN_MOVE` */
   #drawn() {
     const { able } = this;
     const last = this.words[WORD.LAST];
     if (last >= 0 && this.#goesOn(last)) return last;
     const sure = this.#gather();
     if (sure !== NOBODY_GOES_ON) return sure;
-    if (able.count === 0) return NOBODY_MOVES;
+    if (able.count === 0) return NOBODY_CAN_MOVE;
     if (this.#isLate) this.late.hold(able);
     if ((this.words[WORD.CHANGES] & SLOW) !== 0) this.slow.hold(able);
     const next = this.#way().drawing.drawn(able, last);

@@ -2,7 +2,7 @@
 // who moves next, and the turn is handed to that agent's thread. No other thread is between them, so a call costs one
 // change of threads at most, and none if the same agent goes on.
 
-import { AGENT_WORD, NOBODY, ORDER, STATUS, WORD, agentOf, inCall, inCode, wordOf } from "../memory/layout.mjs";
+import { AGENT_WORD, NOBODY, ORDER, WORD, WORKER_STATUS, agentOf, inCall, inCode, wordOf } from "../memory/layout.mjs";
 import { uncurried } from "../primordials.mjs";
 import { Patience } from "../processes/patience.mjs";
 
@@ -74,7 +74,7 @@ export class Turn {
   /** @param {number} agent gets the turn; its worker may just have died */
   give(agent) {
     store(this.words, WORD.TURN, inCall(agent));
-    if (load(this.words, wordOf(agent, AGENT_WORD.STATUS)) === STATUS.DEAD) this.#dies(agent);
+    if (load(this.words, wordOf(agent, AGENT_WORD.STATUS)) === WORKER_STATUS.DEAD) this.#dies(agent);
     else this.wake(agent);
   }
 
@@ -84,9 +84,9 @@ export class Turn {
    */
   start(agent) {
     const { words } = this;
-    compareExchange(words, wordOf(agent, AGENT_WORD.STATUS), STATUS.IDLE, STATUS.BUSY);
+    compareExchange(words, wordOf(agent, AGENT_WORD.STATUS), WORKER_STATUS.IDLE, WORKER_STATUS.BUSY);
     store(words, WORD.TURN, inCall(agent));
-    if (load(words, wordOf(agent, AGENT_WORD.STATUS)) === STATUS.DEAD) {
+    if (load(words, wordOf(agent, AGENT_WORD.STATUS)) === WORKER_STATUS.DEAD) {
       this.#dies(agent);
       return;
     }
@@ -101,7 +101,7 @@ export class Turn {
    */
   call(agent) {
     const { words } = this;
-    store(words, wordOf(agent, AGENT_WORD.STATUS), STATUS.BUSY);
+    store(words, wordOf(agent, AGENT_WORD.STATUS), WORKER_STATUS.BUSY);
     const word = wordOf(agent, AGENT_WORD.START);
     store(words, word, load(words, WORD.RUN));
     notify(words, word);
@@ -113,20 +113,20 @@ export class Turn {
   }
 
   /** @param {number} agent that sleeps, or is about to: its run is over */
-  sendHome(agent) {
+  cancel(agent) {
     this.#wakeFor(agent, IS_OVER);
   }
 
-  /** @param {number} agent sleeps until it has the turn, or is sent home */
+  /** @param {number} agent sleeps until it has the turn, or is cancelled */
   sleep(agent) {
     const word = wordOf(agent, AGENT_WORD.GO);
     while (load(this.words, word) === NOTHING) wait(this.words, word, NOTHING);
-    // One that is sent home notes first where its code is.
+    // One that is cancelled notes first where its code is.
     compareExchange(this.words, word, GOES_ON, NOTHING);
   }
 
   /** @param {number} agent knows that its run is over: from here on its own code takes the time */
-  learnsEnd(agent) {
+  acknowledgeEnd(agent) {
     store(this.words, wordOf(agent, AGENT_WORD.GO), NOTHING);
   }
 
@@ -148,9 +148,9 @@ export class Turn {
   }
 
   /** @param {number} agent whose code has ended, and that can begin again */
-  goHome(agent) {
+  becomeIdle(agent) {
     const word = wordOf(agent, AGENT_WORD.STATUS);
-    store(this.words, word, STATUS.IDLE);
+    store(this.words, word, WORKER_STATUS.IDLE);
     notify(this.words, word);
   }
 
@@ -159,9 +159,9 @@ export class Turn {
    * @param {number} agent
    * @returns {never}
    */
-  park(agent) {
+  parkForever(agent) {
     const word = wordOf(agent, AGENT_WORD.STATUS);
-    store(this.words, word, STATUS.PARKED);
+    store(this.words, word, WORKER_STATUS.PARKED);
     notify(this.words, word);
     for (;;) wait(NEVER, 0, 0);
   }
@@ -175,24 +175,24 @@ export class Turn {
    */
   isBack(agent, milliseconds) {
     const word = wordOf(agent, AGENT_WORD.STATUS);
-    if (load(this.words, word) === STATUS.BUSY) this.#awaitBack(agent, milliseconds);
-    return load(this.words, word) === STATUS.IDLE;
+    if (load(this.words, word) === WORKER_STATUS.BUSY) this.#awaitBack(agent, milliseconds);
+    return load(this.words, word) === WORKER_STATUS.IDLE;
   }
 
   /** @param {number} agent whose own code may go on @param {number} milliseconds as above */
   #awaitBack(agent, milliseconds) {
     const word = wordOf(agent, AGENT_WORD.STATUS);
     const [learning, ending] = [SECONDS_TO_LEARN, milliseconds / 1_000].map((seconds) => new Patience(seconds));
-    while (load(this.words, word) === STATUS.BUSY) {
+    while (load(this.words, word) === WORKER_STATUS.BUSY) {
       if (!learning.isOver() && this.#isToLearn(agent)) ending.renew();
       if (ending.isOver()) return;
-      wait(this.words, word, STATUS.BUSY, ending.step);
+      wait(this.words, word, WORKER_STATUS.BUSY, ending.step);
     }
   }
 
   /** @param {number} agent @returns {boolean} */
   isParked(agent) {
-    return load(this.words, wordOf(agent, AGENT_WORD.STATUS)) === STATUS.PARKED;
+    return load(this.words, wordOf(agent, AGENT_WORD.STATUS)) === WORKER_STATUS.PARKED;
   }
 
   /**
@@ -223,7 +223,7 @@ export class Turn {
 
   /** @param {number} agent whose worker was started anew */
   arrive(agent) {
-    store(this.words, wordOf(agent, AGENT_WORD.STATUS), STATUS.IDLE);
+    store(this.words, wordOf(agent, AGENT_WORD.STATUS), WORKER_STATUS.IDLE);
   }
 
   /**
@@ -236,7 +236,7 @@ export class Turn {
     text.fill(0);
     writeText(text, why, "utf8");
     const word = wordOf(agent, AGENT_WORD.STATUS);
-    store(this.words, word, STATUS.DEAD);
+    store(this.words, word, WORKER_STATUS.DEAD);
     notify(this.words, word);
     this.#dies(agent);
   }
@@ -248,7 +248,7 @@ export class Turn {
     notify(this.words, word);
   }
 
-  /** @param {number} agent @returns {boolean} whether it was sent home, and doesn't know yet that its run is over */
+  /** @param {number} agent @returns {boolean} whether it was cancelled, and doesn't know yet that its run is over */
   #isToLearn(agent) {
     return load(this.words, wordOf(agent, AGENT_WORD.GO)) === IS_OVER;
   }

@@ -8,7 +8,7 @@ import { Difference } from "./difference.mjs";
 
 /** @typedef {import("../run/outcome.mjs").One} One */
 /** @typedef {import("../run/outcome.mjs").Outcome} Outcome */
-/** @typedef {import("../simulator/chosen.mjs").Simulator} Simulator */
+/** @typedef {import("../simulator/chosen.mjs").ChosenSimulator} ChosenSimulator */
 
 /**
  * @typedef {object} Check
@@ -23,8 +23,8 @@ const FOUND_UNORDERED = 5;
 
 /**
  * Asks the simulator. If it stops in the middle, that is no answer.
- * @param {Simulator} simulator
- * @param {import("../simulator/module.mjs").Job} job
+ * @param {ChosenSimulator} simulator
+ * @param {import("../simulator/module.mjs").SimulatorJob} job
  * @param {string} input
  * @param {string} what it is asked about
  * @returns {{ status?: number | null, output: string, failure: string }} with the failure that another status is
@@ -42,7 +42,7 @@ function asked(simulator, job, input, what) {
 
 /**
  * Replays a run, and compares every answer, how far each agent came, and the bytes at the end.
- * @param {Simulator} simulator
+ * @param {ChosenSimulator} simulator
  * @param {Outcome} outcome
  * @throws {Difference}
  */
@@ -61,7 +61,7 @@ function checkReplay(simulator, { seed, script = "", report = "" }) {
 
 /**
  * Judges the accesses of a run: those of its script, or of its trace if the script hasn't all of them.
- * @param {Simulator} simulator
+ * @param {ChosenSimulator} simulator
  * @param {Outcome} outcome
  * @param {import("../run/outcome.mjs").Judgement} judgement the recorder's
  * @throws {Difference}
@@ -96,10 +96,10 @@ function whyNot({ script, noScript }, every) {
 
 /**
  * Checks a run if that can be done.
- * @param {Simulator | undefined} simulator undefined: the options say that runs aren't checked
+ * @param {ChosenSimulator | undefined} simulator undefined: the options say that runs aren't checked
  * @param {One} run
  * @param {number} [every] one in how many of the runs that don't fail is checked
- * @param {import("./repeats.mjs").Repeats} [repeats] runs that have passed; without, each run is replayed
+ * @param {import("./checked-runs.mjs").CheckedRuns} [repeats] runs that have passed; without, each run is replayed
  * @returns {Outcome & Check}
  * @throws {Difference | NoSabsim}
  */

@@ -1,6 +1,6 @@
 // A line that shows how far a search of every schedule is, on a terminal only, and if it takes longer than a second.
 
-import { counted, digits } from "../run/words.mjs";
+import { countText, digits } from "../run/summary-words.mjs";
 
 const SHOWN_AFTER_MILLISECONDS = 1_000;
 const BETWEEN_LINES_MILLISECONDS = 100;
@@ -27,8 +27,8 @@ export class EveryProgress {
 
   #show() {
     const { every: { outcomes, states }, runs } = this;
-    const made = `${digits(outcomes.length)} of ${counted(runs, "real run")}`;
-    process.stderr.write(`\r\x1b[K${counted(states, "state")}, ${made}`);
+    const made = `${digits(outcomes.length)} of ${countText(runs, "real run")}`;
+    process.stderr.write(`\r\x1b[K${countText(states, "state")}, ${made}`);
     this.timer = setTimeout(() => this.#show(), BETWEEN_LINES_MILLISECONDS);
   }
 }

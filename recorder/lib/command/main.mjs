@@ -6,11 +6,11 @@ import { needsJavaScript } from "../library/program-file.mjs";
 import { Refused } from "../options/refused.mjs";
 import { RemoteJob } from "../seeds/remote-job.mjs";
 import { endBy, Interrupted } from "./interruption.mjs";
-import { optionsOf } from "./options.mjs";
+import { commandOptionsOf } from "./options.mjs";
 import { print } from "./print.mjs";
 import { messageOf } from "./problems.mjs";
 import { Session } from "./session.mjs";
-import { STATUS } from "./status.mjs";
+import { EXIT_STATUS } from "./status.mjs";
 
 /** @typedef {import("../seeds/runs.mjs").AnyJob} AnyJob */
 
@@ -35,7 +35,7 @@ function complain(problem) {
  */
 async function run(words, job) {
   try {
-    const asked = optionsOf(words);
+    const asked = commandOptionsOf(words);
     if ("text" in asked) {
       await print(asked.text);
       return { failed: false, problems: [] };
@@ -47,7 +47,7 @@ async function run(words, job) {
     }
     const module = existing(/** @type {any} */ (asked));
     if (asked.all) {
-      const { EverySession } = await import("./every.mjs");
+      const { EverySession } = await import("./every-session.mjs");
       return await new EverySession(asked, module).run();
     }
     if (replay === undefined) return await new Session(asked, module, job).run();
@@ -78,8 +78,8 @@ export async function obey(words, job) {
     if (!(problem instanceof Interrupted)) complain(problem);
   }
   if (interrupted !== undefined) await endBy(interrupted.by);
-  if (problems.length > 0) return problems[0] instanceof Refused ? STATUS.REFUSED : STATUS.NOT_DONE;
-  return failed ? STATUS.SOME_FAILED : STATUS.NONE_FAILED;
+  if (problems.length > 0) return problems[0] instanceof Refused ? EXIT_STATUS.REFUSED : EXIT_STATUS.NOT_DONE;
+  return failed ? EXIT_STATUS.SOME_FAILED : EXIT_STATUS.NONE_FAILED;
 }
 
 /**

@@ -3,15 +3,15 @@
 import { readFileSync } from "node:fs";
 import { Refused } from "../options/refused.mjs";
 import { readAll } from "../processes/read-all.mjs";
-import { united, without } from "../seeds/ranges.mjs";
-import { differenceOf } from "./asked.mjs";
+import { seedsWithout, united } from "../seeds/ranges.mjs";
+import { differenceOf } from "./requested-runs.mjs";
 import { FORM, whyNoSummary } from "./summary-form.mjs";
 import { Summary } from "./summary.mjs";
 
 /** @typedef {import("./summary-form.mjs").WholeSummary} WholeSummary */
 
 /**
- * @typedef {object} Part
+ * @typedef {object} SummaryPart
  * @property {string} name of its file, and of its line if that isn't the only one
  * @property {WholeSummary} summary
  */
@@ -22,7 +22,7 @@ const STANDARD_INPUT_FILE = 0;
 /**
  * The summaries of a file: one of JSON, or one on each line.
  * @param {string} file its path; `-`: standard input
- * @returns {Part[]}
+ * @returns {SummaryPart[]}
  * @throws {Refused}
  */
 export function partsOf(file) {
@@ -53,7 +53,7 @@ function parsed(text) {
   }
 }
 
-/** @param {string} name @param {unknown} value @returns {Part} */
+/** @param {string} name @param {unknown} value @returns {SummaryPart} */
 function part(name, value) {
   const why = value === undefined ? "it is no JSON" : whyNoSummary(value);
   if (why !== undefined) throw new Refused(`${name} is no summary of the recorder: ${why}`);
@@ -62,7 +62,7 @@ function part(name, value) {
 
 /**
  * Joins summaries. The joined summary of all shards is the same as that of a command line with all seeds.
- * @param {Part[]} parts one at least
+ * @param {SummaryPart[]} parts one at least
  * @returns {WholeSummary}
  * @throws {Refused} if they don't fit together
  */
@@ -75,7 +75,7 @@ export function merged(parts) {
   for (const summary of summaries) joined.join(summary);
   const askedSeeds = united(summaries.flatMap((summary) => summary.asked.seeds));
   const seeds = united(summaries.flatMap((summary) => summary.seeds));
-  const missing = without(askedSeeds, seeds);
+  const missing = seedsWithout(askedSeeds, seeds);
   const problems = summaries.flatMap((summary) => summary.problems);
   const data = joined.data({ stopped: stoppedOf(summaries), missing, problems });
   const shard = null;
@@ -86,7 +86,7 @@ export function merged(parts) {
 const firstSeed = ({ seeds: [first] }) => first?.first ?? 0;
 
 /**
- * @param {Part[]} parts
+ * @param {SummaryPart[]} parts
  * @throws {Refused} if one was asked for something else, or two have the same seed
  */
 function needsFitting(parts) {

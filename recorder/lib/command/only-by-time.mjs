@@ -1,42 +1,42 @@
 // Lost wake-ups that a time hides: waits that ended only because their time was up, of all runs that finished. If
 // nobody else notifies or writes the place in any run, the wait is a sleep, and isn't reported.
 
-import { durationText, placeKey } from "../run/timed-ends.mjs";
-import { counted, digits } from "../run/words.mjs";
+import { durationText, waitPlaceKey } from "../run/timed-ends.mjs";
+import { countText, digits } from "../run/summary-words.mjs";
 import { Tally } from "./tally.mjs";
 
-/** @typedef {import("../run/timed-ends.mjs").OnlyByTime} Wait */
-/** @typedef {import("../run/timed-ends.mjs").Place} Place */
+/** @typedef {import("../run/timed-ends.mjs").OnlyByTime} OnlyByTime */
+/** @typedef {import("../run/timed-ends.mjs").WaitPlace} WaitPlace */
 
 /**
  * @typedef {object} OnlyByTimeData as JSON
- * @property {(Wait & { runs: number, first: number })[]} listed waits that ended only because their time was up, sleeps
- * among them
+ * @property {(OnlyByTime & { runs: number, first: number })[]} listed waits that ended only because their time was up,
+ * sleeps among them
  * @property {number} others how many runs are counted under what isn't listed
- * @property {Place[]} served the places at which agents wait, and that others notify or write in some run
+ * @property {WaitPlace[]} served the places at which agents wait, and that others notify or write in some run
  */
 
-/** @param {Wait} wait */
+/** @param {OnlyByTime} wait */
 const keyOf = ({ agent, line, milliseconds, block, byte }) => JSON.stringify([agent, line, milliseconds, block, byte]);
 
-export class OnlyByTime {
+export class OnlyByTimeWaits {
   constructor() {
-    /** @type {Tally<Wait>} */
+    /** @type {Tally<OnlyByTime>} */
     this.waits = new Tally();
-    /** @type {Map<string, Place>} */
+    /** @type {Map<string, WaitPlace>} */
     this.served = new Map();
   }
 
   /** @param {import("../run/outcome.mjs").Outcome} outcome of a run */
   add({ seed, onlyByTime = [], served = [] }) {
     for (const wait of onlyByTime) this.waits.add(keyOf(wait), seed, wait);
-    for (const place of served) this.served.set(placeKey(place), place);
+    for (const place of served) this.served.set(waitPlaceKey(place), place);
   }
 
   /** @param {OnlyByTimeData} about other runs */
   join({ listed, others, served }) {
     this.waits.join(listed.map(({ runs, first, ...about }) => ({ key: keyOf(about), runs, first, about })), others);
-    for (const place of served) this.served.set(placeKey(place), place);
+    for (const place of served) this.served.set(waitPlaceKey(place), place);
   }
 
   /** @returns {OnlyByTimeData} */
@@ -53,8 +53,8 @@ export class OnlyByTime {
  * @returns {OnlyByTimeData["listed"]} those of most runs first
  */
 export function hiddenWaits({ listed, served }) {
-  const places = new Set(served.map(placeKey));
-  return listed.filter((wait) => places.has(placeKey(wait)));
+  const places = new Set(served.map(waitPlaceKey));
+  return listed.filter((wait) => places.has(waitPlaceKey(wait)));
 }
 
 /**
@@ -67,6 +67,6 @@ export function onlyByTimeLines(data, runs) {
     const { agent, line, milliseconds, block, byte } = wait;
     const where = line ?? `byte ${byte} of block ${block}`;
     const since = `only because its ${durationText(milliseconds)} ${milliseconds === 1 ? "was" : "were"} over`;
-    return `agent ${agent} went on at ${where} ${since}, in ${digits(wait.runs)} of ${counted(runs, "run")}`;
+    return `agent ${agent} went on at ${where} ${since}, in ${digits(wait.runs)} of ${countText(runs, "run")}`;
   });
 }

@@ -4,8 +4,8 @@ import { parseArgs } from "node:util";
 import { usageWords, versionLine } from "../keeping/program.mjs";
 import { nearest } from "../options/nearest.mjs";
 import { Refused } from "../options/refused.mjs";
-import { defaultText, defaultsOf, optionsOf as rowsOf, wordOf } from "../options/table.mjs";
-import { counted } from "../run/words.mjs";
+import { SEEDS_OF_ALL, defaultText, defaultsOf, optionWord, optionsOf as rowsOf, unlinked } from "../options/table.mjs";
+import { countText } from "../run/summary-words.mjs";
 import { countOf, shardOf } from "../seeds/ranges.mjs";
 import { runFrom } from "./whole-program.mjs";
 
@@ -28,13 +28,13 @@ function wrapped(text) {
 /** @type {(row: ReturnType<typeof rowsOf>[number]) => string} what it says, and what serves if it isn't given */
 const explanationOf = ([, row]) => {
   const other = defaultText(row);
-  return `${row.help?.[1] ?? ""}${other === undefined ? "" : ` [default: ${other}]`}`;
+  return `${unlinked(row.help[1]).replaceAll("`", "")}${other === undefined ? "" : ` [default: ${other}]`}`;
 };
 
 /** @type {(row: ReturnType<typeof rowsOf>[number]) => string} */
 const helpOf = (row) => {
-  const [name, { help: [argument] = [], letter }] = row;
-  const words = `  ${letter === undefined ? "" : `-${letter}, `}--${wordOf(name)} ${argument}`.trimEnd();
+  const [name, { help: [argument], letter }] = row;
+  const words = `  ${letter === undefined ? "" : `-${letter}, `}--${optionWord(name)} ${argument}`.trimEnd();
   const margin = " ".repeat(INDENT);
   const lines = wrapped(explanationOf(row)).join(`\n${margin}`);
   // The explanation of a long option begins on a line of its own.
@@ -61,10 +61,7 @@ Status:
 
 /** @type {Record<string, { type: "string" | "boolean", multiple?: boolean, short?: string }>} */
 const SHAPE = Object.fromEntries(ROWS.map(([name, { kind: { text, multiple = false }, letter }]) =>
-  [wordOf(name), { type: text === undefined ? "boolean" : "string", multiple, ...(letter && { short: letter }) }]));
-
-/** The runs that are compared with what was learned of agents. */
-const SEEDS_OF_ALL = Object.freeze({ first: 1, last: 300 });
+  [optionWord(name), { type: text === undefined ? "boolean" : "string", multiple, ...(letter && { short: letter }) }]));
 
 /** For words that are no options any more: what they are, or what there is in their place. */
 const INSTEAD = new Map([
@@ -98,16 +95,16 @@ function parsed(words) {
  * @returns {Record<string, any>}
  */
 function givenBy(values) {
-  const given = ROWS.filter(([name]) => values[wordOf(name)] !== undefined);
+  const given = ROWS.filter(([name]) => values[optionWord(name)] !== undefined);
   return Object.fromEntries(given.map(([name, { kind: { text = (/** @type {boolean} */ flag) => flag } }]) => {
-    const word = wordOf(name);
+    const word = optionWord(name);
     return [name, text(values[word], `--${word}`)];
   }));
 }
 
 /**
  * The seeds of a shard.
- * @param {import("../seeds/ranges.mjs").Range} asked the seeds of all shards
+ * @param {import("../seeds/ranges.mjs").SeedRange} asked the seeds of all shards
  * @param {import("../seeds/ranges.mjs").Shard | undefined} shard
  */
 function shardFrom(asked, shard) {
@@ -115,7 +112,7 @@ function shardFrom(asked, shard) {
   const { number, of } = shard;
   const count = countOf(asked);
   if (of <= count) return { ...shardOf(asked, shard), asked, shard };
-  const text = `${counted(count, "seed")} can't be shared out among ${counted(of, "shard")}`;
+  const text = `${countText(count, "seed")} can't be shared out among ${countText(of, "shard")}`;
   throw new Refused(`--shard ${number}/${of}: ${text}`);
 }
 
@@ -135,11 +132,11 @@ function replayOf(given) {
 }
 
 /**
- * @typedef {object} Own what a command line says besides the options of many runs
+ * @typedef {object} CommandLineOnly what a command line says besides the options of many runs
  * @property {string | undefined} module as it is named; undefined: the kept run that is replayed names its program
  * @property {boolean} isProgram whether that is a program, and no module of agents
  * @property {string[]} args for the agents, or for the program
- * @property {import("../seeds/ranges.mjs").Range} asked the seeds of all shards
+ * @property {import("../seeds/ranges.mjs").SeedRange} asked the seeds of all shards
  * @property {import("../seeds/ranges.mjs").Shard | undefined} shard
  * @property {string} [sabsim] where the native program must be
  * @property {string} format
@@ -153,16 +150,17 @@ function replayOf(given) {
  */
 
 /**
- * @typedef {import("../run/group.mjs").GroupOptions & Omit<import("../seeds/runs.mjs").OfRuns, "sabsim"> & Own
- * & { ordinary: "watch" | "store" | "refuse", races: "fail" | "allow",
- * unrecorded: "fail" | "allow" }} Options
+ * @typedef {import("../run/group.mjs").GroupOptions & Omit<import("../seeds/runs.mjs").OfRuns, "sabsim"> &
+ * CommandLineOnly & { ordinary: "watch" | "store" | "refuse", races: "fail" | "allow",
+ * unrecorded: "fail" | "allow" }} CommandOptions
  */
 
 /**
  * @param {string[]} words after the program's name
- * @returns {Options | { text: string }} what a command line asks for; only a text, if it asks for help or the version
+ * @returns {CommandOptions | { text: string }} what a command line asks for; only a text, if it asks for help or the
+ * version
  */
-export function optionsOf(words) {
+export function commandOptionsOf(words) {
   const end = words.indexOf("--");
   const { values, positionals } = parsed(end < 0 ? words : words.slice(0, end));
   if (values.help) return { text: USAGE };
@@ -172,7 +170,7 @@ export function optionsOf(words) {
   const chosen = { ...defaultsOf("command"), ...given };
   const { seeds, shard, noShorten, help: _help, version: _version, ...all } = chosen;
   const asked = given.seeds ?? (all.all ? SEEDS_OF_ALL : seeds);
-  return /** @type {Options} */ ({
+  return /** @type {CommandOptions} */ ({
     ...all, ...runFrom(given, positionals), args: end < 0 ? [] : words.slice(end + 1),
     ...shardFrom(asked, shard), shorten: !noShorten, replay: replayOf(given),
   });

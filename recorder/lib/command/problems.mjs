@@ -2,7 +2,7 @@
 
 import { Difference } from "../check/difference.mjs";
 import { NotAsLearned } from "../every/not-as-learned.mjs";
-import { NotKept } from "../keeping/keep.mjs";
+import { NotKept } from "../keeping/run-store.mjs";
 import { Refused } from "../options/refused.mjs";
 import { KeepsGlobals } from "../seeds/first-again.mjs";
 import { LostJob } from "../seeds/remote-job.mjs";

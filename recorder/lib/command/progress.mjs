@@ -1,6 +1,6 @@
 // A line that shows how far the runs are, on a terminal only.
 
-import { digits } from "../run/words.mjs";
+import { digits } from "../run/summary-words.mjs";
 
 const BETWEEN_LINES_MILLISECONDS = 100;
 
@@ -19,7 +19,7 @@ export class Progress {
     process.stderr.write(`\r${digits(runs)} of ${digits(this.runs)} runs, ${digits(failed)} failed`);
   }
 
-  /** @param {number} seed whose run is shortened @param {import("../shorter/shorten.mjs").Tried} tried */
+  /** @param {number} seed whose run is shortened @param {import("../shorter/shorten.mjs").ShortenProgress} tried */
   showShortening(seed, { runs, changes }) {
     const now = performance.now();
     if (now - this.shown < BETWEEN_LINES_MILLISECONDS) return;

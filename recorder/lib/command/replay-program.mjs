@@ -1,45 +1,48 @@
 // What --replay does with a kept run of a program: its threads run once more, by the row of that run, in this process.
 
 import { existsSync } from "node:fs";
-import { shortPath } from "../keeping/about.mjs";
+import { shortPath } from "../keeping/about-run.mjs";
 import { howMade } from "../keeping/how-made.mjs";
-import { PROGRAM_ENDING } from "../keeping/keep.mjs";
-import { keepProgram, keptProgram, urlOf } from "../keeping/kept-program.mjs";
+import { PROGRAM_ENDING } from "../keeping/run-store.mjs";
+import { fileUrlOf, keepProgram, keptProgram } from "../keeping/kept-program.mjs";
 import { keepPictures, notesOn } from "../keeping/pictures.mjs";
 import { Refused } from "../options/refused.mjs";
 import { Windows } from "../run/windows.mjs";
 import { firstOtherMove } from "../run/same.mjs";
-import { TIMES_TRIED } from "../run/words.mjs";
-import { firstOtherText, rowEndedText, rowStrayedText } from "../shorter/differing.mjs";
+import { TIMES_TRIED } from "../run/summary-words.mjs";
+import { firstOtherText, programDivergenceText, programEndText } from "../shorter/differing.mjs";
 import { keptScript } from "../shorter/kept-script.mjs";
-import { Replaying, textOf } from "./replaying.mjs";
+import { Replaying, keptRunText } from "./replaying.mjs";
 
-/** @typedef {import("../seeds/job.mjs").Checked} Checked */
+/** @typedef {import("../seeds/job.mjs").CheckedOutcome} CheckedOutcome */
 
 export class ProgramReplay extends Replaying {
   /**
-   * @param {import("./options.mjs").Options} options those that are given count, and else those of the kept run
-   * @param {NonNullable<import("./options.mjs").Options["replay"]>} wanted
+   * @param {import("./options.mjs").CommandOptions} options those that are given count, and else those of the kept run
+   * @param {NonNullable<import("./options.mjs").CommandOptions["replay"]>} wanted
    */
   constructor(options, { file, seed, given }) {
-    const run = keptProgram(textOf(file), file);
+    const run = keptProgram(keptRunText(file), file);
     const args = options.args.length > 0 ? options.args : run.args;
     super({ ...options, ...run.options, ...given, args, isProgram: true }, file);
     this.row = run.row;
     this.seed = seed ?? run.seed;
     this.main = options.module ?? run.program;
     if (!existsSync(this.main)) throw new Refused(`there is no file ${this.main}: --program says where the program is`);
-    this.module = urlOf(this.main);
+    this.module = fileUrlOf(this.main);
     const script = run.script;
     const isThere = script !== undefined && existsSync(script);
-    this.script = isThere ? keptScript(textOf(script), script, [], run.windows) : undefined;
+    this.script = isThere ? keptScript(keptRunText(script), script, [], run.windows) : undefined;
     this.keepsAs(new RegExp(`\\.${PROGRAM_ENDING.replace(".", "\\.")}$`));
   }
 
-  /** @returns {Promise<Checked>} for a run that gets real answers, the first one that goes the same way, or the last */
+  /**
+   * @returns {Promise<CheckedOutcome>} for a run that gets real answers, the first one that goes the same way, or the
+   * last
+   */
   async made() {
-    const { module, row, seed } = this;
-    const options = { module, wanted: { row, isExact: true, wantsRow: true, isShown: true } };
+    const { module, row, seed, options: { fresh } } = this;
+    const options = { module, fresh, wanted: { row, isExact: true, wantsRow: true, isShown: true } };
     let outcome = await this.one(seed, options);
     for (let time = 1; time < TIMES_TRIED && outcome.real && this.differenceOf(outcome); time += 1) {
       outcome = await this.one(seed, options);
@@ -47,14 +50,16 @@ export class ProgramReplay extends Replaying {
     return outcome;
   }
 
-  /** @param {Checked} outcome @returns {string | undefined} */
-  differenceOf({ stray, script, windows, ending, row }) {
+  /** @param {CheckedOutcome} outcome @returns {string | undefined} */
+  differenceOf({ divergence, script, windows, ending, row }) {
     const now = script === undefined ? undefined : keptScript(script, "the run", [], windows && new Windows(windows));
     const other = this.script && now && firstOtherText(this.script, now);
-    if (other !== undefined || stray !== undefined) return other ?? (stray && rowStrayedText(stray));
+    if (other !== undefined || divergence !== undefined) {
+      return other ?? (divergence && programDivergenceText(divergence));
+    }
     // At a limit the run is broken off.
     const isWhole = ending !== "limit" && row !== undefined;
-    return isWhole ? rowEndedText(this.row, firstOtherMove(this.row, row)) : undefined;
+    return isWhole ? programEndText(this.row, firstOtherMove(this.row, row)) : undefined;
   }
 
   titles() {
@@ -62,9 +67,9 @@ export class ProgramReplay extends Replaying {
   }
 
   /**
-   * @param {Checked} outcome
-   * @param {import("../keeping/keep.mjs").Keeper} keeper
-   * @returns {import("./summary.mjs").Ending} where its files are
+   * @param {CheckedOutcome} outcome
+   * @param {import("../keeping/run-store.mjs").RunStore} keeper
+   * @returns {import("./summary.mjs").SummaryEnd} where its files are
    */
   kept(outcome, keeper) {
     const options = { ...this.options, module: this.module };

@@ -6,11 +6,11 @@ import { howMade } from "../keeping/how-made.mjs";
 import { keepPictures, notesOn } from "../keeping/pictures.mjs";
 import { NoSuchPlace } from "../options/named-place.mjs";
 import { Refused } from "../options/refused.mjs";
-import { counted } from "../run/words.mjs";
-import { differenceText, strayedText } from "../shorter/differing.mjs";
+import { countText } from "../run/summary-words.mjs";
+import { differingText, replayDifferenceText } from "../shorter/differing.mjs";
 import { idleMoves } from "../shorter/idle-moves.mjs";
 import { callNumbers, keptScript } from "../shorter/kept-script.mjs";
-import { Replaying, textOf } from "./replaying.mjs";
+import { Replaying, keptRunText } from "./replaying.mjs";
 
 /** @typedef {import("../shorter/kept-script.mjs").KeptScript} KeptScript */
 
@@ -30,7 +30,7 @@ function needSame(name, given, kept) {
 /**
  * What the agents run on: the script says it.
  * @param {KeptScript} kept
- * @param {import("./options.mjs").Options} options
+ * @param {import("./options.mjs").CommandOptions} options
  */
 function placeOf({ lengths, canBlock }, options) {
   const noBlock = canBlock.flatMap((can, agent) => (can ? [] : [agent]));
@@ -42,9 +42,9 @@ function placeOf({ lengths, canBlock }, options) {
 
 export class Replay extends Replaying {
   /**
-   * @param {import("./options.mjs").Options} options
+   * @param {import("./options.mjs").CommandOptions} options
    * @param {string} module its URL
-   * @param {NonNullable<import("./options.mjs").Options["replay"]>} wanted
+   * @param {NonNullable<import("./options.mjs").CommandOptions["replay"]>} wanted
    */
   constructor(options, module, { file, seed }) {
     super(options, file);
@@ -52,23 +52,23 @@ export class Replay extends Replaying {
     const named = /^seed-(\d+)\./.exec(basename(file))?.[1];
     this.isNamed = named !== undefined || seed !== undefined;
     this.seed = seed ?? Number(named ?? DEFAULT_SEED);
-    const text = textOf(file);
+    const text = keptRunText(file);
     this.idle = idleMoves(this.simulator, text);
     this.script = keptScript(text, file, this.idle.map(({ at }) => at));
     this.place = placeOf(this.script, options);
     this.keepsAs(/\.json$/);
   }
 
-  /** @param {import("../seeds/job.mjs").Checked} outcome @returns {string | undefined} */
-  differenceOf({ stray, detail, script }) {
-    if (stray !== undefined) return strayedText(stray, detail, this.script);
-    return script === undefined ? undefined : differenceText(this.script, keptScript(script, "the run"));
+  /** @param {import("../seeds/job.mjs").CheckedOutcome} outcome @returns {string | undefined} */
+  differenceOf({ divergence, detail, script }) {
+    if (divergence !== undefined) return differingText(divergence, detail, this.script);
+    return script === undefined ? undefined : replayDifferenceText(this.script, keptScript(script, "the run"));
   }
 
   /**
-   * @param {import("../seeds/job.mjs").Checked} outcome
-   * @param {import("../keeping/keep.mjs").Keeper} keeper
-   * @returns {import("./summary.mjs").Ending} where its files are
+   * @param {import("../seeds/job.mjs").CheckedOutcome} outcome
+   * @param {import("../keeping/run-store.mjs").RunStore} keeper
+   * @returns {import("./summary.mjs").SummaryEnd} where its files are
    */
   kept(outcome, keeper) {
     const { module, options, simulator } = this;
@@ -77,7 +77,7 @@ export class Replay extends Replaying {
     return { kept: keeper.kept(notesOn(keeper, outcome)), notKept };
   }
 
-  /** @returns {Promise<import("../seeds/job.mjs").Checked>} */
+  /** @returns {Promise<import("../seeds/job.mjs").CheckedOutcome>} */
   async made() {
     const { script: { draws }, module, place, seed } = this;
     const wanted = { row: draws.map(({ agent }) => agent), isExact: true, calls: callNumbers(this.script) };
@@ -97,7 +97,7 @@ export class Replay extends Replaying {
   /** @param {NoSuchPlace} problem with the buffers that the script has */
   #otherText({ message }) {
     const { file, script: { canBlock, lengths }, options } = this;
-    const has = `it has ${counted(canBlock.length, "agent")} and buffers of ${lengths.join(", ")} bytes`;
+    const has = `it has ${countText(canBlock.length, "agent")} and buffers of ${lengths.join(", ")} bytes`;
     const why = `${has}, but in ${options.module} ${message}`;
     return `${file} is a script of another module: ${why}. Replay it with the module that it was kept from`;
   }

@@ -4,11 +4,11 @@
 import { readFileSync } from "node:fs";
 import { createRequire } from "node:module";
 import { basename } from "node:path";
-import { Keeper } from "../keeping/keep.mjs";
+import { RunStore } from "../keeping/run-store.mjs";
 import { Refused } from "../options/refused.mjs";
 import { preloads } from "../processes/preloads.mjs";
 import { Job } from "../seeds/job.mjs";
-import { OTHER_INPUT } from "../run/words.mjs";
+import { OTHER_INPUT } from "../run/summary-words.mjs";
 import { Runs } from "../seeds/runs.mjs";
 import { NoLongerTheSame } from "../shorter/differing.mjs";
 import { chosenProgram, simulatorAt } from "../simulator/chosen.mjs";
@@ -20,7 +20,7 @@ import { Summary } from "./summary.mjs";
 const DEBUGGED_SECONDS = 3_600;
 
 /** @param {string} file @returns {string} what is in it */
-export function textOf(file) {
+export function keptRunText(file) {
   try {
     return readFileSync(file, "utf8");
   } catch (error) {
@@ -40,7 +40,7 @@ function isDebugged() {
 
 export class Replaying {
   /**
-   * @param {import("./options.mjs").Options} options
+   * @param {import("./options.mjs").CommandOptions} options
    * @param {string} file that is replayed
    */
   constructor(options, file) {
@@ -49,14 +49,14 @@ export class Replaying {
     /** @type {string | false | undefined} */
     this.sabsim = options.checkEvery === 0 ? false : chosenProgram(options.sabsim);
     this.simulator = simulatorAt(this.sabsim || undefined);
-    /** @type {Keeper | undefined} */
+    /** @type {RunStore | undefined} */
     this.keeper = undefined;
   }
 
   /** @param {RegExp} ending of the file's name, which the names of the files that are kept don't have */
   keepsAs(ending) {
     const { options: { out }, file } = this;
-    if (out !== undefined) this.keeper = new Keeper(out, "--out", `${basename(file).replace(ending, "")}.replayed`);
+    if (out !== undefined) this.keeper = new RunStore(out, "--out", `${basename(file).replace(ending, "")}.replayed`);
   }
 
   /**
@@ -80,14 +80,14 @@ export class Replaying {
     return { failed: outcome.fails, problems: [] };
   }
 
-  /** @returns {Promise<import("../seeds/job.mjs").Checked>} the run's outcome */
+  /** @returns {Promise<import("../seeds/job.mjs").CheckedOutcome>} the run's outcome */
   async made() {
     throw new Error("nothing is replayed");
   }
 
   /**
    * How a run differs from the one that was kept.
-   * @param {import("../seeds/job.mjs").Checked} _outcome
+   * @param {import("../seeds/job.mjs").CheckedOutcome} _outcome
    * @returns {string | undefined} undefined: it is the same
    */
   differenceOf(_outcome) {
@@ -100,9 +100,9 @@ export class Replaying {
   }
 
   /**
-   * @param {import("../seeds/job.mjs").Checked} outcome
-   * @param {Keeper} keeper
-   * @returns {import("./summary.mjs").Ending} where its files are
+   * @param {import("../seeds/job.mjs").CheckedOutcome} outcome
+   * @param {RunStore} keeper
+   * @returns {import("./summary.mjs").SummaryEnd} where its files are
    */
   kept(outcome, keeper) {
     keeper.keepFirst(outcome);
@@ -113,13 +113,12 @@ export class Replaying {
    * Makes the one run.
    * @param {number} seed
    * @param {object} options of it
-   * @returns {Promise<import("../seeds/job.mjs").Checked>}
+   * @returns {Promise<import("../seeds/job.mjs").CheckedOutcome>}
    */
   async one(seed, options) {
     const long = { seconds: DEBUGGED_SECONDS, loadSeconds: DEBUGGED_SECONDS };
     const limits = isDebugged() ? long : { seconds: this.options.seconds };
-    const { fresh, isProgram } = this.options;
-    const only = { first: seed, last: seed, jobs: 1, fresh: isProgram === true && fresh, trace: true };
+    const only = { first: seed, last: seed, jobs: 1, fresh: false, trace: true };
     const checking = { sabsim: this.sabsim, checkEvery: 1 };
     const all = { ...this.options, ...limits, ...only, ...checking, ...options };
     const runs = new Runs(/** @type {any} */ (all), { job: new Job() });

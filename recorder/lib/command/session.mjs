@@ -2,14 +2,14 @@
 
 import { setImmediate as turn } from "node:timers/promises";
 import { Difference } from "../check/difference.mjs";
-import { Keeper, missingFiles } from "../keeping/keep.mjs";
+import { RunStore, missingFiles } from "../keeping/run-store.mjs";
 import { Refused } from "../options/refused.mjs";
 import { collectGarbage, onceMore, stopGrowth } from "../processes/garbage.mjs";
 import { preloads } from "../processes/preloads.mjs";
 import { isFirstOfAll } from "../run/order.mjs";
 import { Runs } from "../seeds/runs.mjs";
 import { chosenProgram, simulatorAt } from "../simulator/chosen.mjs";
-import { askedOf } from "./asked.mjs";
+import { requestedRunsOf } from "./requested-runs.mjs";
 import { formatted } from "./formats.mjs";
 import { Interrupted, Interruption } from "./interruption.mjs";
 import { print } from "./print.mjs";
@@ -18,26 +18,26 @@ import { Progress } from "./progress.mjs";
 import { FORM } from "./summary-form.mjs";
 import { Summary } from "./summary.mjs";
 
-/** @typedef {import("../seeds/job.mjs").Checked} Outcome */
+/** @typedef {import("../seeds/job.mjs").CheckedOutcome} CheckedOutcome */
 
 /** @param {number} seed of the first failing run, if none is kept */
 const notKeptText = (seed) => `not kept: the run of seed ${seed}; --out DIR keeps it, with a page that shows it`;
 
 export class Session {
   /**
-   * @param {import("./options.mjs").Options} options
+   * @param {import("./options.mjs").CommandOptions} options
    * @param {string} module its URL
    * @param {import("../seeds/runs.mjs").AnyJob} [job] the first one, if it has begun
    */
   constructor(options, module, job) {
     const isPreloaded = preloads();
-    this.asked = askedOf(options, module, isPreloaded);
+    this.asked = requestedRunsOf(options, module, isPreloaded);
     const isChecked = options.checkEvery > 0;
     const sabsim = isChecked ? chosenProgram(options.sabsim) : undefined;
     this.simulator = simulatorAt(sabsim);
     this.options = { ...options, module, sabsim };
     this.wanted = options.last - options.first + 1;
-    this.keeper = options.out === undefined ? undefined : new Keeper(options.out);
+    this.keeper = options.out === undefined ? undefined : new RunStore(options.out);
     this.summary = new Summary({
       ordinary: options.ordinary, races: options.races, unrecorded: options.unrecorded, preloads: isPreloaded,
       checkedBy: isChecked ? this.simulator.version : undefined,
@@ -119,7 +119,7 @@ export class Session {
 
   /**
    * Adds a run's outcome to the summary, and keeps the run if it is to be kept.
-   * @param {Outcome} outcome
+   * @param {CheckedOutcome} outcome
    * @returns {boolean} whether it is the last one
    */
   #isLast(outcome) {
@@ -141,7 +141,7 @@ export class Session {
   /** The first failing run. */
   #failing() {
     // All that is reported about the run is known here, where it was made.
-    return /** @type {Outcome | undefined} */ (this.summary.failing);
+    return /** @type {CheckedOutcome | undefined} */ (this.summary.failing);
   }
 
   /** The failing run that is kept, if it is to be shortened. */

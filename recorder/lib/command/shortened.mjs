@@ -1,15 +1,15 @@
 // What is reported about the shortening of the run that is kept.
 
-import { counted, digits } from "../run/words.mjs";
+import { countText, digits } from "../run/summary-words.mjs";
 
 /** @typedef {import("../seeds/job.mjs").ShortenedByJob} ShortenedByJob */
-/** @typedef {import("../shorter/shorten.mjs").Change} Change */
+/** @typedef {import("../shorter/shorten.mjs").BeforeAndAfter} BeforeAndAfter */
 
 /**
- * @typedef {object} Shortening as JSON
+ * @typedef {object} ShorteningData as JSON
  * @property {number} runs how many it took
- * @property {Change} changes of agents, in the run as it was found and in the shortest
- * @property {Change} calls of Atomics that were begun, in the same two runs
+ * @property {BeforeAndAfter} changes of agents, in the run as it was found and in the shortest
+ * @property {BeforeAndAfter} calls of Atomics that were begun, in the same two runs
  * @property {string | null} stopped why it was ended before all was tried
  * @property {string | null} unchanged why the run is kept as it was found; null: the shortest is kept
  * @property {boolean} checked whether sabsim says the same about the shortest run
@@ -20,7 +20,7 @@ import { counted, digits } from "../run/words.mjs";
 /**
  * @param {ShortenedByJob} found
  * @param {{ detail: string } | undefined} failing the run as it was found
- * @returns {Shortening}
+ * @returns {ShorteningData}
  */
 export function shorteningOf({ shortest, shortened }, failing) {
   const { runs, changes, calls, stopped = null, unchanged = null } = shortened;
@@ -30,17 +30,17 @@ export function shorteningOf({ shortest, shortened }, failing) {
 }
 
 /**
- * @param {Shortening | null} shortening
+ * @param {ShorteningData | null} shortening
  * @param {string | null} before what time must pass in the run as it was found
  * @returns {string[]} lines; the first one isn't indented
  */
 export function shortenedLines(shortening, before) {
   if (shortening === null) return [];
   const { runs, changes, calls, stopped, unchanged, checked, detail, onlyIf } = shortening;
-  const made = [`in ${counted(runs, "run")}`, ...(stopped === null ? [] : [stopped])].join(", ");
+  const made = [`in ${countText(runs, "run")}`, ...(stopped === null ? [] : [stopped])].join(", ");
   if (unchanged !== null) return [`not shortened: ${unchanged}${runs === 0 ? "" : `, ${made}`}`];
-  const changed = `${counted(changes.before, "change")} of agents to ${digits(changes.after)}`;
-  const called = `${counted(calls.before, "call")} to ${digits(calls.after)}`;
+  const changed = `${countText(changes.before, "change")} of agents to ${digits(changes.after)}`;
+  const called = `${countText(calls.before, "call")} to ${digits(calls.after)}`;
   const same = checked ? "; sabsim agrees with the recorder" : "";
   const needs = onlyIf === before ? [] : [onlyIf ?? "no timed wait ends early in it"];
   return [`shortened: ${changed}, ${called}, ${made}${same}`, ...[...detail, ...needs].map((line) => `  ${line}`)];

@@ -2,14 +2,14 @@
 
 /** @template T @typedef {import("./tally.mjs").Tally<T>} Tally */
 
-/** @typedef {import("../run/outcome.mjs").Outcome & { checked?: boolean }} Outcome */
+/** @typedef {import("../run/outcome.mjs").Outcome & { checked?: boolean }} SummaryOutcome */
 
 /** @typedef {"seed" | "ending" | "detail" | "noScript" | "onlyIf" | "standing"} Always what each failing run has */
-/** @typedef {Pick<Outcome, Always> & Partial<Outcome>} Failing */
+/** @typedef {Pick<SummaryOutcome, Always> & Partial<SummaryOutcome>} FailingOutcome */
 
-/** @typedef {{ ending: string, shown: string[], named: string | null }} State how a run ended, and its bytes */
+/** @typedef {{ ending: string, shown: string[], named: string | null }} EndState how a run ended, and its bytes */
 
-/** @typedef {{ ending: string, message: string[], sources: string[] }} Failure what runs failed by, in short */
+/** @typedef {{ ending: string, message: string[], sources: string[] }} FailureInShort what runs failed by, in short */
 
 /**
  * @typedef {object} Stop that not all runs were made
@@ -30,7 +30,8 @@
  * @typedef {object} SummaryData what a summary says about many runs: an object of JSON, whose members docs/FORMATS.md
  * explains
  * @property {Stop | null} stopped
- * @property {import("../seeds/ranges.mjs").Range[]} missing seeds that were asked for, and about which nothing is known
+ * @property {import("../seeds/ranges.mjs").SeedRange[]} missing seeds that were asked for, and about which nothing is
+ * known
  * @property {number} runs
  * @property {number} failed
  * @property {Record<"failing" | "passing", { ending: string, runs: number, first: number }[]>} endings
@@ -39,15 +40,15 @@
  * @property {number} early how many of the failing runs fail only after the early end of a timed wait
  * @property {import("./only-by-time.mjs").OnlyByTimeData} onlyByTime
  * @property {number} threw how many of the runs that ended as `failed` threw
- * @property {FailingListed<Failure>} failures those of all failing runs that have no ending `race`
- * @property {import("./shortened.mjs").Shortening | null} shortened the result of shortening that run
+ * @property {FailingListed<FailureInShort>} failures those of all failing runs that have no ending `race`
+ * @property {import("./shortened.mjs").ShorteningData | null} shortened the result of shortening that run
  * @property {{ allowed: boolean, runs: number, pairs: FailingListed<{ lines: string[] }> }} races
  * @property {{ allowed: boolean, runs: number, used: Listed<{ what: string }> }} unrecorded shared memory and threads
  * that aren't recorded, and that agents used
  * @property {{ runs: number, used: Listed<{ what: string }> }} real what programs used that the machine answers
  * @property {import("../seeds/first-again.mjs").Remembering | null} remembers how the run of the first seed differed
  * when it was made once more
- * @property {Record<"failing" | "passing", FailingListed<State & { hash: string }>>} states
+ * @property {Record<"failing" | "passing", FailingListed<EndState & { hash: string }>>} states
  * @property {CheckedBy} sabsim
  * @property {{ parts: number, none: Listed<{ why: string }> }} scripts
  * @property {number} calls
@@ -55,7 +56,7 @@
  * @property {string[]} unseen
  * @property {string[]} [untriedNodes] versions of node that ran programs, and that weren't tried. Earlier summaries of
  * this form have none
- * @property {import("../keeping/keep.mjs").Kept | null} kept
+ * @property {import("../keeping/run-store.mjs").KeptFiles | null} kept
  * @property {string[]} notKept
  * @property {string[]} problems
  */
@@ -70,7 +71,7 @@
 
 /**
  * How all the runs ended.
- * @typedef {Partial<Pick<SummaryData, "stopped" | "missing" | "kept" | "notKept" | "problems">>} Ending
+ * @typedef {Partial<Pick<SummaryData, "stopped" | "missing" | "kept" | "notKept" | "problems">>} SummaryEnd
  */
 
 /** @param {string[]} lines of code that race */
@@ -81,7 +82,7 @@ const NUMBERS = /-?\d+(\.\d+)?/g;
 
 /**
  * What is the same in runs that fail alike: the ending, the message up to its numbers, and the lines of code.
- * @param {Failure} failure
+ * @param {FailureInShort} failure
  */
 export const failureKey = ({ ending, message, sources }) =>
   [ending, ...message.map((line) => line.replaceAll(NUMBERS, "0")), ...sources].join("\n");
@@ -120,7 +121,7 @@ export const failingListOf = (tally, parts) => ({
   others: tally.others,
 });
 
-/** @param {Tally<State>} tally */
+/** @param {Tally<EndState>} tally */
 export const statesData = (tally) =>
   failingListOf(tally, (hash, { ending, shown, named }) => ({ ending, hash, shown, named }));
 
@@ -130,13 +131,13 @@ export function endingsData(order, tally) {
   return entries.sort((one, other) => order.indexOf(one.ending) - order.indexOf(other.ending));
 }
 
-/** @param {Failing} failing @returns {NonNullable<SummaryData["firstFailing"]>} */
+/** @param {FailingOutcome} failing @returns {NonNullable<SummaryData["firstFailing"]>} */
 export function failingData({ seed, ending, detail, onlyIf, noScript, standing = [] }) {
   const lines = detail === "" ? [] : detail.split("\n");
   return { seed, ending, detail: lines, onlyIf: onlyIf ?? null, noScript: noScript ?? null, standing };
 }
 
-/** @param {NonNullable<SummaryData["firstFailing"]>} data @returns {Failing} */
+/** @param {NonNullable<SummaryData["firstFailing"]>} data @returns {FailingOutcome} */
 export function failingOf({ seed, ending, detail, onlyIf, noScript, standing }) {
   const known = /** @type {import("../run/outcome.mjs").Ending} */ (ending);
   return {

@@ -2,31 +2,31 @@
 
 /**
  * @typedef {import("./summary-data.mjs").SummaryData & {
- *   summary: number, asked: import("./asked.mjs").Asked, seeds: import("../seeds/ranges.mjs").Range[],
- * }} WholeSummary what is reported about many runs, and what was asked for
+ *   summary: number, asked: import("./requested-runs.mjs").RequestedRuns, seeds:
+ * import("../seeds/ranges.mjs").SeedRange[], }} WholeSummary what is reported about many runs, and what was asked for
  */
 
 /** The number of this form: another form has another number. */
 export const FORM = 4;
 
-/** @typedef {(value: unknown, place: string) => string | undefined} Check it returns where a value isn't right */
+/** @typedef {(value: unknown, place: string) => string | undefined} FormCheck it returns where a value isn't right */
 
-/** @type {(holds: (value: any) => boolean) => Check} */
+/** @type {(holds: (value: any) => boolean) => FormCheck} */
 const that = (holds) => (value, place) => (holds(value) ? undefined : place);
 
-/** @type {(check: Check) => Check} */
+/** @type {(check: FormCheck) => FormCheck} */
 const orNull = (check) => (value, place) => (value === null ? undefined : check(value, place));
 
-/** @type {(check: Check) => Check} */
+/** @type {(check: FormCheck) => FormCheck} */
 const orNone = (check) => (value, place) => (value === undefined ? undefined : check(value, place));
 
-/** @type {(check: Check) => Check} */
+/** @type {(check: FormCheck) => FormCheck} */
 const list = (check) => (value, place) => {
   if (!Array.isArray(value)) return place;
   return value.map((each, at) => check(each, `${place}[${at}]`)).find((wrong) => wrong !== undefined);
 };
 
-/** @type {(members: Record<string, Check>) => Check} */
+/** @type {(members: Record<string, FormCheck>) => FormCheck} */
 const object = (members) => (value, place) => {
   if (typeof value !== "object" || value === null || Array.isArray(value)) return place;
   const given = /** @type {Record<string, unknown>} */ (value);
@@ -41,7 +41,7 @@ const flag = that((value) => typeof value === "boolean");
 const anything = that(() => true);
 const texts = list(text);
 
-/** @type {Check} */
+/** @type {FormCheck} */
 const range = (value, place) => object({ first: whole, last: whole })(value, place) ??
   that(({ first, last }) => first <= last)(value, place);
 
@@ -55,7 +55,7 @@ const standing = object({
   file: orNull(text), line: orNull(whole), column: orNull(whole),
 });
 
-/** @type {(members: Record<string, Check>) => Check} */
+/** @type {(members: Record<string, FormCheck>) => FormCheck} */
 const listed = (members) => object({ listed: list(object({ ...members, ...COUNTS })), others: whole });
 
 const endings = list(object({ ending: text, ...COUNTS }));

@@ -2,7 +2,7 @@
 
 import { endingText, endingsText } from "../../page/endings.mjs";
 import { bytesText } from "../run/final-state.mjs";
-import { counted, digits, listed } from "../run/words.mjs";
+import { countText, digits, listed } from "../run/summary-words.mjs";
 import { rememberingText } from "../seeds/first-again.mjs";
 import { rangeText } from "../seeds/ranges.mjs";
 import { onlyByTimeLines } from "./only-by-time.mjs";
@@ -19,7 +19,7 @@ const MOST_LISTED = 8;
 export function summaryText(summary) {
   const { stopped, missing, runs, unseen, untriedNodes = [], kept, notKept } = summary;
   const lines = missing.map(missingText);
-  if (stopped !== null) lines.push(`${stopped.why} after ${digits(runs)} of ${counted(stopped.wanted, "run")}`);
+  if (stopped !== null) lines.push(`${stopped.why} after ${digits(runs)} of ${countText(stopped.wanted, "run")}`);
   if (runs > 0) {
     lines.push(endingLine(summary), ...failingLines(summary), ...failureLines(summary), ...raceLines(summary));
     lines.push(...hiddenLines(summary), ...unrecordedLines(summary), ...realLines(summary));
@@ -32,7 +32,7 @@ export function summaryText(summary) {
   return [...lines, ...notKept].map((line) => `${line}\n`).join("");
 }
 
-/** @param {import("../seeds/ranges.mjs").Range} range of seeds about which nothing is known @returns {string} */
+/** @param {import("../seeds/ranges.mjs").SeedRange} range of seeds about which nothing is known @returns {string} */
 export const missingText = (range) => `no summary has the ${rangeText(range)}`;
 
 /** @param {SummaryData} summary */
@@ -41,8 +41,8 @@ function endingLine(summary) {
   const counts = failedCounts(summary);
   const failing = endings.failing.map((each) => `${digits(each.runs)} ${endingsText(each.ending, counts)}`).join(", ");
   const passing = endings.passing.map((each) => `${digits(each.runs)} ${passingText(each.ending)}`).join(", ");
-  if (failed === 0) return `${counted(runs, "run")}: ${passing}`;
-  const first = `${digits(failed)} of ${counted(runs, "run")} failed: ${failing}`;
+  if (failed === 0) return `${countText(runs, "run")}: ${passing}`;
+  const first = `${digits(failed)} of ${countText(runs, "run")} failed: ${failing}`;
   return failed === runs ? first : `${first}; ${passing}`;
 }
 
@@ -79,7 +79,7 @@ function failureLines({ firstFailing, failures }) {
     const how = endingText(ending, message.join("\n"));
     const places = sources.filter((source) => !message.some((line) => line.includes(source)));
     const where = places.length === 0 ? "" : `, at ${places.join(" and ")}`;
-    const which = `${counted(runs, "run")} ${how}, seed ${first} the first${onlyEarlyText({ runs, early })}`;
+    const which = `${countText(runs, "run")} ${how}, seed ${first} the first${onlyEarlyText({ runs, early })}`;
     return [`${which}${where}`, ...message.map(indented)].join("\n");
   });
   const many = countedOf(failures.listed.length, "kind", failures.others);
@@ -92,24 +92,25 @@ function raceLines({ races: { allowed, runs, pairs } }) {
   if (runs === 0) return [];
   const title = allowed ? "unordered accesses, allowed" : "unordered accesses";
   const lines = listed(pairs.listed, MOST_LISTED, ({ lines: both, runs: raced, early, first }) => {
-    const many = `${counted(raced, "run")}${onlyEarlyText({ runs: raced, early })}`;
+    const many = `${countText(raced, "run")}${onlyEarlyText({ runs: raced, early })}`;
     return `seed ${first} the first, ${many}: ${both.join(" and ")}`;
   });
   const many = countedOf(pairs.listed.length, "pair", pairs.others);
-  return [`${title}: ${counted(runs, "run")}, ${many} of lines`, ...lines.map(indented), ...othersLines(pairs.others)];
+  const head = `${title}: ${countText(runs, "run")}, ${many} of lines`;
+  return [head, ...lines.map(indented), ...othersLines(pairs.others)];
 }
 
 /** @param {SummaryData} summary */
 function unrecordedLines({ unrecorded: { allowed, runs, used } }) {
   if (runs === 0) return [];
   const that = allowed ? ", which is allowed" : "";
-  return [`agents used what isn't recorded${that}: ${counted(runs, "run")}`, ...usedLines(used)];
+  return [`agents used what isn't recorded${that}: ${countText(runs, "run")}`, ...usedLines(used)];
 }
 
 /** @param {SummaryData} summary @returns {string[]} what programs used that the machine answers */
 function realLines({ real: { runs, used } }) {
   if (runs === 0) return [];
-  const title = `${counted(runs, "run")} used sockets, pipes or child processes, `
+  const title = `${countText(runs, "run")} used sockets, pipes or child processes, `
     + "and repeat only as far as their input does";
   return [runs === 1 ? title.replace(/repeat (.*)their/, "repeats $1its") : title, ...usedLines(used)];
 }
@@ -117,7 +118,7 @@ function realLines({ real: { runs, used } }) {
 /** @param {Listed<{ what: string }>} used @returns {string[]} */
 function usedLines(used) {
   const lines = listed(used.listed, MOST_LISTED, ({ what, runs: each, first }) =>
-    `seed ${first} the first, ${counted(each, "run")}: ${what}`);
+    `seed ${first} the first, ${countText(each, "run")}: ${what}`);
   return [...lines.map(indented), ...othersLines(used.others)];
 }
 
@@ -131,7 +132,7 @@ function stateLines(summary) {
   const failed = failing.listed.map((state) => ({ ...state, how: endingsText(state.ending, counts) }));
   const passed = passing.listed.map((state) => ({ ...state, how: passingText(state.ending) }));
   const lines = listed([...failed, ...passed], MOST_LISTED, ({ runs, early, first, how, shown, named }) => {
-    const which = `${counted(runs, "run")} ${how}, seed ${first} the first${onlyEarlyText({ runs, early })}`;
+    const which = `${countText(runs, "run")} ${how}, seed ${first} the first${onlyEarlyText({ runs, early })}`;
     return `${which}: ${named ?? bytesText(shown)}`;
   });
   const others = failing.others + passing.others;
@@ -148,7 +149,7 @@ function checkLines({ runs, sabsim: { asked, checked, judges, versions }, script
   const withoutScript = none.listed.reduce((sum, each) => sum + each.runs, none.others);
   // Of runs without a script, other lines say why they weren't replayed. Their traces may have been judged.
   if (checked === 0) return asked && withoutScript === runs ? [] : ["no run was checked"];
-  const some = `${digits(checked)} of ${counted(runs, "run")} ${checked === 1 ? "was" : "were"}`;
+  const some = `${digits(checked)} of ${countText(runs, "run")} ${checked === 1 ? "was" : "were"}`;
   const which = checked === runs ? "every run was" : some;
   const kinds = [...new Set(versions.map((version) => version.split(" ", 1)[0]))];
   const forms = kinds.map((kind) => FORMS.get(kind) ?? kind);
@@ -176,10 +177,10 @@ const untriedText = (version) => `programs weren't tried on node ${version}: REA
 
 /** @param {SummaryData} summary */
 function accessLine({ runs, calls, accesses }) {
-  const made = `${counted(runs, "run")} made ${calls === 0 ? "no call" : counted(calls, "call")} of Atomics`;
+  const made = `${countText(runs, "run")} made ${calls === 0 ? "no call" : countText(calls, "call")} of Atomics`;
   if (accesses === null) return made;
   if (accesses === 0) return `${made}, and no ordinary read or write`;
-  return `${made}, and ${counted(accesses, "ordinary read or write", "ordinary reads and writes")}`;
+  return `${made}, and ${countText(accesses, "ordinary read or write", "ordinary reads and writes")}`;
 }
 
 /**
@@ -187,13 +188,13 @@ function accessLine({ runs, calls, accesses }) {
  * @param {string} what
  * @param {number} others how many runs are counted under what isn't
  */
-const countedOf = (count, what, others) => (others === 0 ? counted(count, what) : `over ${counted(count, what)}`);
+const countedOf = (count, what, others) => (others === 0 ? countText(count, what) : `over ${countText(count, what)}`);
 
 /**
  * What is said about runs whose states, pairs or reasons there was no room for.
  * @param {number} others how many runs they are counted in
  */
-const othersLines = (others) => (others === 0 ? [] : [indented(`and those of ${counted(others, "run")} besides`)]);
+const othersLines = (others) => (others === 0 ? [] : [indented(`and those of ${countText(others, "run")} besides`)]);
 
 /** @param {string} line */
 const indented = (line) => `  ${line}`;

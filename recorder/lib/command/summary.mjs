@@ -4,7 +4,7 @@
 
 import { hasThrown } from "../../page/endings.mjs";
 import { comesBefore } from "../run/order.mjs";
-import { OnlyByTime } from "./only-by-time.mjs";
+import { OnlyByTimeWaits } from "./only-by-time.mjs";
 import { shorteningOf } from "./shortened.mjs";
 import {
   endingsData, failingListOf, failingOf, failingData, failureKey, listedOf, of, pairKey, statesData,
@@ -14,11 +14,11 @@ import { Tally } from "./tally.mjs";
 import { Uses } from "./uses.mjs";
 
 /** @typedef {import("./summary-data.mjs").CheckedBy} CheckedBy */
-/** @typedef {import("./summary-data.mjs").Ending} Ending */
-/** @typedef {import("./summary-data.mjs").Failing} Failing */
-/** @typedef {import("./summary-data.mjs").Failure} Failure */
-/** @typedef {import("./summary-data.mjs").Outcome} Outcome */
-/** @typedef {import("./summary-data.mjs").State} State */
+/** @typedef {import("./summary-data.mjs").SummaryEnd} SummaryEnd */
+/** @typedef {import("./summary-data.mjs").FailingOutcome} FailingOutcome */
+/** @typedef {import("./summary-data.mjs").FailureInShort} FailureInShort */
+/** @typedef {import("./summary-data.mjs").SummaryOutcome} SummaryOutcome */
+/** @typedef {import("./summary-data.mjs").EndState} EndState */
 /** @typedef {import("./summary-data.mjs").Stop} Stop */
 /** @typedef {import("./summary-data.mjs").SummaryData} SummaryData */
 
@@ -71,15 +71,15 @@ export class Summary {
     this.raced = 0;
     /** How many failing runs fail only after the early end of a timed wait. */
     this.early = 0;
-    this.onlyByTime = new OnlyByTime();
+    this.onlyByTime = new OnlyByTimeWaits();
     /** How many scripts hold some of the ordinary writes only. */
     this.parts = 0;
     this.endings = { failing: new Tally(), passing: new Tally() };
     /** How many of the runs that ended as `failed` threw. */
     this.threw = 0;
-    /** @type {Tally<Failure>} */
+    /** @type {Tally<FailureInShort>} */
     this.failures = new Tally();
-    /** @type {Record<"failing" | "passing", Tally<State>>} by their hashes */
+    /** @type {Record<"failing" | "passing", Tally<EndState>>} by their hashes */
     this.states = { failing: new Tally(), passing: new Tally() };
     /** @type {Tally<{ lines: string[] }>} */
     this.pairs = new Tally();
@@ -88,13 +88,13 @@ export class Summary {
     this.uses = { unrecorded: new Uses(), real: new Uses() };
     /** @type {import("../seeds/first-again.mjs").Remembering | undefined} */
     this.remembers = undefined;
-    /** @type {Failing | undefined} the first failing run */
+    /** @type {FailingOutcome | undefined} the first failing run */
     this.failing = undefined;
     /** @type {import("../seeds/job.mjs").ShortenedByJob | undefined} the result of its shortening */
     this.shortened = undefined;
   }
 
-  /** @param {Outcome} outcome */
+  /** @param {SummaryOutcome} outcome */
   add(outcome) {
     const { seed, ending, fails, state, calls, ordinary } = outcome;
     const which = fails ? "failing" : "passing";
@@ -152,7 +152,7 @@ export class Summary {
   }
 
   /**
-   * @param {Ending} [ending]
+   * @param {SummaryEnd} [ending]
    * @returns {SummaryData} all that is reported, as an object of JSON: the plain text is made from it
    */
   data(ending = {}) {
@@ -196,7 +196,7 @@ export class Summary {
     return summaryText(this.data({ stopped }));
   }
 
-  /** @param {Outcome} outcome */
+  /** @param {SummaryOutcome} outcome */
   #addRaces({ seed, races, onlyIf }) {
     if (races.length === 0) return;
     this.raced += 1;
@@ -204,7 +204,7 @@ export class Summary {
     for (const [key, lines] of pairs) this.pairs.add(key, seed, { lines }, onlyIf !== undefined);
   }
 
-  /** @param {Outcome} outcome */
+  /** @param {SummaryOutcome} outcome */
   #addScript({ seed, noScript, scriptHolds }) {
     if (noScript !== undefined) this.scriptless.add(noScript, seed);
     if (scriptHolds === "touched") this.parts += 1;
@@ -215,7 +215,7 @@ export class Summary {
     if (this.remembers === undefined || this.remembers.seed > found.seed) this.remembers = found;
   }
 
-  /** @param {Outcome} outcome that fails */
+  /** @param {SummaryOutcome} outcome that fails */
   #addFailure({ seed, ending, detail, failure, onlyIf }) {
     if (hasThrown(ending, detail)) this.threw += 1;
     if (failure === undefined) return;
@@ -231,7 +231,7 @@ export class Summary {
     this.failures.join(entries, others);
   }
 
-  /** @param {Failing} failing */
+  /** @param {FailingOutcome} failing */
   #addFailing(failing) {
     if (this.failing === undefined || !comesBefore(this.failing, failing)) this.failing = failing;
   }

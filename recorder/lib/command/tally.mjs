@@ -6,7 +6,7 @@ import { comesBefore } from "../run/order.mjs";
 
 /**
  * @template T
- * @typedef {object} Entry
+ * @typedef {object} TallyEntry
  * @property {string} key what the runs have in common
  * @property {number} runs how many they are
  * @property {number} early how many of them fail only after the early end of a timed wait
@@ -16,13 +16,13 @@ import { comesBefore } from "../run/order.mjs";
 
 /**
  * @template T
- * @typedef {Omit<Entry<T>, "early"> & { early?: number }} Joined of other tallies; `early` is 0 if it isn't given
+ * @typedef {Omit<TallyEntry<T>, "early"> & { early?: number }} Joined of other tallies; `early` is 0 if it isn't given
  */
 
 /** @param {{ runs: number, early: number }} entry @returns {boolean} whether all of its runs need an early end */
 export const isOnlyEarly = ({ runs, early }) => early === runs;
 
-/** @param {Entry<unknown>} entry @returns {import("../run/order.mjs").Failing} its first run */
+/** @param {TallyEntry<unknown>} entry @returns {import("../run/order.mjs").FailingRun} its first run */
 const firstOf = ({ first, ...entry }) => (isOnlyEarly(entry) ? { seed: first, onlyIf: "" } : { seed: first });
 
 /** How many keys are kept, if nothing else is said. */
@@ -33,7 +33,7 @@ export class Tally {
   /** @param {number} [most] how many keys are kept */
   constructor(most = MOST_KEYS) {
     this.most = most;
-    /** @type {Map<string, Entry<T>>} */
+    /** @type {Map<string, TallyEntry<T>>} */
     this.entries = new Map();
     /** How many runs were counted, under all keys. */
     this.counted = 0;
@@ -70,7 +70,7 @@ export class Tally {
     return [...this.entries.values()].reduce((left, { runs }) => left - runs, this.counted);
   }
 
-  /** @returns {Entry<T>[]} those of most runs first; after them those whose runs all need an early end */
+  /** @returns {TallyEntry<T>[]} those of most runs first; after them those whose runs all need an early end */
   sorted() {
     this.#cut();
     return [...this.entries.values()].sort((one, other) => {
@@ -79,7 +79,7 @@ export class Tally {
     });
   }
 
-  /** @param {Entry<T>} entry */
+  /** @param {TallyEntry<T>} entry */
   #put(entry) {
     this.counted += entry.runs;
     if (this.limit !== undefined && entry.key > this.limit) return;

@@ -1,13 +1,13 @@
 // What the command line runs: a module of agents, or a whole program.
 
-import { PROGRAM_ENDING } from "../keeping/keep.mjs";
+import { PROGRAM_ENDING } from "../keeping/run-store.mjs";
 import { needFittingAll } from "../options/of-all.mjs";
 import { needFitting } from "../options/of-programs.mjs";
 import { Refused } from "../options/refused.mjs";
-import { wordOf } from "../options/table.mjs";
+import { optionWord } from "../options/table.mjs";
 
 /** @param {string} name @returns {string} an option as its user writes it */
-const spelled = (name) => `--${wordOf(name)}`;
+const spelled = (name) => `--${optionWord(name)}`;
 
 /**
  * The file that is run, and whether it is a program.

@@ -6,15 +6,16 @@ import { OF_STORES } from "../../script/written.mjs";
 import { unseenLine } from "../run/trace.mjs";
 import { DOES, isCall, isEnd } from "./search/nodes.mjs";
 import { World } from "./search/world.mjs";
-import { answerText, callData, nodeText, Views } from "./search/text.mjs";
-import { hexOf } from "./search/elements.mjs";
+import { nodeAnswerText, callData, nodeText, AutomatonViews } from "./search/node-texts.mjs";
+import { hexOf } from "./search/raw-elements.mjs";
 import { NotAsLearned } from "./not-as-learned.mjs";
 
 /** @typedef {import("../run/outcome.mjs").Outcome} Outcome */
 /** @typedef {import("./search/nodes.mjs").Node} Node */
 
 /**
- * @typedef {{ agent: number, call: number, does: string, block: number, byte: number, size: number }} Event of a trace
+ * @typedef {{ agent: number, call: number, does: string, block: number, byte: number, size: number }} RealEvent of a
+ * trace
  */
 
 /**
@@ -89,7 +90,7 @@ class Way {
     this.touched = world.nodes.map(() => /** @type {Set<string>} */ (new Set()));
   }
 
-  /** @param {Event} event */
+  /** @param {RealEvent} event */
   step(event) {
     const { agent, does } = event;
     if (does === "read" || does === "write") {
@@ -107,19 +108,19 @@ class Way {
     if (!world.waits(agent)) this.#needAnswer(event, node);
   }
 
-  /** @param {Event} event @param {Node} node */
+  /** @param {RealEvent} event @param {Node} node */
   #needCall({ agent, call }, node) {
     const made = this.calls[agent][call];
-    const [name, , , ...rest] = isCall(node) ? callData(node, new Views()) : ["nothing"];
+    const [name, , , ...rest] = isCall(node) ? callData(node, new AutomatonViews()) : ["nothing"];
     const is = JSON.stringify([name, ...rest]);
     const isThere = node.error !== undefined || (made?.block === node.block && made?.byte === node.byte);
     const isSame = isThere && made?.text === is;
     need(isSame, `call ${call} of agent ${agent} is ${made?.text}, and ${nodeText(node)} was learned`);
   }
 
-  /** @param {Event} event @param {Node} node */
+  /** @param {RealEvent} event @param {Node} node */
   #needAnswer({ agent, call }, node) {
-    const answer = answerText(node, this.world.answered);
+    const answer = nodeAnswerText(node, this.world.answered);
     const real = this.answers[agent][call];
     // The value of a store is what was stored.
     need(real === answer, `call ${call} of agent ${agent} was answered ${real}, and by the automata it is ${answer}`);

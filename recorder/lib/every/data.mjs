@@ -2,8 +2,8 @@
 
 import { FinalStates } from "../run/final-state.mjs";
 
-/** @typedef {import("./every.mjs").Tried} Tried */
-/** @typedef {import("./learning/report.mjs").Report} Report */
+/** @typedef {import("./every.mjs").EveryResult} EveryResult */
+/** @typedef {import("./learning/learning-report.mjs").LearningReport} LearningReport */
 
 /**
  * @typedef {object} FoundData
@@ -25,6 +25,8 @@ import { FinalStates } from "../run/final-state.mjs";
  * @property {boolean} closed whether every schedule was tried
  * @property {string | null} open why not
  * @property {number} agents
+ * @property {boolean} areAlike whether two agents are alike: states that differ only by an exchange of like agents
+ * count as one then
  * @property {number} states
  * @property {number} acts
  * @property {number | null} depth all schedules up to so many acts were tried; null: every one was
@@ -51,27 +53,27 @@ const NOTHING = Object.freeze({
   widest: null,
 });
 
-/** @param {Tried} tried @returns {EveryData} */
+/** @param {EveryResult} tried @returns {EveryData} */
 export function dataOf({ report, open, realRuns, made, isProved, notProved, shown, onlyRuns, milliseconds }) {
   const closed = open === undefined;
   const proved = { searchProved: isProved, notProved: notProved ?? null };
   const common = { closed, open: open ?? null, realRuns, notCompared: made - realRuns, ...proved, milliseconds };
-  if (report === undefined) return { ...NOTHING, agents: 0, ...common };
-  const { counts, depth = null, edges, findings, hidden, plan, result, widest } = report;
+  if (report === undefined) return { ...NOTHING, agents: 0, areAlike: false, ...common };
+  const { counts, depth = null, edges, findings, hasLikes, hidden, plan, result, widest } = report;
   const found = findings.map(({ row: _row, goesOn: _goesOn, spins: _spins, ...finding }) => {
     const { outcome } = shown.find((each) => each.finding.row === _row) ?? {};
     return { ...finding, runs: 0, seed: null, ...endOf(outcome) };
   });
   return {
-    ...common, agents: plan.agents, states: result.states, acts: result.acts, depth, finals: finalsOf(report),
-    finalCount: result.final.count, found: [...found, ...onlyRuns.map(dataOfRuns)],
+    ...common, agents: plan.agents, areAlike: hasLikes, states: result.states, acts: result.acts, depth,
+    finals: finalsOf(report), finalCount: result.final.count, found: [...found, ...onlyRuns.map(dataOfRuns)],
     moments: counts.moments, edges: counts.edges,
     edgesByOne: edges.filter(({ from, besides }) => from !== undefined && besides === undefined).length, hidden,
     widest: { ...widest, line: widest.line ?? null },
   };
 }
 
-/** @param {import("../seeds/job.mjs").Checked} [outcome] @returns {Pick<FoundData, "detail" | "onlyIf">} */
+/** @param {import("../seeds/job.mjs").CheckedOutcome} [outcome] @returns {Pick<FoundData, "detail" | "onlyIf">} */
 const endOf = (outcome) => ({ detail: outcome?.detail.split("\n") ?? null, onlyIf: outcome?.onlyIf ?? null });
 
 /** @param {import("./only-runs.mjs").OnlyRun} found @returns {FoundData} */
@@ -81,7 +83,7 @@ function dataOfRuns({ kind, text, runs, outcome }) {
   return { kind, text, ...byRun, ...endOf(outcome) };
 }
 
-/** @param {Report} report @returns {EveryData["finals"]} */
+/** @param {LearningReport} report @returns {EveryData["finals"]} */
 function finalsOf({ plan, result: { final } }) {
   const named = new FinalStates(plan.names);
   return final.listed.map(({ blocks, states }) => {

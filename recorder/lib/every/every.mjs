@@ -11,34 +11,34 @@ import { NotAsLearned } from "./not-as-learned.mjs";
 import { OnlyRuns } from "./only-runs.mjs";
 import { programOf } from "./search/file.mjs";
 import { beginSearch } from "./proved.mjs";
-import { comparedBySecond, needFound } from "./second.mjs";
-import { firstNotShown, shown } from "./showing.mjs";
+import { comparedBySecond, needFound } from "./second-search.mjs";
+import { firstNotShown, shownFindings } from "./showing.mjs";
 
-/** @typedef {import("./learning/report.mjs").Report} Report */
-/** @typedef {import("./showing.mjs").Shown} Shown */
+/** @typedef {import("./learning/learning-report.mjs").LearningReport} LearningReport */
+/** @typedef {import("./showing.mjs").ShownFinding} ShownFinding */
 /** @typedef {import("./proved.mjs").Thread} Thread */
 
 /**
  * @typedef {import("../seeds/runs.mjs").RunsOptions & { within: number, states: number, agents?: number,
- * buffers?: number[], noBlock?: number[] }} EveryOptions `within` how many seconds, and `states` how many states
+ * buffers?: number[], noBlock?: number[] }} EveryRunOptions `within` how many seconds, and `states` how many states
  */
 
 /**
- * @typedef {object} Tried what came of it
- * @property {Report | undefined} report undefined: nothing could be learned
+ * @typedef {object} EveryResult what came of it
+ * @property {LearningReport | undefined} report undefined: nothing could be learned
  * @property {string | undefined} open why not every schedule was tried; undefined: every one was
  * @property {number} realRuns how many real runs agree with what was learned
  * @property {number} made how many there were
  * @property {import("./only-runs.mjs").OnlyRun[]} onlyRuns what they have shown and the search hasn't found
  * @property {boolean} isProved whether the proved search has found the same: the report's result is its own then
  * @property {string | undefined} notProved why there was no proved search
- * @property {Shown[]} shown
+ * @property {ShownFinding[]} shown
  * @property {number} milliseconds
  */
 
-/** @typedef {Pick<Tried, "realRuns" | "made" | "onlyRuns">} OfRuns */
+/** @typedef {Pick<EveryResult, "realRuns" | "made" | "onlyRuns">} RealRuns */
 
-/** @type {OfRuns} */
+/** @type {RealRuns} */
 const NO_RUNS = Object.freeze({ realRuns: 0, made: 0, onlyRuns: [] });
 
 const KEEPS = "Its modules keep something from run to run: with --fresh, which begins them anew, it does as learned";
@@ -49,7 +49,7 @@ const CHANGES_BUILTINS = "an agent changes the language's own objects, so what w
 
 export class Every {
   /**
-   * @param {EveryOptions} options
+   * @param {EveryRunOptions} options
    * @param {{ signal?: AbortSignal }} how
    */
   constructor(options, { signal }) {
@@ -57,13 +57,13 @@ export class Every {
     this.signal = signal;
     /** How many states were found so far. */
     this.states = 0;
-    /** @type {import("../seeds/job.mjs").Checked[]} of the real runs */
+    /** @type {import("../seeds/job.mjs").CheckedOutcome[]} of the real runs */
     this.outcomes = [];
     /** @type {{ again: Thread, search: Thread | undefined } | undefined} */
     this.threads = undefined;
   }
 
-  /** @returns {Promise<Tried>} */
+  /** @returns {Promise<EveryResult>} */
   async run() {
     if (preloads()) throw new Refused(PRELOADED);
     const begun = performance.now();
@@ -71,7 +71,7 @@ export class Every {
     return { ...tried, milliseconds: performance.now() - begun };
   }
 
-  /** @returns {Promise<Omit<Tried, "milliseconds">>} */
+  /** @returns {Promise<Omit<EveryResult, "milliseconds">>} */
   async #tried() {
     const real = new Runs({ ...this.#ofRuns(), wanted: { needsTrace: true } }, { signal: this.signal });
     const running = this.#take(real);
@@ -104,7 +104,7 @@ export class Every {
     }
   }
 
-  /** @param {Report} report @param {AbortSignal} ending */
+  /** @param {LearningReport} report @param {AbortSignal} ending */
   async #second({ file, findings, result }, ending) {
     const { sabsim } = this.options;
     const signal = this.signal === undefined ? ending : AbortSignal.any([ending, this.signal]);
@@ -125,7 +125,7 @@ export class Every {
     for await (const outcome of runs.outcomes()) this.outcomes.push(outcome);
   }
 
-  /** @returns {Promise<Report | string>} a text: why nothing could be learned */
+  /** @returns {Promise<LearningReport | string>} a text: why nothing could be learned */
   async #report() {
     const { agents, args, buffers, module, noBlock, seconds, states, timeouts, within } = this.options;
     /** @type {"early" | "never"} */
@@ -141,7 +141,7 @@ export class Every {
     }
   }
 
-  /** @param {Report} report */
+  /** @param {LearningReport} report */
   async #learnAgain({ edges, isShared, nodes, plan }) {
     const { args, fresh, module, seconds } = this.options;
     const given = { module, args, plan, isShared, isFresh: fresh === true, nodes, edges };
@@ -154,9 +154,9 @@ export class Every {
 
   /**
    * Compares the real runs, those that were made first.
-   * @param {Report} report
+   * @param {LearningReport} report
    * @param {Promise<void>} running
-   * @returns {Promise<OfRuns>} how many are ways through the automata, and what they alone have shown
+   * @returns {Promise<RealRuns>} how many are ways through the automata, and what they alone have shown
    */
   async #agreeing({ file, findings }, running) {
     const agreement = new Agreement(programOf(file));
@@ -168,14 +168,14 @@ export class Every {
     return { realRuns: agreement.compared, made: this.outcomes.length, onlyRuns: [...only.found.values()] };
   }
 
-  /** @param {Report} report that isn't closed @returns {Promise<Shown[]>} what real runs show of it */
+  /** @param {LearningReport} report that isn't closed @returns {Promise<ShownFinding[]>} what real runs show of it */
   async #shownSoFar({ findings }) {
-    return (await shown(findings, this.options)).filter(({ isSame }) => isSame);
+    return (await shownFindings(findings, this.options)).filter(({ isSame }) => isSame);
   }
 
-  /** @param {Report} report */
+  /** @param {LearningReport} report */
   async #shown({ findings }) {
-    const found = await shown(findings, this.options);
+    const found = await shownFindings(findings, this.options);
     const other = firstNotShown(found);
     if (other === undefined) return found.filter(({ isSame }) => isSame);
     const { finding: { kind, text }, outcome: { ending, detail } } = other;
@@ -185,7 +185,7 @@ export class Every {
   }
 }
 
-/** @param {Report} report that isn't closed @returns {string} */
+/** @param {LearningReport} report that isn't closed @returns {string} */
 function openText({ bound, depth, result: { states } }) {
   const why = bound === "time" ? "its time was over" : "there are more";
   return `all of up to ${depth ?? 0} acts were, ${states.toLocaleString("en-US")} states; ${why}`;

@@ -6,14 +6,14 @@ import { NotAsLearned } from "./not-as-learned.mjs";
 import { isShownBy, plain } from "./showing.mjs";
 
 /** @typedef {import("./learning/findings.mjs").Finding} Finding */
-/** @typedef {import("../seeds/job.mjs").Checked} Outcome */
+/** @typedef {import("../seeds/job.mjs").CheckedOutcome} CheckedOutcome */
 
 /**
  * @typedef {object} OnlyRun
  * @property {"race" | "limit" | "failed"} kind
  * @property {string} text which lines race, or else the first line of the run's detail
  * @property {number} runs how many end so
- * @property {Outcome} outcome of the first one
+ * @property {CheckedOutcome} outcome of the first one
  */
 
 /** The endings of runs that show a finding. */
@@ -31,7 +31,7 @@ const OTHER_CHECK = "`check` may go by something else than the bytes, or keep so
 export class OnlyRuns {
   /**
    * @param {Finding[]} findings of a search that is closed
-   * @param {import("../simulator/chosen.mjs").Simulator} simulator that judges
+   * @param {import("../simulator/chosen.mjs").ChosenSimulator} simulator that judges
    */
   constructor(findings, simulator) {
     this.findings = findings;
@@ -41,7 +41,7 @@ export class OnlyRuns {
   }
 
   /**
-   * @param {Outcome} outcome of a real run
+   * @param {CheckedOutcome} outcome of a real run
    * @param {boolean} isWay whether it is a way through the automata
    * @throws {NotAsLearned} if the search should have found how it ends
    */
@@ -57,7 +57,10 @@ export class OnlyRuns {
     this.found.set(key, { ...known, ...first, runs: known.runs + 1 });
   }
 
-  /** @param {Outcome} outcome of a way through the automata that the search hasn't found @throws {NotAsLearned} */
+  /**
+   * @param {CheckedOutcome} outcome of a way through the automata that the search hasn't found
+   * @throws {NotAsLearned}
+   */
   #needPossible({ detail, ending, seed, trace = "" }) {
     const [first] = detail.split("\n");
     const isOther = ending === "failed" && !/^agent \d+ threw /.test(first);
@@ -74,11 +77,11 @@ export class OnlyRuns {
   }
 }
 
-/** @param {Outcome} outcome @param {boolean} isWay if it is a race, none of its accesses are a data race then */
+/** @param {CheckedOutcome} outcome @param {boolean} isWay if it is a race, none of its accesses are a data race then */
 function textOf({ detail, ending, races: [race] }, isWay) {
   if (ending !== "race" || race === undefined) return detail.split("\n")[0];
   return `${race.lines.join(" and ")}${isWay ? ", unordered but no data race" : ""}`;
 }
 
-/** @param {Finding} finding @param {Outcome} outcome @returns {boolean} whether the run ends in that way */
+/** @param {Finding} finding @param {CheckedOutcome} outcome @returns {boolean} whether the run ends in that way */
 const isOf = (finding, outcome) => ENDINGS[finding.kind] === outcome.ending && isShownBy(finding, outcome);

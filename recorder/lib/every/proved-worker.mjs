@@ -4,7 +4,7 @@ import { workerData } from "node:worker_threads";
 import { ModuleSimulator } from "../simulator/module.mjs";
 
 /**
- * @typedef {object} Given
+ * @typedef {object} ProvedSearchWorkerData
  * @property {string} text of the file
  * @property {import("../simulator/module.mjs").SearchJob} job
  * @property {number} room how many bytes the output may have
@@ -13,7 +13,7 @@ import { ModuleSimulator } from "../simulator/module.mjs";
 /** Does its work. */
 export function main() {
   const { job, port, room, text } =
-    /** @type {Given & { port: import("node:worker_threads").MessagePort }} */ (workerData);
+    /** @type {ProvedSearchWorkerData & { port: import("node:worker_threads").MessagePort }} */ (workerData);
   try {
     port.postMessage({ ended: new ModuleSimulator().search(job, text, room) });
   } catch (problem) {

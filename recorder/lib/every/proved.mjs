@@ -9,11 +9,11 @@ import { resultIn, statusOf } from "./search/lines.mjs";
 
 /** @typedef {import("./search/file.mjs").FileData} FileData */
 /** @typedef {import("./search/result.mjs").Result} Result */
-/** @typedef {import("../simulator/module.mjs").EndedSearch} EndedSearch */
+/** @typedef {import("../simulator/module.mjs").SimulatorSearchResult} SimulatorSearchResult */
 /** @typedef {import("../processes/thread.mjs").Thread} Thread */
 
 /**
- * @typedef {object} Bounds
+ * @typedef {object} ProvedSearchLimits
  * @property {import("./search/search.mjs").Choice} timeouts
  * @property {number} limit how many states at most
  * @property {number} size about how many bytes what is found has as JSON
@@ -39,7 +39,7 @@ const OUT_OF_MEMORY = 4;
 
 /**
  * @param {FileData} data
- * @param {Bounds} bounds
+ * @param {ProvedSearchLimits} bounds
  * @returns {Promise<Result>}
  * @throws {NotSearched | NotAsLearned}
  */
@@ -76,10 +76,10 @@ export function beginSearch() {
 }
 
 /**
- * @param {import("./proved-worker.mjs").Given} given
+ * @param {import("./proved-worker.mjs").ProvedSearchWorkerData} given
  * @param {AbortSignal} [signal]
  * @param {Thread} [thread]
- * @returns {Promise<EndedSearch>}
+ * @returns {Promise<SimulatorSearchResult>}
  */
 async function byModule(given, signal, thread = beginSearch()) {
   const stop = () => void thread.stop();
@@ -96,7 +96,7 @@ async function byModule(given, signal, thread = beginSearch()) {
   }
 }
 
-/** @param {EndedSearch} ended @returns {Result} */
+/** @param {SimulatorSearchResult} ended @returns {Result} */
 function resultOf({ status, output, complaint, leftOut }) {
   if (status === OUT_OF_MEMORY) throw new NotSearched("there is no memory for it");
   if (leftOut > 0) throw new NotAsLearned(`the proved search has found ${leftOut} bytes more than there was room for`);

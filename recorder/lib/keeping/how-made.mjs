@@ -2,8 +2,8 @@
 
 import { join } from "node:path";
 import { fileURLToPath } from "node:url";
-import { OPTIONS, wordOf } from "../options/table.mjs";
-import { modulePath, optionsText, quoted, shortPath } from "./about.mjs";
+import { OPTIONS, optionWord } from "../options/table.mjs";
+import { modulePath, optionsText, quoted, shortPath } from "./about-run.mjs";
 import { isInstalled } from "./program.mjs";
 
 /** @typedef {import("../run/group.mjs").GroupOptions} GroupOptions */
@@ -24,7 +24,7 @@ export function replayCommand(options) {
   const { module, args } = options;
   const others = Object.entries(OPTIONS).filter(([name, { isReplayed, ifNone }]) =>
     isReplayed && ![undefined, ifNone].includes(/** @type {any} */ (options[name])));
-  const words = others.map(([name]) => ` --${wordOf(name)} ${quoted(`${options[name]}`)}`);
+  const words = others.map(([name]) => ` --${optionWord(name)} ${quoted(`${options[name]}`)}`);
   return {
     options: `${programWords()} ${quoted(module)}${words.join("")}`,
     args: args.length === 0 ? "" : ` ${["--", ...args].map(quoted).join(" ")}`,
@@ -35,7 +35,7 @@ export function replayCommand(options) {
  * How a run was made. A kept run of a program names its program and its options itself. No command calls functions that
  * somebody has given in place of the module's `init` and `check`.
  * @param {GroupOptions} options of the run
- * @returns {import("./pictures.mjs").How}
+ * @returns {import("./pictures.mjs").RunOrigin}
  */
 export function howMade(options) {
   const { module, init, check, isProgram = false } = options;

@@ -5,13 +5,13 @@ import { createHash } from "node:crypto";
 import { resolve } from "node:path";
 import { fileURLToPath, pathToFileURL } from "node:url";
 import { SCRIPT_LIMITS } from "../../script/limits.mjs";
-import { MOST_DRAWS, moverOf } from "../board/row.mjs";
+import { MOST_DRAWS, moverOf } from "../board/drawn-schedule.mjs";
 import { Refused } from "../options/refused.mjs";
 import { OPTIONS, optionsOf } from "../options/table.mjs";
 import { HERE } from "../processes/platform.cjs";
 import { Windows } from "../run/windows.mjs";
 import { rowOf, stretchesOf } from "../shorter/stretches.mjs";
-import { PROGRAM_ENDING } from "./keep.mjs";
+import { PROGRAM_ENDING } from "./run-store.mjs";
 
 /**
  * @typedef {object} KeptProgram
@@ -39,7 +39,7 @@ const FORMER = new Map([["bounds", "limits"]]);
 
 /**
  * Keeps what makes a run of a program again.
- * @param {import("./keep.mjs").Keeper} keeper
+ * @param {import("./run-store.mjs").RunStore} keeper
  * @param {Outcome} outcome of the run that is kept
  * @param {GroupOptions} options of the run
  * @returns {string[]} why that isn't kept, if it isn't
@@ -194,4 +194,4 @@ export const besides = (file, path, { path: system } = HERE) =>
   (system.isAbsolute(path) ? path : system.resolve(file, "..", path));
 
 /** @param {string} path @returns {string} */
-export const urlOf = (path) => pathToFileURL(path).href;
+export const fileUrlOf = (path) => pathToFileURL(path).href;

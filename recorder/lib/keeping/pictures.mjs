@@ -3,31 +3,31 @@
 
 import { join } from "node:path";
 import { hasFloats } from "../../script/written.mjs";
-import { aboutOf } from "./about.mjs";
-import { PROGRAM_ENDING } from "./keep.mjs";
-import { pageText } from "./page.mjs";
-import { wordsText } from "./words.mjs";
+import { aboutOf } from "./about-run.mjs";
+import { PROGRAM_ENDING } from "./run-store.mjs";
+import { pageText } from "./kept-page.mjs";
+import { wordsText } from "./program-words.mjs";
 
 /** @typedef {import("../run/outcome.mjs").Outcome} Outcome */
-/** @typedef {import("../simulator/chosen.mjs").Simulator} Simulator */
+/** @typedef {import("../simulator/chosen.mjs").ChosenSimulator} ChosenSimulator */
 
 /**
  * @typedef {object} Picture
  * @property {string} ending of its file's name
  * @property {"explained" | "svg" | "json"} format of the replay that it is made from
- * @property {(output: string, outcome: Outcome, module: string, about: About) => string} made
+ * @property {(output: string, outcome: Outcome, module: string, about: AboutRun) => string} made
  * @property {boolean} [isOfPrograms] whether it is made only of runs of programs
  */
 
 /**
- * @typedef {object} How a run was made
+ * @typedef {object} RunOrigin a run was made
  * @property {string} module the URL of the agents' module
  * @property {string} options of the command line that don't have their defaults; empty: none
  * @property {Omit<import("../../page/run-data.mjs").Command, "script">} [command] that makes the run again, by its
  * script or by its row; undefined: none does
  */
 
-/** @typedef {ReturnType<typeof aboutOf>} About how a run was made, as its page says it */
+/** @typedef {ReturnType<typeof aboutOf>} AboutRun how a run was made, as its page says it */
 
 /** Why something isn't made of a script, in its message. */
 class NotMade extends Error {}
@@ -40,7 +40,7 @@ const PICTURES = Object.freeze([
   { ending: "html", format: "json", made: pageMade },
 ]);
 
-/** @param {string} facts @param {Outcome} outcome @param {string} module @param {About} about */
+/** @param {string} facts @param {Outcome} outcome @param {string} module @param {AboutRun} about */
 function pageMade(facts, outcome, module, about) {
   try {
     return pageText(outcome, facts, module, about);
@@ -52,11 +52,11 @@ function pageMade(facts, outcome, module, about) {
 
 /**
  * Makes something of the script of a run.
- * @param {Simulator} simulator
+ * @param {ChosenSimulator} simulator
  * @param {Picture} picture what
  * @param {Outcome} outcome that has a script
  * @param {string} module the URL of the agents' module
- * @param {About} about
+ * @param {AboutRun} about
  * @returns {string}
  * @throws {NotMade}
  */
@@ -66,7 +66,7 @@ function pictureOf(simulator, { format, made }, outcome, module, about) {
   return made(output, outcome, module, about);
 }
 
-/** @param {Simulator} simulator @param {Picture["format"]} format @param {string} script */
+/** @param {ChosenSimulator} simulator @param {Picture["format"]} format @param {string} script */
 function replayed(simulator, format, script) {
   try {
     return simulator.run({ job: "replay", format }, script);
@@ -77,9 +77,9 @@ function replayed(simulator, format, script) {
 
 /**
  * Keeps all of them beside the script.
- * @param {import("./keep.mjs").Keeper} keeper
+ * @param {import("./run-store.mjs").RunStore} keeper
  * @param {Outcome} outcome of the run that is kept
- * @param {How & { simulator: Simulator }} how the run was made, and the simulator
+ * @param {RunOrigin & { simulator: ChosenSimulator }} how the run was made, and the simulator
  * @returns {string[]} what isn't kept though there is a script to make it from, and why
  */
 export function keepPictures(keeper, outcome, { simulator, ...how }) {
@@ -102,7 +102,7 @@ export function keepPictures(keeper, outcome, { simulator, ...how }) {
 
 /**
  * What a reader of the kept files must know.
- * @param {import("./keep.mjs").Keeper} keeper
+ * @param {import("./run-store.mjs").RunStore} keeper
  * @param {Outcome} outcome of the run that is kept
  * @returns {string[]} a sentence each
  */

@@ -2,24 +2,14 @@
 
 import { needFittingAll } from "../options/of-all.mjs";
 import { Refused } from "../options/refused.mjs";
-import { OPTIONS } from "../options/table.mjs";
+import { OPTIONS, SEEDS_OF_ALL, assumed } from "../options/table.mjs";
 import { chosenProgram } from "../simulator/chosen.mjs";
 import { folderOfCaller } from "./caller.cjs";
 import { exploreOptions } from "./library-options.mjs";
 
 /** @typedef {import("../every/data.mjs").EveryData} EveryData */
 
-/**
- * @typedef {object} OfEvery
- * @property {number} [within] for how many seconds it searches, above 0 and 3,600 at most; else 60
- * @property {number} [states] how many states it finds at most; else 1,000,000
- */
-
-/** @typedef {import("./library-options.mjs").ExploreOptions & OfEvery} EveryOptions */
-
-const WITHIN = 60;
-const STATES = 1_000_000;
-const SEEDS = 300;
+/** @typedef {import("../../every-schedule.cjs").EveryOptions} EveryOptions */
 
 /** @param {string} name */
 const spelled = (name) => `\`${name}\``;
@@ -28,10 +18,10 @@ const spelled = (name) => `\`${name}\``;
  * The options of a search of every schedule, as it takes them.
  * @param {EveryOptions} options
  * @param {() => string | undefined} callersFolder from which a relative path is taken, if it is known
- * @returns {import("../every/every.mjs").EveryOptions & { signal?: AbortSignal }}
+ * @returns {import("../every/every.mjs").EveryRunOptions & { signal?: AbortSignal }}
  */
 export function everyOptions(options, callersFolder) {
-  const { within = WITHIN, states = STATES, ...rest } = options ?? {};
+  const { within = assumed("within"), states = assumed("states"), ...rest } = options ?? {};
   OPTIONS.within.kind.value(within, spelled("within"));
   OPTIONS.states.kind.value(states, spelled("states"));
   needFittingAll(rest, spelled, true);
@@ -40,7 +30,7 @@ export function everyOptions(options, callersFolder) {
     const instead = "export it from their module";
     throw new Refused(`\`${name}\` can't be given: the agents are learned in another thread; ${instead}`);
   }
-  const { seeds, sabsim, ...checked } = exploreOptions({ seeds: SEEDS, ...rest }, callersFolder);
+  const { seeds, sabsim, ...checked } = exploreOptions({ seeds: SEEDS_OF_ALL, ...rest }, callersFolder);
   const checking = sabsim !== false && checked.checkEvery > 0 ? { sabsim: chosenProgram(sabsim) } : { checkEvery: 0 };
   return { ...checked, ...seeds, ...checking, within, states };
 }

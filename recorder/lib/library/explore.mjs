@@ -9,7 +9,7 @@ import { exploreOptions } from "./library-options.mjs";
 
 /** @typedef {import("../simulator/native.mjs").NoSabsim} NoSabsim */
 /** @typedef {import("../options/refused.mjs").Refused} Refused */
-/** @typedef {import("./recorder.mjs").Outcome} Outcome */
+/** @typedef {import("./record-runs.mjs").RecordedOutcome} RecordedOutcome */
 /** @typedef {import("./library-options.mjs").ExploreOptions} ExploreOptions */
 
 /**
@@ -17,8 +17,8 @@ import { exploreOptions } from "./library-options.mjs";
  * before the first one is asked for, and when no more is asked for, all that was started is ended. A relative path of
  * the module is taken from the file whose code calls this function.
  * @param {ExploreOptions} options
- * @returns {AsyncGenerator<Outcome, void, void>} it fails with a Difference if the simulator says something else, and
- * with LostJob if the process of a job has ended
+ * @returns {AsyncGenerator<RecordedOutcome, void, void>} it fails with a Difference if the simulator says something
+ * else, and with LostJob if the process of a job has ended
  * @throws {Refused | NoSabsim} for options that can't be, and if the native program is chosen and isn't there
  */
 export function explore(options) {

@@ -1,92 +1,17 @@
 // The options of the library: each is looked at before anything is started, and one that isn't known is refused.
 
-import { FLAG, named } from "../options/kinds.mjs";
 import { meant } from "../options/nearest.mjs";
 import { needFitting } from "../options/of-programs.mjs";
 import { Refused } from "../options/refused.mjs";
 import { defaultsOf, optionsOf } from "../options/table.mjs";
 import { moduleUrlOf } from "./module-url.mjs";
 
-/**
- * @callback WithBuffers what is called with the buffers, when no agent runs
- * @param {SharedArrayBuffer[]} buffers
- * @param {{ agents: number, args: string[] }} run
- * @returns {unknown}
- */
-
-/**
- * @typedef {object} RunOptions what each run may have
- * @property {string[]} [args] for the agents, or for the program
- * @property {"mixed" | "uniform" | "partial-order" | `switch:${number}`} [strategy] who moves next; else "mixed"
- * @property {boolean} [everywhere] whether agents are switched before each call, also where no agents can meet
- * @property {number | "never"} [timeouts] from 0 to 1: in how many of the draws the early end of a timed wait is
- * offered while something else can move; "never": no timed wait ends by itself; else 0.05
- * @property {number} [maxMoves] at most 100,000
- * @property {number} [seconds] for how long an agent may make no call
- * @property {"fail" | "allow"} [races] whether a run with unordered accesses fails; else "fail"
- * @property {"fail" | "allow"} [limits] whether a run that meets a limit fails; else "fail"
- * @property {string | boolean} [sabsim] the path of the native program, which then checks in place of the module;
- * false: runs aren't checked
- * @property {boolean} [trace] whether the outcome has its trace
- */
-
-/**
- * @typedef {object} OfModule what the runs of a module of agents have
- * @property {string | URL} module the agents' module: a URL, or a path, from the folder of the file that calls `record`
- * @property {undefined} [program]
- * @property {number} [agents] how many; else what the module's `setup` says
- * @property {number[]} [buffers] the bytes of each buffer; else what the module's `setup` says
- * @property {number[]} [noBlock] the agents that can't block; else what the module's `setup` says, and else none
- * @property {"watch" | "store" | "refuse"} [ordinary] what is done with ordinary reads and writes; else "watch"
- * @property {"fail" | "allow"} [unrecorded] whether a run fails in which agents use shared memory that isn't recorded;
- * else "fail"
- * @property {"run" | "real"} [clock] the time that clocks give agents: the run's own or the machine's; else "run"
- * @property {WithBuffers} [init] fills the buffers before the run
- * @property {WithBuffers} [check] is called after a run that finished; what it throws fails the run, and so does
- * `false` or an error that it returns
- */
-
-/**
- * @typedef {object} OfProgram what the runs of a whole program have
- * @property {string | URL} program its main module: a URL, or a path, from the folder of the file that calls `record`
- * @property {undefined} [module]
- * @property {"fail" | "allow"} [stuck] whether a run that is stuck fails; else "fail"
- * @property {number} [early] by how many milliseconds the run's clock may be ahead of what waits, since a timer or a
- * timed wait has ended early; 0: none does; else 100
- * @property {boolean} [web] whether the program is one for browsers; else it is one of node
- * @property {"all" | "none"} [programOutput] for which runs it is shown what the program prints; else for the first one
- * @property {"ordinary" | "relaxed"} [wasmAccesses] what plain aligned accesses of WebAssembly to shared memory are:
- * C's `volatile` is relaxed; else "ordinary"
- */
-
-/**
- * @typedef {object} OneRun what one run may have besides
- * @property {number} [seed] a whole number from 0 to 2^53 - 1; else 1
- * @property {boolean} [shorten] whether the outcome of a run that fails is that of the shortest one that fails in the
- * same way; else false
- */
-
-/**
- * @typedef {object} ManyRuns what many runs may have besides
- * @property {string | number | { first: number, last: number }} [seeds] as "1..1000"; a number: so many of them, from 1
- * on; else 1..100
- * @property {number} [jobs] how many groups of workers run side by side, 1 to 64: one in this process, several in one
- * for each; else 1
- * @property {number} [checkEvery] every failing run is checked, and one in so many of the others; 0: none is; else 1
- * @property {boolean} [fresh] whether the agents' workers are started anew for each seed; else they are kept, with what
- * the module keeps in its variables
- * @property {boolean} [failFast] whether the first failing run is the last, unless it fails only after the early end of
- * a timed wait
- * @property {AbortSignal} [signal] ends all runs when it is aborted
- */
-
-/** @typedef {{ out?: string, shorten?: boolean, all?: boolean, within?: number, states?: number }} OfTrial */
-/** @typedef {RunOptions & Omit<ManyRuns, "failFast"> & OfTrial} TrialRuns */
-
-/** @typedef {RunOptions & OneRun & (OfModule | OfProgram)} RecordOptions */
-/** @typedef {RunOptions & ManyRuns & (OfModule | OfProgram)} ExploreOptions */
-/** @typedef {TrialRuns & OfModule} TrialOptions */
-/** @typedef {TrialRuns & OfProgram} ProgramTrialOptions */
+/** @typedef {import("../../recorder.cjs").WithBuffers} WithBuffers */
+/** @typedef {import("../../options.cjs").RecordOptions} RecordOptions */
+/** @typedef {import("../../options.cjs").ExploreOptions} ExploreOptions */
+/** @typedef {import("../../testing.cjs").OfTrial} OfTrial */
+/** @typedef {import("../../testing.cjs").TrialOptions} TrialOptions */
+/** @typedef {import("../../testing.cjs").ProgramTrialOptions} ProgramTrialOptions */
 
 /** What there is in place of options that earlier versions had. */
 const INSTEAD = new Map([["switch", 'use `strategy: "switch:P"`'], ["bounds", "use `limits`"]]);
@@ -135,7 +60,7 @@ function whatRuns({ module, program }) {
 
 /**
  * @typedef {object} OfMany what many runs have besides
- * @property {import("../seeds/ranges.mjs").Range} seeds
+ * @property {import("../seeds/ranges.mjs").SeedRange} seeds
  * @property {number} jobs
  * @property {number} checkEvery
  * @property {boolean} failFast
@@ -173,8 +98,10 @@ export function exploreOptions(options, callersFolder) {
  * @returns {Options}
  */
 export function checkedOwn(options) {
-  if (options?.out !== undefined) named("the path of a folder").value(options.out, "`out`");
-  if (options?.shorten !== undefined) FLAG.value(options.shorten, "`shorten`");
-  if (options?.all !== undefined) FLAG.value(options.all, "`all`");
+  for (const [name, { kind, of }] of optionsOf("trial")) {
+    const value = /** @type {any} */ (options)?.[name];
+    // How far a search goes is looked at when it begins.
+    if (!of.includes("every") && value !== undefined) kind.value(value, `\`${name}\``);
+  }
   return options ?? /** @type {any} */ ({});
 }

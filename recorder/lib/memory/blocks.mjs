@@ -54,7 +54,7 @@ export class Blocks {
   /**
    * @param {ReturnType<typeof Blocks.memory>} shared
    * @param {SharedArrayBuffer[]} copies for each block that a script can have, as long as it can be
-   * @param {import("./memory.mjs").Memory} memory whose blocks these are
+   * @param {import("./recorded-memory.mjs").RecordedMemory} memory whose blocks these are
    * @param {number[]} lengths of the blocks, which are kept as they are
    */
   constructor(shared, copies, memory, lengths) {
@@ -89,8 +89,8 @@ export class Blocks {
   /** A run begins, in which nothing was made yet. The referee calls it. */
   begin() {
     const { copies, memory, words } = this;
-    for (let block = 0; block < words[COUNT]; block += 1) memory.known[block] = new Uint8Array(copies[block]);
-    for (let block = 0; block < words[COUNT]; block += 1) memory.known[block].fill(0);
+    for (let block = 0; block < words[COUNT]; block += 1) memory.shadow[block] = new Uint8Array(copies[block]);
+    for (let block = 0; block < words[COUNT]; block += 1) memory.shadow[block].fill(0);
     words[COUNT] = 0;
     this.more.begin();
     this.clear();
@@ -127,7 +127,7 @@ export class Blocks {
     // Others may come later that have smaller numbers.
     for (let other = memory.real.length; other < block; other += 1) {
       memory.real[other] = NO_BYTES;
-      memory.known[other] = NO_BYTES;
+      memory.shadow[other] = NO_BYTES;
       lengths[other] = 0;
     }
     this.buffers[block] = buffer;
@@ -168,13 +168,13 @@ export class Blocks {
     for (const block of more.numbers()) this.#learn(block, more.known(block).length);
     // Nobody writes there.
     this.lengths[MESSAGES] = messageBytes(messages);
-    this.memory.known[MESSAGES] = new Uint8Array(this.copies[MESSAGES], 0, this.lengths[MESSAGES]);
+    this.memory.shadow[MESSAGES] = new Uint8Array(this.copies[MESSAGES], 0, this.lengths[MESSAGES]);
   }
 
   /** @param {number} block @param {number} length */
   #learn(block, length) {
     const isMore = block >= FIRST_MORE;
-    this.memory.known[block] = isMore ? this.more.whole(block) : new Uint8Array(this.copies[block], 0, length);
+    this.memory.shadow[block] = isMore ? this.more.whole(block) : new Uint8Array(this.copies[block], 0, length);
     this.lengths[block] = length;
   }
 
@@ -184,11 +184,11 @@ export class Blocks {
     this.buffers = [];
     for (let block = 0; block < SCRIPT_LIMITS.blocks; block += 1) {
       memory.real[block] = NO_BYTES;
-      memory.known[block] = NO_BYTES;
+      memory.shadow[block] = NO_BYTES;
       lengths[block] = block === MESSAGES ? messageBytes(0) : 0;
     }
     memory.real.length = SCRIPT_LIMITS.blocks;
-    memory.known.length = SCRIPT_LIMITS.blocks;
+    memory.shadow.length = SCRIPT_LIMITS.blocks;
     lengths.length = SCRIPT_LIMITS.blocks;
   }
 }

@@ -26,7 +26,7 @@ const HEAD_BYTES = SLOTS * Int32Array.BYTES_PER_ELEMENT;
 /** @typedef {{ sizes: Sizes, slot: number, own?: ArrayBuffer }} Copy a long one has memory of its own, and no slot */
 
 /**
- * @typedef {object} Parts of a copy
+ * @typedef {object} CopiedParts of a copy
  * @property {Records[]} records of each agent's calls
  * @property {Int32Array} events
  * @property {Int32Array} stores
@@ -70,7 +70,7 @@ export class CopiedRuns {
     return copy;
   }
 
-  /** @param {Copy} copy that wasn't freed @returns {Parts} */
+  /** @param {Copy} copy that wasn't freed @returns {CopiedParts} */
   parts({ sizes, slot, own }) {
     const memory = own ?? this.memory;
     let at = slot === NO_SLOT ? 0 : HEAD_BYTES + slot * SLOT_BYTES;

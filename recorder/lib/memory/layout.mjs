@@ -105,7 +105,7 @@ export const wordsFor = (agents) => AGENTS + AGENT_WORDS * agents;
 export const PHASE = Object.freeze({ RUNS: 0, ASKS: 1, WAITS: 2, WAITS_TIMED: 3, WOKEN: 4, FINISHED: 5 });
 
 /** What an agent's worker is at. A parked one sleeps for good, since its agent went on after its run's end. */
-export const STATUS = Object.freeze({ IDLE: 0, BUSY: 1, DEAD: 2, PARKED: 3 });
+export const WORKER_STATUS = Object.freeze({ IDLE: 0, BUSY: 1, DEAD: 2, PARKED: 3 });
 
 /** What an agent's worker is asked for: its part in a run, or the module's `init` or `check`. */
 export const ORDER = Object.freeze({ PLAY: 0, INIT: 1, CHECK: 2 });

@@ -17,7 +17,7 @@ const { ceil, max, min } = Math;
 /** @typedef {SharedArrayBuffer & { grow(bytes: number): void, maxByteLength: number }} Growing */
 
 /**
- * @typedef {object} Start how a block began
+ * @typedef {object} BlockStart how a block began
  * @property {Uint8Array} bytes that it had
  * @property {number} agent that had made and filled it
  * @property {number} position in the log at which it became a block
@@ -131,7 +131,10 @@ export class MoreBlocks {
     words[at + POSITION] = position;
   }
 
-  /** @param {number} block its number @returns {Start | undefined} undefined: it isn't known for so long a block */
+  /**
+   * @param {number} block its number
+   * @returns {BlockStart | undefined} undefined: it isn't known for so long a block
+   */
   start(block) {
     const { words, memory } = this;
     const at = this.#at(block);

@@ -16,7 +16,7 @@ const encoder = new TextEncoder();
 const BYTES = 2 ** 20;
 
 /** The number of a position that isn't known, or that there is no room for. */
-export const UNKNOWN = 0;
+export const UNKNOWN_SOURCE = 0;
 
 // Before the text come how many of its bytes are used, and the position that the agent has marked.
 const USED = 0;
@@ -41,14 +41,14 @@ export class Sources {
     /** @type {Map<string, number>} the numbers of those that are written down, by their lines */
     this.lines = new EngineMap();
     this.count = 0;
-    this.#takeOver(bufferFrom(memory, WORDS * 4, this.words[USED]));
+    this.#syncShadow(bufferFrom(memory, WORDS * 4, this.words[USED]));
   }
 
   /**
    * Takes over what a worker before this one has written down.
    * @param {Buffer} written
    */
-  #takeOver(written) {
+  #syncShadow(written) {
     const text = decode(written, "utf8");
     for (let at = 0; at < text.length;) {
       const next = indexOf(text, "\n", at) + 1;
@@ -63,7 +63,7 @@ export class Sources {
    * @param {string | null} file
    * @param {number | null} row the number of its line
    * @param {number | null} column
-   * @returns {number} `UNKNOWN` if there is no room for it
+   * @returns {number} `UNKNOWN_SOURCE` if there is no room for it
    */
   numberOf(file, row, column) {
     const numbers = this.#numbersOf(file);
@@ -72,11 +72,13 @@ export class Sources {
     if (known !== undefined) return known;
     const line = `${file}:${row}:${column}\n`;
     const number = mapGet(this.lines, line) ?? this.#added(line);
-    if (number !== UNKNOWN) mapSet(numbers, position, number);
+    if (number !== UNKNOWN_SOURCE) mapSet(numbers, position, number);
     return number;
   }
 
-  /** @param {number} number of the position at which the agent is when its run is over; `UNKNOWN`: none is known */
+  /**
+   * @param {number} number of the position at which the agent is when its run is over; `UNKNOWN_SOURCE`: none is known
+   */
   mark(number) {
     this.words[MARKED] = number;
   }
@@ -84,7 +86,7 @@ export class Sources {
   /** @returns {string} the position that is marked; empty if none is known */
   marked() {
     const number = this.words[MARKED];
-    return number === UNKNOWN ? "" : this.list()[number] ?? "";
+    return number === UNKNOWN_SOURCE ? "" : this.list()[number] ?? "";
   }
 
   /** @param {string | null} file */
@@ -104,7 +106,7 @@ export class Sources {
   #added(line) {
     const room = this.text.length - this.words[USED];
     // A character takes three bytes at most.
-    if (line.length * 3 > room) return UNKNOWN;
+    if (line.length * 3 > room) return UNKNOWN_SOURCE;
     const { written } = encode(encoder, line, apply(subarray, this.text, [this.words[USED]]));
     this.words[USED] += written;
     this.count += 1;

@@ -5,7 +5,7 @@ import { CALLS, KINDS, SIZES } from "../../script/kinds.mjs";
 import { SCRIPT_LIMITS } from "../../script/limits.mjs";
 
 /** @typedef {import("./records.mjs").Call} Call */
-/** @typedef {{ kind: number, block: number, offset: number, length: number }} Range of a view: see `Call` */
+/** @typedef {{ kind: number, block: number, offset: number, length: number }} ViewRange of a view: see `Call` */
 
 // The marks of a call, as in ["load", "v", 0], and those before an operand.
 const CALL_MARKS = 10;
@@ -18,7 +18,7 @@ const TIME_UP_MOVE = 20;
 
 const { floor } = Math;
 
-/** @param {Range} view @returns {number} a number that no other view has */
+/** @param {ViewRange} view @returns {number} a number that no other view has */
 export function viewKey({ kind, block, offset, length }) {
   const places = SCRIPT_LIMITS.bytes + 1;
   return ((kind * SCRIPT_LIMITS.blocks + block) * places + offset) * places + length;
@@ -28,7 +28,7 @@ export function viewKey({ kind, block, offset, length }) {
  * A name by the view's kind and place: its kind, its block if there are several, and its first byte if that isn't the
  * block's. If the view ends before the block does, its length comes last.
  * @param {number[]} lengths of the blocks
- * @param {Range} view
+ * @param {ViewRange} view
  * @returns {string}
  */
 export function viewName(lengths, { kind, block, offset, length }) {
@@ -47,7 +47,7 @@ const operandText = (operand) => (typeof operand === "bigint" ? `"${operand}"` :
  * @param {number} [index] of the element in that view
  * @returns {string} the call as a script has it
  */
-export function callText(view, call, index = call.index) {
+export function namedCallText(view, call, index = call.index) {
   let text = `["${CALLS[call.call].name}", "${view}", ${index}`;
   for (let at = 0; at < call.operands.length; at += 1) text += `, ${operandText(call.operands[at])}`;
   return call.limit === undefined ? `${text}]` : `${text}, ${call.limit}]`;
@@ -56,14 +56,14 @@ export function callText(view, call, index = call.index) {
 /**
  * A call as a script has it, with the place of its element instead of view and index: so it is the same by whatever
  * view and name. A call whose view hasn't that element keeps both.
- * @param {Range & { index: number }} at
+ * @param {ViewRange & { index: number }} at
  * @param {Call} call
  * @returns {string}
  */
 export function placedCallText({ kind, block, offset, length, index }, call) {
-  if (!(index >= 0 && index < length)) return callText(`${viewKey({ kind, block, offset, length })}`, call);
+  if (!(index >= 0 && index < length)) return namedCallText(`${viewKey({ kind, block, offset, length })}`, call);
   const element = { kind, block, offset: offset + index * SIZES[kind], length: 1 };
-  return callText(`${viewKey(element)}`, call, 0);
+  return namedCallText(`${viewKey(element)}`, call, 0);
 }
 
 /**

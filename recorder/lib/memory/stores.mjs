@@ -69,7 +69,7 @@ export class Stores {
   /**
    * @param {ReturnType<typeof Stores.memory>} memory
    * @param {Int32Array} words of the board
-   * @param {import("./memory.mjs").Memory} buffers
+   * @param {import("./recorded-memory.mjs").RecordedMemory} buffers
    */
   constructor(memory, words, buffers) {
     this.entries = new Int32Array(memory.entries);
@@ -110,7 +110,7 @@ export class Stores {
    * @param {number} kind of the view that it was written by, or a greater number if that is no typed array
    * @returns {boolean} whether it has changed anything
    */
-  takeWritten(agent, position, block, from, to, kind) {
+  recordWrites(agent, position, block, from, to, kind) {
     let hasChanged = false;
     if (kind < KINDS.length && to - from <= FEW_BYTES) {
       for (let byte = from; byte < to; byte += SIZES[kind]) {
@@ -140,8 +140,8 @@ export class Stores {
    */
   takeWrittenInMore(agent, position, block, from, to, kind) {
     if (to - from > SCRIPT_LIMITS.bytes) this.words[WORD.IS_THINNED] = LOST;
-    if (this.isLost()) return this.buffers.takeOver(block, from, to);
-    return this.takeWritten(agent, position, block, from, to, kind);
+    if (this.isLost()) return this.buffers.syncShadow(block, from, to);
+    return this.recordWrites(agent, position, block, from, to, kind);
   }
 
   /**
@@ -213,12 +213,12 @@ export class Stores {
    */
   #take(agent, position, block, byte, kind) {
     const real = this.buffers.real[block];
-    const known = this.buffers.known[block];
+    const known = this.buffers.shadow[block];
     const to = byte + SIZES[kind];
     let at = byte;
     while (at < to && real[at] === known[at]) at += 1;
     if (at === to) return false;
-    this.buffers.takeOver(block, byte, to);
+    this.buffers.syncShadow(block, byte, to);
     if (this.words[WORD.STORES] === ROOM) this.#thin();
     if (this.words[WORD.IS_THINNED] !== ALL && !this.#isTouched(block, byte, to)) {
       this.#drop(agent, position, block, byte, to);
@@ -241,7 +241,7 @@ export class Stores {
     entries[at + BLOCK] = block;
     entries[at + BYTE] = byte;
     entries[at + KIND] = kind;
-    const known = this.buffers.known[block];
+    const known = this.buffers.shadow[block];
     const value = (at + VALUE) * 4;
     for (let more = 0; more < SIZES[kind]; more += 1) bytes[value + more] = known[byte + more];
     words[WORD.STORES] += 1;

@@ -15,7 +15,7 @@ const HEAD = 4;
 const TASK_PARTS = 4;
 
 /**
- * @typedef {object} Task
+ * @typedef {object} TaskNote
  * @property {number} event how many events of the run's log come before it
  * @property {number} agent
  * @property {string} text what it is, in words
@@ -39,7 +39,7 @@ export class TaskNotes {
     this.used[0] = 0;
   }
 
-  /** @param {Task} task that begins now; if there is no room for it, it isn't noted */
+  /** @param {TaskNote} task that begins now; if there is no room for it, it isn't noted */
   note({ event, agent, text, place }) {
     this.#add([event, agent, text, place]);
   }
@@ -58,7 +58,7 @@ export class TaskNotes {
     used[0] += encode(encoder, line, bytes.subarray(used[0])).written;
   }
 
-  /** @returns {Task[]} in their order */
+  /** @returns {TaskNote[]} in their order */
   list() {
     const tasks = this.#all().filter((parts) => parts.length === TASK_PARTS);
     return tasks.map(([event, agent, text, place]) => ({ event, agent, text, place }));

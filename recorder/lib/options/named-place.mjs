@@ -4,7 +4,7 @@ import { KINDS, SCRIPT_KINDS, SIZES } from "../../script/kinds.mjs";
 import { meant } from "./nearest.mjs";
 import { Refused } from "./refused.mjs";
 
-/** @typedef {{ kind: number, block: number, offset: number, length: number }} Place of a name: a view */
+/** @typedef {{ kind: number, block: number, offset: number, length: number }} ViewPlace of a name: a view */
 
 /** A name stands for an element or an array that the buffers don't have. */
 export class NoSuchPlace extends Refused {}
@@ -12,7 +12,7 @@ export class NoSuchPlace extends Refused {}
 const MEMBERS = ["kind", "buffer", "offset", "length"];
 
 /** @type {(value: unknown, least: number, most: number) => value is number} */
-export const isWithin = (value, least, most) => {
+export const isIntegerWithin = (value, least, most) => {
   return typeof value === "number" && Number.isInteger(value) && value >= least && value <= most;
 };
 
@@ -38,7 +38,7 @@ function kindOf(name, kindName) {
  */
 function blockOf(name, block, lengths) {
   const last = lengths.length - 1;
-  if (isWithin(block, 0, last)) return block;
+  if (isIntegerWithin(block, 0, last)) return block;
   throw new NoSuchPlace(`\`names\` puts ${name} on buffer ${block}: there is no such buffer, only 0 to ${last}`);
 }
 
@@ -47,7 +47,7 @@ function blockOf(name, block, lengths) {
  * @param {string} name
  * @param {unknown[]} parts
  * @param {number[]} lengths of the blocks
- * @returns {Place}
+ * @returns {ViewPlace}
  */
 function placeOfParts(name, [kindName, buffer, ...indices], lengths) {
   const kind = kindOf(name, kindName);
@@ -55,7 +55,7 @@ function placeOfParts(name, [kindName, buffer, ...indices], lengths) {
   const elements = Math.floor(lengths[block] / SIZES[kind]);
   if (indices.length === 0) return { kind, block, offset: 0, length: elements };
   const [index] = indices;
-  if (isWithin(index, 0, elements - 1)) return { kind, block, offset: index * SIZES[kind], length: 1 };
+  if (isIntegerWithin(index, 0, elements - 1)) return { kind, block, offset: index * SIZES[kind], length: 1 };
   throw new NoSuchPlace(`\`names\` puts ${name} at index ${index}: buffer ${block} has ${elements} elements of kind ` +
     `${kindName}, counted from 0`);
 }
@@ -65,7 +65,7 @@ function placeOfParts(name, [kindName, buffer, ...indices], lengths) {
  * @param {string} name
  * @param {Partial<Record<string, unknown>>} given
  * @param {number[]} lengths of the blocks
- * @returns {Place}
+ * @returns {ViewPlace}
  */
 function placeOfMembers(name, given, lengths) {
   const other = Object.keys(given).find((member) => !MEMBERS.includes(member));
@@ -76,7 +76,7 @@ function placeOfMembers(name, given, lengths) {
   const block = blockOf(name, given.buffer, lengths);
   const { offset = 0 } = given;
   const [size, bytes] = [SIZES[kind], lengths[block]];
-  if (!isWithin(offset, 0, bytes - size)) {
+  if (!isIntegerWithin(offset, 0, bytes - size)) {
     throw new NoSuchPlace(`\`names\` puts ${name} at offset ${offset}: buffer ${block} has ${bytes} bytes, and an ` +
       `element of kind ${given.kind} takes ${size}`);
   }
@@ -86,7 +86,7 @@ function placeOfMembers(name, given, lengths) {
   }
   const most = Math.floor((bytes - offset) / size);
   const { length = most } = given;
-  if (isWithin(length, 1, most)) return { kind, block, offset, length };
+  if (isIntegerWithin(length, 1, most)) return { kind, block, offset, length };
   throw new NoSuchPlace(`\`names\` gives ${name} the length ${length}: buffer ${block} has room for 1 to ${most} ` +
     `elements of kind ${given.kind} from offset ${offset} on`);
 }
@@ -97,7 +97,7 @@ function placeOfMembers(name, given, lengths) {
  * @param {unknown} value
  * @param {number[]} lengths of the blocks
  * @param {string} example of names, for a message
- * @returns {Place}
+ * @returns {ViewPlace}
  * @throws {Refused}
  */
 export function placeOf(name, value, lengths, example) {

@@ -7,7 +7,7 @@ import { placeOf } from "./named-place.mjs";
 import { Refused } from "./refused.mjs";
 
 /**
- * @typedef {object} Name a view that has a name: one element, which is a word, or several
+ * @typedef {object} NamedView a view that has a name: one element, which is a word, or several
  * @property {string} name
  * @property {number} kind
  * @property {number} block
@@ -16,8 +16,8 @@ import { Refused } from "./refused.mjs";
  */
 
 /**
- * @typedef {object} Named an element by its name
- * @property {Name} view
+ * @typedef {object} NamedElement an element by its name
+ * @property {NamedView} view
  * @property {number} index of the element in the view
  */
 
@@ -46,7 +46,7 @@ function needsRightName(name) {
  * The names of a module's `setup`.
  * @param {unknown} given undefined: there are none
  * @param {number[]} lengths of the blocks
- * @returns {Name[]}
+ * @returns {NamedView[]}
  * @throws {Refused}
  */
 export function checkedNames(given, lengths) {
@@ -72,12 +72,12 @@ export function checkedNames(given, lengths) {
 }
 
 export class Names {
-  /** @param {Name[]} list */
+  /** @param {NamedView[]} list */
   constructor(list) {
     this.list = list;
     /** The shortest first. */
     this.sorted = [...list].sort((one, other) => one.length - other.length);
-    /** @type {Map<number, Named | undefined>} what was asked for, by the keys of the elements */
+    /** @type {Map<number, NamedElement | undefined>} what was asked for, by the keys of the elements */
     this.known = new Map();
   }
 
@@ -87,7 +87,7 @@ export class Names {
    * @param {number} kind
    * @param {number} block
    * @param {number} byte
-   * @returns {Named | undefined}
+   * @returns {NamedElement | undefined}
    */
   at(kind, block, byte) {
     if (this.list.length === 0) return undefined;
@@ -96,7 +96,7 @@ export class Names {
     return this.known.get(key);
   }
 
-  /** @param {number} kind @param {number} block @param {number} byte @returns {Named | undefined} */
+  /** @param {number} kind @param {number} block @param {number} byte @returns {NamedElement | undefined} */
   #at(kind, block, byte) {
     const size = SIZES[kind];
     const view = this.sorted.find((each) => {
@@ -111,7 +111,7 @@ export class Names {
    * @param {number} block
    * @param {number} from
    * @param {number} to
-   * @returns {Named | undefined}
+   * @returns {NamedElement | undefined}
    */
   of(block, from, to) {
     const kinds = this.list.map(({ kind }) => kind).filter((kind) => SIZES[kind] === to - from);
@@ -121,7 +121,8 @@ export class Names {
   /**
    * The element of a call, by its name.
    * @param {import("../memory/records.mjs").Call} call
-   * @returns {Named | undefined} undefined also if its view doesn't have that element: it throws by that view alone
+   * @returns {NamedElement | undefined} undefined also if its view doesn't have that element: it throws by that view
+   * alone
    */
   ofCall({ kind, block, offset, length, index }) {
     if (this.list.length === 0 || index < 0 || index >= length) return undefined;
@@ -132,5 +133,5 @@ export class Names {
 /** What names nothing. */
 export const NO_NAMES = new Names([]);
 
-/** @param {Named} named @returns {string} how texts call an element that has a name */
+/** @param {NamedElement} named @returns {string} how texts call an element that has a name */
 export const nameText = ({ view, index }) => (view.length === 1 ? view.name : `${view.name}[${index}]`);

@@ -1,24 +1,26 @@
 // Which options go with a whole program, and which with a module of agents.
 
 import { Refused } from "./refused.mjs";
+import { OPTIONS } from "./table.mjs";
 
-const AGENTS_ONLY = "it is about a module of agents, and a program makes its own threads and memory";
-const NOT_YET = "it isn't there for programs yet";
-
-/** Options that are about agents and their buffers, or that programs can't have yet; and why. */
-const WITHOUT = Object.freeze({
-  agents: AGENTS_ONLY, buffers: AGENTS_ONLY, noBlock: AGENTS_ONLY, unrecorded: AGENTS_ONLY, init: AGENTS_ONLY,
-  check: AGENTS_ONLY, ordinary: NOT_YET, clock: NOT_YET,
-});
-
-/** Options that are about programs alone; and why. */
-const OF_PROGRAMS = Object.freeze({
-  stuck: "only programs can be stuck",
-  early: "agents have no timers",
-  web: "agents aren't run as in a browser",
-  programOutput: "what agents print is always shown",
-  wasmAccesses: "the shared memory of WebAssembly is recorded in programs alone",
-});
+/**
+ * Refuses values that don't go with something.
+ * @param {"program" | "all"} of a whole program, or the search of every schedule
+ * @param {Record<string, any>} given what was given, by the options' names
+ * @param {(name: string) => string} spelled an option as its user writes it
+ * @throws {Refused}
+ */
+export function needOthers(of, given, spelled) {
+  for (const [name, { not = [] }] of Object.entries(OPTIONS)) {
+    const exclusion = not.find((each) => each.of === of);
+    const value = given[name];
+    if (exclusion === undefined || value === undefined) continue;
+    const { why, values } = exclusion;
+    if (!(values?.includes(value) ?? value !== false)) continue;
+    const what = values === undefined ? spelled(name) : `${spelled(name)} ${value}`;
+    throw new Refused(`${what} doesn't go with ${spelled(of)}: ${why}`);
+  }
+}
 
 /**
  * Refuses options that don't go with what is run.
@@ -27,16 +29,10 @@ const OF_PROGRAMS = Object.freeze({
  * @throws {Refused}
  */
 export function needFitting(given, spelled) {
-  const { program, timeouts } = given;
-  if (program === undefined) {
-    for (const [name, why] of Object.entries(OF_PROGRAMS)) {
-      if (given[name] !== undefined) throw new Refused(`${spelled(name)} needs ${spelled("program")}: ${why}`);
-    }
-    return;
+  const isProgram = given.program !== undefined;
+  for (const [name, { only }] of Object.entries(OPTIONS)) {
+    if (given[name] === undefined || only?.why === undefined || (only.of === "program") === isProgram) continue;
+    throw new Refused(`${spelled(name)} ${isProgram ? "doesn't go with" : "needs"} ${spelled("program")}: ${only.why}`);
   }
-  const without = `doesn't go with ${spelled("program")}`;
-  for (const [name, why] of Object.entries(WITHOUT)) {
-    if (given[name] !== undefined) throw new Refused(`${spelled(name)} ${without}: ${why}`);
-  }
-  if (timeouts === "never") throw new Refused(`${spelled("timeouts")} never ${without}: no timer would be due`);
+  if (isProgram) needOthers("program", given, spelled);
 }

@@ -2,7 +2,7 @@
 // open comes from the export `setup` of the agents' module.
 
 import { SCRIPT_LIMITS } from "../../script/limits.mjs";
-import { isWithin } from "./named-place.mjs";
+import { isIntegerWithin } from "./named-place.mjs";
 import { checkedNames } from "./names.mjs";
 import { meant, slipOf } from "./nearest.mjs";
 import { Refused } from "./refused.mjs";
@@ -18,7 +18,7 @@ const EXPORTS = ["setup", "init", "check"];
  * @property {number} agents how many
  * @property {number[]} buffers the length of each in bytes
  * @property {boolean[]} canBlock of each agent
- * @property {import("./names.mjs").Name[]} names of words and of arrays
+ * @property {import("./names.mjs").NamedView[]} names of words and of arrays
  */
 
 /** @param {unknown} agents @returns {number} */
@@ -26,7 +26,7 @@ export function checkedAgents(agents) {
   if (agents === undefined) {
     throw new Refused("the number of agents is missing: give `agents` (--agents), or `setup` in the module");
   }
-  if (isWithin(agents, 1, SCRIPT_LIMITS.agents)) return agents;
+  if (isIntegerWithin(agents, 1, SCRIPT_LIMITS.agents)) return agents;
   throw new Refused(`the number of agents must be from 1 to ${SCRIPT_LIMITS.agents}`);
 }
 
@@ -36,18 +36,18 @@ export function checkedBuffers(buffers) {
     throw new Refused("the buffers' bytes are missing: give `buffers` (--buffers), or `setup` in the module");
   }
   const { blocks, bytes } = SCRIPT_LIMITS;
-  if (!Array.isArray(buffers) || !isWithin(buffers.length, 1, blocks)) {
+  if (!Array.isArray(buffers) || !isIntegerWithin(buffers.length, 1, blocks)) {
     throw new Refused(`there must be from 1 to ${blocks} buffers`);
   }
   const lengths = Array.from(buffers);
-  if (lengths.every((length) => isWithin(length, 0, bytes))) return lengths;
+  if (lengths.every((length) => isIntegerWithin(length, 0, bytes))) return lengths;
   throw new Refused(`a buffer must have from 0 to ${bytes} bytes`);
 }
 
 /** @param {unknown} noBlock @returns {number[]} */
 export function checkedNoBlock(noBlock) {
   const most = SCRIPT_LIMITS.agents - 1;
-  if (!Array.isArray(noBlock) || !Array.from(noBlock).every((agent) => isWithin(agent, 0, most))) {
+  if (!Array.isArray(noBlock) || !Array.from(noBlock).every((agent) => isIntegerWithin(agent, 0, most))) {
     throw new Refused(`\`noBlock\` must be an array of the numbers of agents, each from 0 to ${most}`);
   }
   return [...noBlock];

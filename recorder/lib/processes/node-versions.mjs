@@ -1,19 +1,21 @@
 // What differs between versions of node. Nothing else compares versions. `LATER` has what later ones have for programs
-// besides what `surface-table.mjs` in `lib/program` has of node 20: the first of the tried versions with a name is
+// besides what `node-api-table.mjs` in `lib/program` has of node 20: the first of the tried versions with a name is
 // given. `SINCE` has which names of the table in `lib/agent` node 20 lacks.
 
 import process from "node:process";
 
-/** @typedef {"simulated" | "harmless" | "real" | "refused"} Kind what becomes of an export of node's in a program */
-/** @typedef {Partial<Record<Kind, string>>} Names of exports, by kind */
+/**
+ * @typedef {"simulated" | "harmless" | "real" | "refused"} ApiPolicy what becomes of an export of node's in a program
+ */
+/** @typedef {Partial<Record<ApiPolicy, string>>} ExportNames of exports, by kind */
 
 /**
  * @typedef {object} Version
  * @property {number} from the major version of node
- * @property {Readonly<Record<string, Names>>} modules
- * @property {Readonly<Record<string, Names>>} schemes modules that are only there with `node:`
- * @property {Names} globals
- * @property {Readonly<Record<string, string>>} methods that are refused, as in `surface-table.mjs`
+ * @property {Readonly<Record<string, ExportNames>>} modules
+ * @property {Readonly<Record<string, ExportNames>>} schemes modules that are only there with `node:`
+ * @property {ExportNames} globals
+ * @property {Readonly<Record<string, string>>} methods that are refused, as in `node-api-table.mjs`
  */
 
 /** @type {readonly Version[]} */
@@ -118,10 +120,10 @@ function joined(first, more) {
   return withNames(first, more);
 }
 
-/** @param {any} first @param {Names} more */
+/** @param {any} first @param {ExportNames} more */
 function withNames(first, more) {
   const names = { ...first };
-  for (const kind of /** @type {Kind[]} */ (Object.keys(more))) names[kind] = `${names[kind] ?? ""} ${more[kind]}`;
+  for (const kind of /** @type {ApiPolicy[]} */ (Object.keys(more))) names[kind] = `${names[kind] ?? ""} ${more[kind]}`;
   return names;
 }
 

@@ -4,7 +4,7 @@
 "use strict";
 
 const { readFileSync } = require("node:fs");
-const { fileURLToPath } = require("node:url");
+const { fileURLToPath, pathToFileURL } = require("node:url");
 const { compileFunction } = require("node:vm");
 
 /**
@@ -24,6 +24,10 @@ const PARAMETERS = ["modules", "require", "loaded"];
 
 /** The path of a module that can be made a function. One of CommonJS is required as it is. */
 const OWN = /^\..*\.mjs$/;
+
+/** The recorder's folder, as a URL and as a path. */
+const FOLDER_URL = new URL("../../", pathToFileURL(__filename)).href;
+const FOLDER = fileURLToPath(FOLDER_URL);
 
 /**
  * @typedef {object} OwnModule
@@ -70,6 +74,15 @@ function bodyOf(url, text) {
   return { code: `"use strict"; ${body}\nreturn { ${names.join(", ")} };`, imported };
 }
 
+/**
+ * The path of a module. No name within the recorder's folder is written in another way in a URL; to find the path of a
+ * URL takes node longer than to read the file.
+ * @param {string} url
+ * @returns {string}
+ */
+const pathOf = (url) =>
+  (url.startsWith(FOLDER_URL) ? `${FOLDER}${url.slice(FOLDER_URL.length)}` : fileURLToPath(url));
+
 /** @type {Map<string, { code: string, imported: URL[] }>} what was read, since the files stay as they are */
 const read = new Map();
 
@@ -81,7 +94,7 @@ const read = new Map();
 function moduleAt(url) {
   const known = read.get(url.href);
   if (known !== undefined) return known;
-  const module = bodyOf(url.href, readFileSync(url, "utf8"));
+  const module = bodyOf(url.href, readFileSync(pathOf(url.href), "utf8"));
   read.set(url.href, module);
   return module;
 }

@@ -5,7 +5,7 @@
 import { createRequire } from "node:module";
 import { within } from "./within.mjs";
 
-/** @typedef {{ file: string, line: number, column: number }} Frame of a worker's code, line and column from 1 */
+/** @typedef {{ file: string, line: number, column: number }} StackFrame of a worker's code, line and column from 1 */
 /** @typedef {import("node:inspector").Session} Session */
 
 // How long the worker may take to say where it is. Code of the engine's own can't be interrupted.
@@ -36,7 +36,7 @@ function connected() {
  * The frames of a worker's code, the innermost first. The worker goes on.
  * @param {import("node:worker_threads").Worker} worker one of this process
  * @param {number} [seconds] for which it is waited
- * @returns {Promise<Frame[]>} none if they can't be found out in time
+ * @returns {Promise<StackFrame[]>} none if they can't be found out in time
  */
 export async function framesOf(worker, seconds = SECONDS) {
   const session = connected();
@@ -48,7 +48,7 @@ export async function framesOf(worker, seconds = SECONDS) {
   }
 }
 
-/** @param {any} result of the evaluated expression @returns {Frame[]} without that of the expression */
+/** @param {any} result of the evaluated expression @returns {StackFrame[]} without that of the expression */
 function framesIn({ exceptionDetails }) {
   const frames = exceptionDetails?.stackTrace?.callFrames ?? [];
   return frames.slice(1).map((/** @type {any} */ { url, lineNumber, columnNumber }) =>
@@ -58,7 +58,7 @@ function framesIn({ exceptionDetails }) {
 /**
  * @param {Session} session
  * @param {number} threadId of the worker
- * @returns {Promise<Frame[]>}
+ * @returns {Promise<StackFrame[]>}
  */
 function framesBy(session, threadId) {
   return new Promise((done) => {

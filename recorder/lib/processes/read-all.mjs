@@ -7,7 +7,7 @@ const CHUNK = 65_536;
 const WAIT_MILLISECONDS = 10;
 
 /**
- * @callback Read
+ * @callback ReadBytes
  * @param {number} file
  * @param {Uint8Array} bytes
  * @returns {number} how many bytes were read; 0: there are no more
@@ -17,7 +17,7 @@ const WAIT_MILLISECONDS = 10;
  * Reads once. It waits for bytes if none are there yet: a standard input that doesn't block reports EAGAIN then.
  * @param {number} file
  * @param {Uint8Array} bytes
- * @param {Read} read
+ * @param {ReadBytes} read
  * @returns {number}
  */
 function countRead(file, bytes, read) {
@@ -38,7 +38,7 @@ function countRead(file, bytes, read) {
  * Reads a file to its end.
  * @param {number} file by its number, as 0 for standard input
  * @param {number} [most] how many bytes are read at most
- * @param {Read} [read] reads once
+ * @param {ReadBytes} [read] reads once
  * @returns {Buffer}
  * @throws {Error} of the system
  */

@@ -24,7 +24,7 @@ function causeOf(thrown) {
 
 const NO_PORTS = { port1: undefined, port2: undefined };
 
-/** @typedef {{ message?: any, ended?: string }} Item a message, or why there is none any more */
+/** @typedef {{ message?: any, ended?: string }} QueuedMessage a message, or why there is none any more */
 
 export class Thread {
   /**
@@ -44,9 +44,9 @@ export class Thread {
     this.port = port1 ?? this.worker;
     /** @type {Set<string>} the URLs of the recorder's modules that it was given */
     this.given = new Set();
-    /** @type {Item[]} */
+    /** @type {QueuedMessage[]} */
     this.inbox = [];
-    /** @type {((item: Item) => void) | undefined} */
+    /** @type {((item: QueuedMessage) => void) | undefined} */
     this.waiting = undefined;
     /** @type {string | undefined} why it has ended, if it has */
     this.ended = undefined;
@@ -104,7 +104,7 @@ export class Thread {
 
   /**
    * The next message; one of `ended` if there is none any more.
-   * @returns {Promise<Item>}
+   * @returns {Promise<QueuedMessage>}
    */
   next() {
     const first = this.inbox.shift();
@@ -142,7 +142,7 @@ export class Thread {
     port.close();
   }
 
-  /** @param {Item} item */
+  /** @param {QueuedMessage} item */
   #put(item) {
     if (this.waiting === undefined) {
       this.inbox.push(item);
@@ -182,7 +182,7 @@ function newThread(execArgv, isFirst = false) {
   }
 }
 
-/** @type {(Kept & { isFirst: boolean })[]} those that a process has begun while it loads its modules */
+/** @type {(KeptThread & { isFirst: boolean })[]} those that a process has begun while it loads its modules */
 const begun = [];
 
 /**
@@ -209,12 +209,12 @@ const KEPT_MILLISECONDS = 2_000;
 /** No more are kept at a time. */
 const MOST_KEPT = 4;
 
-/** @typedef {{ root: URL, thread: Thread }} Kept */
+/** @typedef {{ root: URL, thread: Thread }} KeptThread */
 
-/** @type {Kept[]} those that have done their work, and await more of it; the last one is the first here */
+/** @type {KeptThread[]} those that have done their work, and await more of it; the last one is the first here */
 const kept = [];
 
-/** @param {Kept} one that is ended, unless it was taken */
+/** @param {KeptThread} one that is ended, unless it was taken */
 function endKept(one) {
   const at = kept.indexOf(one);
   if (at < 0) return;

@@ -16,12 +16,12 @@ export class Awaits {
   /** @type {(() => void) | undefined} */
   #stop;
 
-  /** @param {import("../memory/keepers.mjs").Keepers} keepers that get where it is */
-  begin(keepers) {
+  /** @param {import("../memory/thread-texts.mjs").ThreadTexts} threadTexts that get where it is */
+  begin(threadTexts) {
     const note = () => {
       const frame = framesHere(note, FRAMES).find((each) => isAgentsFile(/** @type {any} */ (each.getFileName())));
       if (frame === undefined || !isOfModule(frame)) return;
-      keepers.setAwait(`${frame.getFileName()}:${frame.getLineNumber()}:${frame.getColumnNumber()}`);
+      threadTexts.setAwait(`${frame.getFileName()}:${frame.getLineNumber()}:${frame.getColumnNumber()}`);
     };
     this.#stop = promiseHooks.onInit(note);
   }

@@ -8,7 +8,7 @@ import { TO_CHANNELS } from "./moves.mjs";
 import { nodeError } from "./node-error.mjs";
 import { KIND } from "./ports.mjs";
 import { UNREAD } from "./unread.mjs";
-import { sent } from "./values.mjs";
+import { sent } from "./message-values.mjs";
 
 const { TypeError, structuredClone } = globalThis;
 const post = uncurried(threads.MessagePort.prototype.postMessage);
@@ -37,7 +37,7 @@ function numberOf(name) {
  * @typedef {object} Casting
  * @property {import("./ports.mjs").Ports} ports
  * @property {import("./moves.mjs").Moves} moves
- * @property {import("./mesh.mjs").Mesh} mesh
+ * @property {import("./control-channels.mjs").ControlChannels} control
  * @property {import("./buffers.mjs").Buffers} buffers
  */
 
@@ -52,7 +52,7 @@ function clonedHere(bare) {
   }
 }
 
-/** @param {import("./unread.mjs").Found} found ahead of an envelope @returns {Got} */
+/** @param {import("./unread.mjs").UnreadMessage} found ahead of an envelope @returns {Got} */
 const gotOf = (found) => (UNREAD in found ? { value: found[UNREAD], isUnread: true } : { value: found.message.value });
 
 /**
@@ -62,7 +62,7 @@ const gotOf = (found) => (UNREAD in found ? { value: found[UNREAD], isUnread: tr
  * @param {unknown} value
  * @param {Function} called
  */
-function cast({ ports, moves, mesh, buffers }, from, value, called) {
+function cast({ ports, moves, control, buffers }, from, value, called) {
   const { table, agent } = ports.world;
   const bare = sent(value, buffers);
   post(closed, bare);
@@ -78,7 +78,7 @@ function cast({ ports, moves, mesh, buffers }, from, value, called) {
     const envelope = { kind: KIND.MESSAGE, number, ports: [], ids: [] };
     ports.world.noted(number, envelope.kind, bare);
     if (owner === agent) ports.queueOf(id).push({ ...envelope, ...clonedHere(bare) });
-    else mesh.handWith(owner, { kind: "broadcast", id, envelope }, bare);
+    else control.handWith(owner, { kind: "broadcast", id, envelope }, bare);
     table.addWaiting(id, 1);
     ports.rouse(id);
   }
@@ -191,8 +191,8 @@ for (const type of ["message", "messageerror"]) defineEventHandler(BroadcastChan
 /** @param {Casting} given @returns {Function} the class by which the program makes such channels */
 export function broadcastClass(given) {
   casting = given;
-  const { mesh, ports } = given;
-  mesh.onItem("broadcast", ({ id, envelope }, ahead = {}) =>
+  const { control, ports } = given;
+  control.onItem("broadcast", ({ id, envelope }, ahead = {}) =>
     void ports.queueOf(id).push({ ...envelope, ...gotOf(ahead) }));
   return BroadcastChannel;
 }

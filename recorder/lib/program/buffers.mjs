@@ -28,7 +28,7 @@ const NO_BLOCK = -1;
 export const MOST_GROWTH = 2 ** 26;
 
 /**
- * @typedef {object} Known a buffer
+ * @typedef {object} KnownBuffer a buffer
  * @property {number} block or -1
  * @property {number} own its own number
  * @property {string} [place] where it was made
@@ -62,9 +62,9 @@ function hasBytes(buffer) {
 }
 
 /**
- * @typedef {object} Shown
- * @property {(place: import("../agent/ordinary/context.mjs").Place, from: number, to: number, writes: boolean) => void}
- * seen gets an ordinary access that is about to be made
+ * @typedef {object} BufferCallbacks
+ * @property {(place: import("../agent/ordinary/context.mjs").WatchedPlace, from: number, to: number, writes: boolean)
+ * => void} seen gets an ordinary access that is about to be made
  * @property {(block: number, place: string, count: number) => void} named gets where the memory of a new block was
  * made, and how many were made there before
  * @property {(block: number) => void} began gets a new block that no script can have as it is
@@ -72,10 +72,10 @@ function hasBytes(buffer) {
  */
 
 export class Buffers {
-  /** @type {WeakMap<object, Known>} */
+  /** @type {WeakMap<object, KnownBuffer>} */
   #known = new EngineWeakMap();
 
-  /** @type {Known[]} those that were made here, by their own numbers less the first one */
+  /** @type {KnownBuffer[]} those that were made here, by their own numbers less the first one */
   #own = [];
 
   /** @type {Map<string | undefined, number>} how many were made at each place */
@@ -89,14 +89,14 @@ export class Buffers {
 
   /**
    * @param {import("../memory/blocks.mjs").Blocks} blocks
-   * @param {import("./mesh.mjs").Mesh} mesh
-   * @param {Shown} shown
+   * @param {import("./control-channels.mjs").ControlChannels} control
+   * @param {BufferCallbacks} shown
    */
-  constructor(blocks, mesh, shown) {
+  constructor(blocks, control, shown) {
     this.blocks = blocks;
-    this.mesh = mesh;
+    this.control = control;
     this.shown = shown;
-    mesh.onItem("block", ({ block, buffer }) => this.#adopt(block, buffer));
+    control.onItem("block", ({ block, buffer }) => this.#adopt(block, buffer));
   }
 
   /**
@@ -132,7 +132,7 @@ export class Buffers {
   share(buffer) {
     const known = weakGet(this.#known, buffer);
     if (known === undefined || known.block >= 0) return;
-    const { blocks, mesh, shown } = this;
+    const { blocks, control, shown } = this;
     const length = sharedLengthOf(buffer);
     const place = known.place ?? "";
     if (length === 0 && isGrowable(buffer)) this.#refuseEmpty("SharedArrayBuffer that grows and", place);
@@ -142,7 +142,7 @@ export class Buffers {
     if (block < 0) this.#refuseMore(length, place);
     known.block = block;
     shown.named(block, place, known.count ?? 0);
-    mesh.handAll({ kind: "block", block, buffer });
+    control.handAll({ kind: "block", block, buffer });
     if (block >= FIRST_MORE) shown.began(block);
     else if (hasBytes(buffer)) {
       shown.seen({ block, kind: HELD, offset: 0, length }, 0, length, true);
@@ -202,9 +202,9 @@ export class Buffers {
 
   /** @param {number} agent that begins, and has to know all blocks */
   handTo(agent) {
-    const { blocks, mesh } = this;
-    mesh.take();
-    blocks.numbers().forEach((block) => mesh.hand(agent, { kind: "block", block, buffer: blocks.buffers[block] }));
+    const { blocks, control } = this;
+    control.take();
+    blocks.numbers().forEach((block) => control.hand(agent, { kind: "block", block, buffer: blocks.buffers[block] }));
   }
 
   /**
@@ -213,7 +213,7 @@ export class Buffers {
    */
   received(buffer) {
     if (weakGet(this.#known, buffer) !== undefined || sharedLengthOf(buffer) === 0) return;
-    this.mesh.take();
+    this.control.take();
     const { blocks } = this;
     const numbers = blocks.numbers();
     for (let at = 0; at < numbers.length; at += 1) {

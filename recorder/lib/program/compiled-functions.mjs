@@ -9,9 +9,9 @@ import { uncurried } from "../primordials.mjs";
 const { Script, compileFunction } = /** @type {any} */ (vm);
 const run = uncurried(Script.prototype.runInThisContext);
 
-/** @typedef {{ filename: string, importModuleDynamically: Function }} Options as vm takes them */
+/** @typedef {{ filename: string, importModuleDynamically: Function }} CompileOptions as vm takes them */
 
-/** @param {string} text @param {readonly string[]} names @param {Options} options @returns {any} */
+/** @param {string} text @param {readonly string[]} names @param {CompileOptions} options @returns {any} */
 function scriptOf(text, names, options) {
   // Only a text by itself may begin like a command (`#!`). In the script it isn't the beginning.
   const body = text.startsWith("#!") ? `//${text.slice(2)}` : text;
@@ -25,7 +25,7 @@ export class CompiledFunctions {
   /**
    * @param {string} text
    * @param {readonly string[]} names of the function's parameters
-   * @param {Options} options the same for each text of this file
+   * @param {CompileOptions} options the same for each text of this file
    * @returns {Function} a new one
    */
   compiled(text, names, options) {

@@ -29,12 +29,12 @@ const LISTENER_THREW = 7;
  * @property {() => string} here where the program's code is
  * @property {() => never} leave leaves all code of the program that runs now
  * @property {() => void} closeSockets makes others see that the thread's sockets are closed
- * @property {import("../memory/keepers.mjs").Keepers} keepers get how the thread has ended
+ * @property {import("../memory/thread-texts.mjs").ThreadTexts} threadTexts get how the thread has ended
  * @property {(text: string, place?: string) => void} note notes what the thread does
  * @property {() => string} printed what the thread has written to standard error last
  */
 
-/** @typedef {"uncaughtException" | "unhandledRejection"} Origin */
+/** @typedef {"uncaughtException" | "unhandledRejection"} ErrorOrigin */
 
 /** A place in a stack. */
 const PLACE = /((?:file|data|blob):[^\s()]+:\d+:\d+)\)?$/m;
@@ -78,7 +78,7 @@ export class Ends {
     });
   }
 
-  /** @param {unknown} thrown @param {Origin} [origin] */
+  /** @param {unknown} thrown @param {ErrorOrigin} [origin] */
   uncaught(thrown, origin = "uncaughtException") {
     if (this.isOver) return;
     let isListenedTo = false;
@@ -125,7 +125,7 @@ export class Ends {
   }
 
   /** @returns {string[]} what keeps the thread alive besides its ports, timers, workers and tasks, in words */
-  keepers() {
+  liveHandles() {
     return [];
   }
 
@@ -141,7 +141,7 @@ export class Ends {
     const why = this.isEvaluated ? "" : UNSETTLED_WHY;
     this.#emitExit(doesOtherwise("unsettledAtExit") ? Number(own.exitCode ?? 0) : before);
     const code = Number(own.exitCode ?? 0);
-    const { agent, player: { table: { board } } } = this.leaving;
+    const { agent, player: { context: { board } } } = this.leaving;
     if (agent !== 0) {
       this.#depart(code, why === "" ? "" : `it ${why}`);
       board.pass(agent);
@@ -175,7 +175,7 @@ export class Ends {
     this.#end(Number(own.exitCode ?? 0), where);
   }
 
-  /** @param {unknown} thrown @param {Origin} origin */
+  /** @param {unknown} thrown @param {ErrorOrigin} origin */
   #fail(thrown, origin) {
     if (this.isOver) return;
     const what = origin === "unhandledRejection" ? "threw (a rejection that nobody handles)" : "threw";
@@ -220,7 +220,7 @@ export class Ends {
 
   /** @param {number} code @param {string} text @returns {never} the program's code doesn't go on */
   #go(code, text) {
-    const { agent, player: { part, table: { board } }, leave } = this.leaving;
+    const { agent, player: { part, context: { board } }, leave } = this.leaving;
     if (agent !== 0) {
       this.#depart(code, text);
       this.leaving.closeSockets();
@@ -242,7 +242,7 @@ export class Ends {
 
   /** What the first thread has done is taken. */
   #give() {
-    const { agent, player: { part, table: { board } } } = this.leaving;
+    const { agent, player: { part, context: { board } } } = this.leaving;
     part.enter();
     board.journal.countOrdinary(agent, part.accesses.count);
     part.isPlaying = false;
@@ -259,8 +259,8 @@ export class Ends {
    * @param {string} text why, if that isn't its natural end
    */
   #depart(code, text) {
-    const { agent, keepers, player: { part, table: { board } }, ports, threads } = this.leaving;
-    if (code !== 0) keepers.setEnd(text);
+    const { agent, threadTexts, player: { part, context: { board } }, ports, threads } = this.leaving;
+    if (code !== 0) threadTexts.setEnd(text);
     ports.send(this.parentPort, code, [], undefined, KIND.EXIT);
     threads.closePorts(agent);
     threads.endChildren(agent);

@@ -4,14 +4,14 @@ import { EventEmitter } from "node:events";
 import fs from "node:fs";
 import readline from "node:readline";
 import { nodeError } from "./node-error.mjs";
-import { promiseLater } from "./twin-calls.mjs";
+import { promiseLater } from "./sync-calls.mjs";
 
-/** @typedef {import("./twin-calls.mjs").Given} Given */
+/** @typedef {import("./sync-calls.mjs").SyncVersionContext} SyncVersionContext */
 
 const files = /** @type {any} */ (fs);
 const Emitter = /** @type {any} */ (EventEmitter);
 
-/** The functions of `fs` that twins call: node's own, until `takeWatching`. */
+/** The functions of `fs` that synchronous versions call: node's own, until `takeWatching`. */
 export const engine = { ...files };
 
 /** Those that get memory. */
@@ -38,13 +38,13 @@ const result = (members) => Object.assign(Object.create(null), members);
 
 /** The name is node's. */
 export class FileHandle extends Emitter {
-  /** @type {Given} */
+  /** @type {SyncVersionContext} */
   #given;
   #fd;
   /** @type {Promise<void> | undefined} */
   #closing;
 
-  /** @param {Given} given @param {number} fd */
+  /** @param {SyncVersionContext} given @param {number} fd */
   constructor(given, fd) {
     super();
     this.#given = given;

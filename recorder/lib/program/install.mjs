@@ -5,12 +5,11 @@ import nodeModule from "node:module";
 import net from "node:net";
 import process from "node:process";
 import threads from "node:worker_threads";
-import { replaceNeeded } from "../agent/ordinary/patch.mjs";
+import { member, replaceNeeded } from "../agent/ordinary/patch.mjs";
 import { apply, construct, isArray, proxyOf, put } from "../primordials.mjs";
-import { member } from "./member.mjs";
 import { nodeError } from "./node-error.mjs";
-import { demandTransferable } from "./ports.mjs";
-import { clonedValue, installMarks } from "./values.mjs";
+import { demandTransferable } from "./transfer-list.mjs";
+import { clonedValue, installMarks } from "./message-values.mjs";
 
 const EngineShared = SharedArrayBuffer;
 const { syncBuiltinESMExports } = nodeModule;
@@ -48,7 +47,7 @@ export function installCloning(buffers, refuse) {
 }
 
 /**
- * @typedef {object} Place what a thread is in its run
+ * @typedef {object} ThreadIdentity what a thread is in its run
  * @property {number} agent
  * @property {unknown} workerData
  * @property {any} parentPort null in the first thread
@@ -62,7 +61,7 @@ export function installCloning(buffers, refuse) {
 
 /**
  * Gives the thread's code what the thread is, and the classes by which it reaches other threads.
- * @param {Place} place
+ * @param {ThreadIdentity} place
  * @param {Record<string, unknown>} classes of `worker_threads`
  */
 export function installThreads(place, classes) {

@@ -14,6 +14,9 @@ import { rememberFiles } from "./remembered-files.mjs";
 const required = Module.createRequire(import.meta.url);
 const { readFileSync } = /** @type {any} */ (fs);
 
+/** The names of the modules of node's inside. */
+export const INSIDE = /^internal\//;
+
 /** The URL of a file whose text is a script or a module. */
 const SCRIPT = /^file:.*\.[cm]?js$/;
 
@@ -238,6 +241,10 @@ export const { makeRequireFunction, loadBuiltinModule } = inside("modules/helper
   makeRequireFunction: "function", loadBuiltinModule: "function",
 });
 
+/** Node's own class of its modules. It finds by two functions which of them code may load. */
+export const Builtins = loadBuiltinModule?.("module").constructor ?? {};
+demand(Builtins, { canBeRequiredByUsers: "function", canBeRequiredWithoutScheme: "function", map: "object" }, "realm");
+
 /** By which a module of CommonJS has whether its code is running. */
 export const { kIsExecuting } = inside("modules/cjs/loader", { kIsExecuting: "symbol" });
 
@@ -280,8 +287,11 @@ export function underWay() {
 export const Modules = withHidden("Module", Module, ["_findPath", "_load", "_resolveFilename"]);
 withHidden("Module.prototype", Modules.prototype, ["_compile"]);
 
-/** @typedef {{ format: string, source: unknown }} Read what was read of a module */
-/** @typedef {{ format?: string, importAttributes?: object }} Asked what is known of a module before it is read */
+/** @typedef {{ format: string, source: unknown }} ModuleLoadResult what was read of a module */
+/**
+ * @typedef {{ format?: string, importAttributes?: object }} ModuleLoadContext what is known of a module before it is
+ * read
+ */
 
 /**
  * @param {string} specifier
@@ -301,7 +311,7 @@ function textOf(url, format) {
   return SCRIPT.test(url) ? readFileSync(fileURLToPath(url), "utf8").replace(/^\uFEFF/, "") : undefined;
 }
 
-/** @param {string} url @param {Asked} [asked] @returns {Read} */
+/** @param {string} url @param {ModuleLoadContext} [asked] @returns {ModuleLoadResult} */
 function readAtOnce(url, asked) {
   const found = defaultLoadSync(url, { ...asked, source: textOf(url, asked?.format) });
   return found.format === "commonjs" ? { ...found, source: null } : found;
@@ -309,7 +319,8 @@ function readAtOnce(url, asked) {
 
 /**
  * Has node's loader replaced by one that has loaded nothing yet, and that reads modules at once.
- * @returns {{ loader: any, read: (url: string, asked: Asked) => Read }} the loader, and by what it reads
+ * @returns {{ loader: any, read: (url: string, asked: ModuleLoadContext) => ModuleLoadResult }} the loader, and by what
+ * it reads
  */
 export function freshLoader() {
   const loader = loaders.createModuleLoader();
@@ -317,7 +328,7 @@ export function freshLoader() {
   // A later node reads at once by itself.
   if (!types.isAsyncFunction(loader.load)) return { loader, read: (url, asked) => loader.load(url, asked) };
   rememberFiles(loader);
-  loader.load = async (/** @type {string} */ url, /** @type {Asked} */ asked) => readAtOnce(url, asked);
+  loader.load = async (/** @type {string} */ url, /** @type {ModuleLoadContext} */ asked) => readAtOnce(url, asked);
   return { loader, read: readAtOnce };
 }
 
@@ -334,7 +345,7 @@ const { compileFunction } = below("builtins", { compileFunction: "function" });
 export function compiledAnew(isOne, modules, bindingOf = internalBinding) {
   const load = (/** @type {string} */ id) => {
     if (modules.has(id)) return modules.get(id);
-    if (!isOne(id)) return required(id);
+    if (!isOne(id)) return INSIDE.test(id) ? Builtins.map.get(id).compileForInternalLoader() : required(id);
     const module = { exports: {} };
     compileFunction(id)(module.exports, load, module, process, bindingOf, primordials);
     modules.set(id, module.exports);

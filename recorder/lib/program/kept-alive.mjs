@@ -15,8 +15,8 @@ export class KeptAlive {
   isSome() {
     const { ports, timers, children, ends } = this.served;
     // What node has of its own under way may count as a timer for a moment.
-    if (timers.alive && timers.keepers().length > 0) return true;
-    if (this.hasTask() || ports.keeping().length > 0 || ends.keepers().length > 0) return true;
+    if (timers.alive && timers.liveHandles().length > 0) return true;
+    if (this.hasTask() || ports.keeping().length > 0 || ends.liveHandles().length > 0) return true;
     let isSome = false;
     children.forEach(({ refed, listens }) => {
       isSome ||= refed || listens;
@@ -30,21 +30,21 @@ export class KeptAlive {
    * @param {import("./real-work.mjs").Pending} pending what the machine could have brought
    */
   write(pending) {
-    const { keepers, locks, moves, waits } = this.served;
+    const { threadTexts, locks, moves, waits } = this.served;
     if (!moves.board.end.isStandstill()) return;
     const texts = this.#texts().concat(moves.silentTexts(pending));
-    keepers.write([texts.join("; ")].concat(waits.texts(), locks.texts()).join("; it awaits "));
+    threadTexts.write([texts.join("; ")].concat(waits.texts(), locks.texts()).join("; it awaits "));
   }
 
   /** @returns {string[]} */
   #texts() {
     const { ports, timers, children, ends } = this.served;
-    const texts = timers.alive ? timers.keepers().map(timerText) : [];
+    const texts = timers.alive ? timers.liveHandles().map(timerText) : [];
     if (this.hasTask()) texts.push("a task");
     children.forEach(({ refed, listens, where }) => {
       if (refed || listens) texts.push(`the worker started at ${where}`);
     });
-    return texts.concat(ports.keepers(), ends.keepers());
+    return texts.concat(ports.liveHandles(), ends.liveHandles());
   }
 }
 

@@ -19,10 +19,18 @@ export class KnownPort {
   /** Whether listeners of messages keep it so. */
   listens = false;
 
-  /** @type {import("../agent/frames.mjs").Later | undefined} where the first was added, or what else keeps it so */
+  /**
+   * @type {import("../agent/frames.mjs").PlaceFinder | undefined} where the first was added, or what else keeps it so
+   */
   where = undefined;
 
   closed = false;
+
+  /** Whether its code has closed it, and the thread's loop hasn't come to that yet. */
+  isClosing = false;
+
+  /** How many of the messages that wait come nevertheless: it was closed while its listeners had one. */
+  left = 0;
 
   /** In this its messages are delivered. */
   scope = new Scope("MESSAGEPORT");
@@ -45,6 +53,11 @@ export class KnownPort {
     if (about === undefined) return undefined;
     if (UNREAD in found) return { ...about.message, value: found[UNREAD], ports: [], isUnread: true };
     return { ...about.message, ...found.message };
+  }
+
+  /** @returns {boolean} whether its thread has learned that it is closed */
+  get isGone() {
+    return this.closed && !this.isClosing;
   }
 
   /** @returns {boolean} whether it keeps its thread alive */

@@ -4,26 +4,30 @@
 import { mapForEach } from "../primordials.mjs";
 
 /** @typedef {"exclusive" | "shared"} Mode */
-/** @typedef {{ agent: number, number: number, name: string, mode: Mode, port: number, where: string }} Request */
-/** @typedef {{ held: Request[], pending: Request[] }} Named */
+/** @typedef {{ agent: number, number: number, name: string, mode: Mode, port: number, where: string }} LockRequest */
+/** @typedef {{ held: LockRequest[], pending: LockRequest[] }} NamedLock */
 /** @typedef {"granted" | "stolen" | "missed"} Fate */
-/** @typedef {{ fate: Fate, request: Request }} Effect what a change means for the thread that has made a request */
+/** @typedef {{ fate: Fate, request: LockRequest }} Effect what a change means for the thread that has made a request */
 
-/** @param {Request} one @param {Request} other @returns {boolean} */
+/** @param {LockRequest} one @param {LockRequest} other @returns {boolean} */
 const isSame = (one, other) => one.agent === other.agent && one.number === other.number;
 
-/** @param {Request} request @returns {boolean} */
+/** @param {LockRequest} request @returns {boolean} */
 const isShared = ({ mode }) => mode === "shared";
 
-/** @param {Request} request @param {Request[]} held @returns {boolean} whether it may be held together with those */
+/**
+ * @param {LockRequest} request
+ * @param {LockRequest[]} held
+ * @returns {boolean} whether it may be held together with those
+ */
 const fits = (request, held) => held.length === 0 || (isShared(request) && held.every(isShared));
 
 export class LockTable {
-  /** @type {Map<string, Named>} those that are held or waited for */
+  /** @type {Map<string, NamedLock>} those that are held or waited for */
   named = new Map();
 
   /**
-   * @param {Request} request
+   * @param {LockRequest} request
    * @param {{ ifAvailable: boolean, steal: boolean }} how
    * @returns {Effect[]}
    */
@@ -43,7 +47,7 @@ export class LockTable {
 
   /**
    * A lock is released, or isn't wanted any more.
-   * @param {Request} request
+   * @param {LockRequest} request
    * @returns {Effect[]}
    */
   remove(request) {
@@ -63,29 +67,29 @@ export class LockTable {
     return grants ? names.flatMap((name) => this.#grant(name)) : [];
   }
 
-  /** @param {string} name @returns {Request[]} those that hold the lock */
+  /** @param {string} name @returns {LockRequest[]} those that hold the lock */
   heldOf(name) {
     return this.named.get(name)?.held ?? [];
   }
 
-  /** @param {Request} request @returns {boolean} whether it is held */
+  /** @param {LockRequest} request @returns {boolean} whether it is held */
   isHeld(request) {
     return this.heldOf(request.name).some((each) => isSame(each, request));
   }
 
-  /** @returns {Request[]} those that hold a lock or wait for one */
+  /** @returns {LockRequest[]} those that hold a lock or wait for one */
   all() {
-    /** @type {Request[]} */
+    /** @type {LockRequest[]} */
     let all = [];
-    mapForEach(this.named, (/** @type {Named} */ { held, pending }) => { all = all.concat(held, pending); });
+    mapForEach(this.named, (/** @type {NamedLock} */ { held, pending }) => { all = all.concat(held, pending); });
     return all;
   }
 
-  /** @param {Request} request */
+  /** @param {LockRequest} request */
   #drop(request) {
     const named = this.named.get(request.name);
     if (named === undefined) return;
-    const isOther = (/** @type {Request} */ each) => !isSame(each, request);
+    const isOther = (/** @type {LockRequest} */ each) => !isSame(each, request);
     named.held = named.held.filter(isOther);
     named.pending = named.pending.filter(isOther);
   }
@@ -97,7 +101,7 @@ export class LockTable {
     const named = this.named.get(name);
     if (named === undefined) return effects;
     while (named.pending.length > 0 && fits(named.pending[0], named.held)) {
-      const request = /** @type {Request} */ (named.pending.shift());
+      const request = /** @type {LockRequest} */ (named.pending.shift());
       named.held.push(request);
       effects.push({ fate: "granted", request });
     }

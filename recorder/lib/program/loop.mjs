@@ -7,7 +7,7 @@ import { Random } from "../memory/random.mjs";
 import { runTicks, underWay } from "./internals.mjs";
 import { KeptAlive } from "./kept-alive.mjs";
 import { never, turnLater } from "./real-loop.mjs";
-import { READING, isForeign, pendingOf } from "./real-work.mjs";
+import { FILE_REQUESTS, isForeign, pendingOf } from "./real-work.mjs";
 
 /** Each thread draws its tasks from a random stream of its own, numbered from here. */
 const TASKS = 64;
@@ -15,9 +15,7 @@ const TASKS = 64;
 /** How likely it is that the time of the first timer comes, in runs in which short times are up early. */
 const HASTY = 0.5;
 
-/**
- * The result of a step: the thread goes on; its part is over; node reads something; it looks; or the real loop turns.
- */
+/** What comes of a step: the thread goes on; its part is over; node reads; it looks; or the real loop turns. */
 const STEP = Object.freeze({ GOES_ON: 0, IS_OVER: 1, READS: 2, LOOKS: 3, TURNS: 4 });
 
 /** What is under way if an answer is held back. */
@@ -45,7 +43,7 @@ export class Loop {
   #before = new Map();
 
   /** Whether the thread looks for real answers before it begins a task: it hasn't done so in vain since it rested. */
-  #mayLook = true;
+  #mayPoll = true;
 
   /**
    * Whether the real loop has turned since the thread did something: node may do more then, as http2 when it begins.
@@ -80,7 +78,7 @@ export class Loop {
   /** @param {string} text what begins now, or is done @param {string} [place] where it was made, or is done */
   note(text, place = "") {
     const { notes, moves: { agent, player } } = this.served;
-    if (this.#notes) notes.note({ event: player.table.log.length, agent, text, place });
+    if (this.#notes) notes.note({ event: player.context.log.length, agent, text, place });
   }
 
   /** @param {import("./timers.mjs").Described} task that begins now */
@@ -94,7 +92,7 @@ export class Loop {
     this.#tasks = [];
     this.#isTurning = this.served.hasPhases;
     this.#looks = false;
-    this.#mayLook = true;
+    this.#mayPoll = true;
     this.#hasAwaited = false;
     this.#before = new Map();
     this.#isHalted = false;
@@ -118,7 +116,7 @@ export class Loop {
     this.#isHalted = true;
     never(this.#next);
     // Node would hand what is held back to the program.
-    if (this.#holds) this.served.moves.park();
+    if (this.#holds) this.served.moves.parkForever();
   }
 
   #begins = () => {
@@ -129,7 +127,7 @@ export class Loop {
   #turn = () => {
     let step;
     do step = this.#step(false); while (step === STEP.GOES_ON);
-    if (step === STEP.IS_OVER) return this.served.goHome();
+    if (step === STEP.IS_OVER) return this.served.becomeIdle();
     if (step === STEP.LOOKS) return this.#look();
     if (step === STEP.READS) return this.#read();
     this.#next = turnLater(this.#turn);
@@ -159,17 +157,17 @@ export class Loop {
     const pending = holds ? HELD : this.#pending(active);
     if (!pending.isSome && this.#isLeft()) return this.#endsNow();
     if (this.#hasTask()) {
-      if (!moves.offer(pending, this.#mayLook)) return STEP.IS_OVER;
+      if (!moves.offer(pending, this.#mayPoll)) return STEP.IS_OVER;
     } else {
       if (!pending.isSome && !this.kept.isSome()) return this.#endsNow();
-      this.#mayLook = true;
+      this.#mayPoll = true;
       moves.board.vain?.rests(moves.agent, this.#places);
       if (!moves.idle(this.#untilTimer(), pending)) {
         this.kept.write(pending);
         return STEP.IS_OVER;
       }
     }
-    if (moves.looksFor > 0) return STEP.LOOKS;
+    if (moves.pollMilliseconds > 0) return STEP.LOOKS;
     this.#act();
     return STEP.GOES_ON;
   }
@@ -179,10 +177,10 @@ export class Loop {
     const { looking, moves } = this.served;
     looking.begin({
       onCome: this.#answered,
-      milliseconds: moves.looksFor,
+      milliseconds: moves.pollMilliseconds,
       waitsFor: () => this.#pending(underWay()).texts.join(),
       then: (found) => {
-        this.#mayLook = found === "came";
+        this.#mayPoll = found === "came";
         moves.looked(found);
         if (found !== "came" && this.#hasTask() && moves.takesUp()) this.#act();
         this.#turn();
@@ -202,7 +200,7 @@ export class Loop {
     this.#holds = true;
     let step;
     do step = this.#step(true); while (step === STEP.GOES_ON);
-    if (step === STEP.IS_OVER) this.served.moves.park();
+    if (step === STEP.IS_OVER) this.served.moves.parkForever();
     this.#holds = false;
   }
 
@@ -213,7 +211,7 @@ export class Loop {
       try {
         runTicks();
       } catch (thrown) {
-        this.served.ends.uncaught(thrown);
+        this.#caught(thrown);
         again = !this.served.ends.isOver;
       }
     }
@@ -221,10 +219,16 @@ export class Loop {
     if (this.#isHalted) this.served.leave();
   }
 
+  /** @param {unknown} thrown by the program's code: node gives the listeners of a port no more at once then */
+  #caught(thrown) {
+    this.served.ports.latest = undefined;
+    this.served.ends.uncaught(thrown);
+  }
+
   /** Runs ticks and microtasks of node's. @returns {boolean} whether node has nothing else under way for the thread */
   isSwept() {
     runTicks();
-    return !underWay().some((each) => READING.has(each) || isForeign(each));
+    return !underWay().some((each) => FILE_REQUESTS.has(each) || isForeign(each));
   }
 
   /** Nothing keeps the thread alive. @returns {number} one of `STEP` */
@@ -277,7 +281,7 @@ export class Loop {
     return Math.min(deadline, waits.deadline);
   }
 
-  /** @returns {number | undefined} how long it is until the first timer is due, or the first waitAsync */
+  /** @returns {number | undefined} in how many milliseconds a timer or a waitAsync is due */
   #untilTimer() {
     const deadline = this.#deadline();
     return deadline === Infinity ? undefined : Math.max(0, deadline - this.#now());
@@ -297,10 +301,11 @@ export class Loop {
     const at = acts.length === 1 ? 0 : this.random.below(acts.length);
     const act = acts[at];
     if (act !== this.#runDue) this.served.moves.board.vain?.news();
+    this.served.ports.latest = undefined;
     try {
       act();
     } catch (thrown) {
-      this.served.ends.uncaught(thrown);
+      this.#caught(thrown);
     }
   }
 
@@ -312,7 +317,8 @@ export class Loop {
    * @returns {(() => void)[]}
    */
   #choices() {
-    const { events, timers: armed, waits } = this.served;
+    const { events, ports: { closing }, timers: armed, waits } = this.served;
+    if (closing !== undefined) return [() => events.deliver(closing)];
     if (armed.inRound > 0) return [() => this.#runImmediate()];
     this.#offerEarly();
     const isDue = this.#deadline() <= this.#now();
@@ -390,4 +396,4 @@ export class Loop {
 }
 
 /** @param {string[]} active resources of node's @returns {boolean} */
-const isReading = (active) => active.some((each) => READING.has(each));
+const isReading = (active) => active.some((each) => FILE_REQUESTS.has(each));

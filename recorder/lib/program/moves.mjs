@@ -7,7 +7,7 @@ import { LEAVE, TIME_UP } from "../board/journal.mjs";
 import { FEW_MESSAGES, LOOP_PLACES, MESSAGES, MESSAGE_PLACES, PORT_PLACES } from "../memory/blocks.mjs";
 import { LOOP, NOWHERE, PHASE, WORD } from "../memory/layout.mjs";
 import { FLAG } from "../memory/log.mjs";
-import { byteOf } from "../memory/memory.mjs";
+import { byteOf } from "../memory/recorded-memory.mjs";
 import { bufferOf } from "../primordials.mjs";
 
 /** @typedef {import("../memory/records.mjs").Call} Call */
@@ -36,7 +36,7 @@ export class Moves {
   /**
    * For how many milliseconds the thread that was drawn is to look for real answers; 0: it has something else to do.
    */
-  looksFor = 0;
+  pollMilliseconds = 0;
 
   /**
    * @param {import("../agent/player.mjs").Player} player
@@ -45,7 +45,7 @@ export class Moves {
   constructor(player, messages) {
     this.player = player;
     this.agent = player.agent;
-    this.board = player.table.board;
+    this.board = player.context.board;
     this.view = new Int32Array(messages, 0, MESSAGE_PLACES);
   }
 
@@ -130,7 +130,7 @@ export class Moves {
    */
   joinNow(call) {
     const { player } = this;
-    const memory = bufferOf(player.table.memory.real[call.block]);
+    const memory = bufferOf(player.context.memory.real[call.block]);
     call.operands = [new CONSTRUCTORS[call.kind](memory, byteOf(call), 1)[0]];
     player.beginsNow(call);
     this.#join(call, 0);
@@ -164,13 +164,13 @@ export class Moves {
   /**
    * The event loop has something to do: others may move before.
    * @param {import("./real-work.mjs").Pending} pending what the machine may bring besides
-   * @param {boolean} mayLook whether the thread may look for that before
+   * @param {boolean} mayPoll whether the thread may look for that before
    * @returns {boolean} whether the thread goes on, perhaps by looking; if not, its run is over, or it was ended
    */
-  offer({ isSome, byThemselves }, mayLook) {
+  offer({ isSome, byThemselves }, mayPoll) {
     const { board: { answers, row }, agent } = this;
     this.#ask();
-    if (isSome && (mayLook || row.isForced())) answers.offer(agent);
+    if (isSome && (mayPoll || row.isForced())) answers.offer(agent);
     return this.#resume(undefined, byThemselves);
   }
 
@@ -208,24 +208,24 @@ export class Moves {
     return false;
   }
 
-  /** A real answer has come to this thread. If the run strays by it, nothing of the thread goes on. */
+  /** A real answer has come to this thread. If the run diverges by it, nothing of the thread goes on. */
   answered() {
     const { board, agent } = this;
     if (board.answered(agent)) return;
     if (board.turn.enter(agent)) board.end.end("failed", "");
-    this.park();
+    this.parkForever();
   }
 
   /** @returns {never} nothing of the thread goes on */
-  park() {
-    return this.board.turn.park(this.agent);
+  parkForever() {
+    return this.board.turn.parkForever(this.agent);
   }
 
-  /** @param {import("./looking.mjs").Found} found the result of looking */
+  /** @param {import("./io-polling.mjs").IoPollResult} found the result of looking */
   looked(found) {
     const { board, agent } = this;
     if (found === "less") board.row.takesBack();
-    if (found === "nothing") board.missed(agent);
+    if (found === "nothing") board.polledInVain(agent);
   }
 
   /** The thread has looked in vain before a task. @returns {boolean} whether it begins that now */
@@ -274,7 +274,7 @@ export class Moves {
    * @param {number} more flags
    */
   #ends(made, call, isTimeUp, more) {
-    const { board, agent, player: { table: { log, records } } } = this;
+    const { board, agent, player: { context: { log, records } } } = this;
     const event = isTimeUp ? TIME_UP : LEAVE;
     const from = byteOf(call);
     const flags = FLAG.WAITERS | more;
@@ -305,11 +305,11 @@ export class Moves {
    */
   #resume(milliseconds, byThemselves) {
     const { board, agent, player: { part } } = this;
-    this.looksFor = 0;
+    this.pollMilliseconds = 0;
     this.count();
     if (!board.pass(agent)) board.turn.sleep(agent);
     if (board.isOverFor(agent)) {
-      board.turn.learnsEnd(agent);
+      board.turn.acknowledgeEnd(agent);
       part.isPlaying = false;
       return false;
     }
@@ -324,8 +324,8 @@ export class Moves {
    */
   #looks(byThemselves) {
     const { board: { answers, row }, agent } = this;
-    if (row.isExact) this.looksFor = answers.patienceByRow(byThemselves, row.due);
-    else this.looksFor = row.isForced() ? answers.long(byThemselves) : answers.patience(agent, byThemselves);
+    if (row.isExact) this.pollMilliseconds = answers.patienceByRow(byThemselves, row.due);
+    else this.pollMilliseconds = row.isForced() ? answers.long(byThemselves) : answers.patience(agent, byThemselves);
     this.#goesOn();
   }
 

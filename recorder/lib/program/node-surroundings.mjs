@@ -3,18 +3,18 @@
 
 import process from "node:process";
 import threads from "node:worker_threads";
+import { member } from "../agent/ordinary/patch.mjs";
 import { defineProperty } from "../primordials.mjs";
 import { HERE } from "../processes/platform.cjs";
 import { broadcastClass } from "./broadcast.mjs";
 import { Ends } from "./ends.mjs";
 import { installThreads } from "./install.mjs";
 import { lockManager } from "./locks.mjs";
-import { member } from "./member.mjs";
 import { PortEvents, servePorts } from "./port-events.mjs";
 import { KIND, channelClass, receiverOf } from "./ports.mjs";
 import { envOf, ignoringCase } from "./process-env.mjs";
 import { ProgramModules } from "./program-modules.mjs";
-import { argvOf, evaluated } from "./start.mjs";
+import { argvOf, evaluatedProgram } from "./start.mjs";
 import { beginStdio, clearStdio } from "./stdio.mjs";
 import { workerClass } from "./workers.mjs";
 
@@ -32,13 +32,13 @@ const { NODE_TEST_CONTEXT: _, ...firstEnv } = process.env;
  * @property {(agent: number) => typeof Atomics} atomics the engine's own functions, for a thread
  * @property {(events: any) => void} serve puts methods in the place of those that the engine's ports have
  * @property {(parts: any, graph: any) => void} install is called once in a thread, when all else is replaced
- * @property {(main: import("./mesh.mjs").Main) => any} mainStart what the first thread is to run
+ * @property {(main: import("./control-channels.mjs").MainChannels) => any} mainStart what the first thread is to run
  * @property {(parts: any, start: any, parentPort: any) => void} begin is called for each run
  * @property {(start: any, graph: any, parts: any) => Promise<unknown>} evaluated evaluates the thread's module
  * @property {(parts: any) => void} clear leaves nothing of a run
  */
 
-/** @param {import("./worker.mjs").Parts} parts of a thread @param {ProgramModules} graph */
+/** @param {import("./program-worker.mjs").ThreadServices} parts of a thread @param {ProgramModules} graph */
 function install({ locks, ends }, graph) {
   graph.tests.onFailed = (failed) => ends.testFailed(failed);
   // Later versions of node have locks between threads.
@@ -51,12 +51,12 @@ function install({ locks, ends }, graph) {
 
 /**
  * Gives the thread's code what it is in a run.
- * @param {import("./worker.mjs").Parts} parts
- * @param {import("./workers.mjs").Start} start
+ * @param {import("./program-worker.mjs").ThreadServices} parts
+ * @param {import("./workers.mjs").WorkerStart} start
  * @param {any} parentPort null in the first thread
  */
 function begin(parts, start, parentPort) {
-  const { moves, ports, mesh, buffers, refuse } = parts;
+  const { moves, ports, control, buffers, refuse } = parts;
   const { agent } = moves;
   /** @type {any} */
   const { workerData, environment } = ports.unpacked({ workerData: start.workerData, environment: start.environment });
@@ -67,7 +67,7 @@ function begin(parts, start, parentPort) {
   installThreads({ ...place, threadName, resourceLimits }, {
     Worker: workerClass({ ...parts, environment }), MessageChannel: channelClass(ports),
     receiveMessageOnPort: receiverOf(ports),
-    BroadcastChannel: broadcastClass({ ports, moves, mesh, buffers }),
+    BroadcastChannel: broadcastClass({ ports, moves, control, buffers }),
   });
   if (agent === 0) return;
   beginStdio(ports, start.stdio);
@@ -88,6 +88,6 @@ export const NODE = {
     environment: new Map(), threadName: "", resourceLimits: {}, where: "",
   }),
   begin,
-  evaluated,
+  evaluated: evaluatedProgram,
   clear: clearStdio,
 };

@@ -7,14 +7,14 @@ import { copying } from "../agent/ordinary/guards.mjs";
 import { doesOtherwise } from "../processes/node-versions.mjs";
 import { apply, weakGet, weakSet } from "../primordials.mjs";
 import { packers, streamOf } from "./internals.mjs";
-import { replaceCall } from "./twin-calls.mjs";
+import { replaceCall } from "./sync-calls.mjs";
 
-/** @typedef {import("./twin-calls.mjs").Given} Given */
+/** @typedef {import("./sync-calls.mjs").SyncVersionContext} SyncVersionContext */
 
 /** @type {WeakMap<object, { done: Function, where?: string, isBusy: boolean }>} what is known of each that packs */
 const known = new WeakMap();
 
-/** @param {Given} given @param {any} prototype of a class of node's */
+/** @param {SyncVersionContext} given @param {any} prototype of a class of node's */
 function putOne({ later, isPlaying = () => true, here = () => undefined }, prototype) {
   const { init, reset, write, writeSync } = prototype;
   /** @this {any} @param {any[]} given */
@@ -46,7 +46,7 @@ function putOne({ later, isPlaying = () => true, here = () => undefined }, proto
   };
 }
 
-/** @param {Given} given */
+/** @param {SyncVersionContext} given */
 export function putPacking(given) {
   packers.forEach(({ prototype }) => putOne(given, prototype));
   const owner = /** @type {any} */ (zlib);

@@ -2,15 +2,18 @@
 // stops to give messages, keeps its thread alive, sends, and is closed. A listener gets a message when the run delivers
 // it.
 
+import util from "node:util";
 import threads from "node:worker_threads";
 import { methodOf, replaceNeeded } from "../agent/ordinary/patch.mjs";
-import { apply, put } from "../primordials.mjs";
+import { apply, getPrototypeOf, put } from "../primordials.mjs";
 import { kNewListener, kRemoveListener, onClose } from "./internals.mjs";
 import { nodeError } from "./node-error.mjs";
 import { KIND } from "./ports.mjs";
 
 const { [kNewListener]: engineNew, [kRemoveListener]: engineRemove } = /** @type {any} */ (EventTarget.prototype);
-const { [onClose]: engineClosed, removeAllListeners } = /** @type {any} */ (threads.MessagePort.prototype);
+const { custom } = /** @type {any} */ (util).inspect;
+const { prototype } = /** @type {any} */ (threads.MessagePort);
+const { [onClose]: engineClosed, [custom]: engineShown, removeAllListeners } = prototype;
 
 /** The names of node's method that gives listeners a value, and of the ports that come with it. */
 const DISPATCH = Symbol.for("nodejs.internal.kHybridDispatch");
@@ -19,15 +22,18 @@ const RECEIVING = Symbol.for("nodejs.internal.kCurrentlyReceivingPorts");
 /** Listeners of this type make a port begin, and keep its thread alive. */
 const MESSAGE = "message";
 
+/** Node gives the listeners of a port at least so many messages at once, if they come. */
+const AT_ONCE = 1_000;
+
 /**
- * @typedef {object} Serving
+ * @typedef {object} PortEventContext
  * @property {import("./ports.mjs").Ports} ports
  * @property {(thrown: unknown) => void} uncaught takes what a listener has thrown
  * @property {() => void} drain runs microtasks until there are none
  */
 
 export class PortEvents {
-  /** @param {Serving} serving */
+  /** @param {PortEventContext} serving */
   constructor({ ports }) {
     this.ports = ports;
   }
@@ -39,9 +45,13 @@ export class PortEvents {
 
   /** @param {any} port that has a message: what takes it, or its listeners, get it */
   deliver(port) {
-    const { scope, taker } = this.ports.known(port);
-    const envelope = this.ports.take(port);
+    const { ports } = this;
+    const known = ports.known(port);
+    const { scope, taker } = known;
+    const envelope = ports.take(port);
     if (envelope === undefined) return;
+    known.left -= 1;
+    ports.latest = port;
     scope.runInAsyncScope(() => {
       if (taker !== undefined) taker(envelope);
       else if (envelope.kind === KIND.CLOSE) this.#closed(port);
@@ -64,12 +74,18 @@ export class PortEvents {
     apply(engineClosed, port, []);
   }
 
-  /** @param {any} port that the program's code closes */
+  /** @param {any} port that the program's code closes. Node looks for messages there once more if it has given one */
   close(port) {
     const { ports } = this;
-    if (ports.known(port).closed) return;
-    ports.close(port);
-    ports.world.later("has closed a port", () => this.giveClose(port));
+    const known = ports.known(port);
+    if (known.closed) return;
+    known.closed = true;
+    known.isClosing = true;
+    known.left = ports.latest === port ? Math.max(ports.waiting(port), AT_ONCE - 1) : 0;
+    ports.world.later("has closed a port", () => {
+      ports.close(port);
+      this.giveClose(port);
+    });
   }
 
   /** @param {any} port whose other side was closed */
@@ -87,7 +103,7 @@ export class PortEvents {
   begins(port) {
     const known = this.ports.known(port);
     known.listens = true;
-    known.refed = !known.closed;
+    known.refed = !known.isGone;
     known.where = this.ports.world.hereLater();
     if (!known.closed) this.ports.start(port);
   }
@@ -116,7 +132,7 @@ function methodsOf(events) {
   const methods = {
     postMessage(...given) {
       if (given.length === 0) throw noMessage();
-      ports.send(this, given[0], given[1], methods.postMessage);
+      return ports.send(this, given[0], given[1], methods.postMessage);
     },
     removeAllListeners(...given) {
       // As in node, the port still keeps its thread alive, and its messages are lost.
@@ -130,7 +146,7 @@ function methodsOf(events) {
     },
     ref() {
       const known = ports.known(this);
-      known.refed = !known.closed;
+      known.refed = !known.isGone;
       known.where ??= ports.world.hereLater();
     },
     unref() { ports.known(this).refed = false; },
@@ -143,11 +159,12 @@ function methodsOf(events) {
  * Puts methods in the place of node's, for ports of the run.
  * @param {import("./ports.mjs").Ports} ports
  * @param {Record<string, Function>} methods
+ * @param {any} owner of node's
  */
-export function serveMethods(ports, methods) {
+export function serveMethods(ports, methods, owner = prototype) {
   for (const [name, method] of Object.entries(methods)) {
-    replaceNeeded(threads.MessagePort.prototype, name, (engine) =>
-      methodOf((port, given) => apply(ports.has(port) ? method : engine, port, given)));
+    replaceNeeded(owner, name, (engine) =>
+      methodOf((port, given) => apply(ports.has(port) ? method : engine, port, given), engine));
   }
 }
 
@@ -160,6 +177,12 @@ export function servePorts(events) {
     if (given[1] === MESSAGE && given[0] === count && ports.has(this)) act(this);
     return apply(engine, this, given);
   };
+  /** @this {any} */
+  const shown = function () {
+    if (!ports.has(this)) return apply(engineShown, this, []);
+    const { isGone, refed } = ports.known(this);
+    return { __proto__: prototype, active: !isGone, ...(isGone ? {} : { refed }), ...this };
+  };
   const begins = changing(engineNew, 1, (port) => events.begins(port));
   const stops = changing(engineRemove, 0, (port) => events.stops(port));
   ports.onAdopted = (port) => {
@@ -167,6 +190,9 @@ export function servePorts(events) {
     port[kRemoveListener] = stops;
     // Node closes a port when another thread has left its run. The run's own listeners don't get to know.
     put(port, onClose, () => {});
+    put(port, custom, shown);
   };
-  serveMethods(ports, methodsOf(events));
+  const { removeAllListeners: removes, ...own } = methodsOf(events);
+  serveMethods(ports, own);
+  serveMethods(ports, { removeAllListeners: removes }, getPrototypeOf(prototype));
 }

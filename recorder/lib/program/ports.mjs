@@ -4,13 +4,13 @@
 
 import threads from "node:worker_threads";
 import { described } from "../agent/described.mjs";
-import { copied, isArray, mapForEach, put, uncurried, weakGet, weakHas, weakSet } from "../primordials.mjs";
+import { mapForEach, put, uncurried, weakGet, weakHas, weakSet } from "../primordials.mjs";
 import { NOBODYS } from "../board/port-table.mjs";
-import { FileHandle } from "./file-handle.mjs";
 import { KnownPort, QueuedPort } from "./known-ports.mjs";
 import { toPort, toThread } from "./moves.mjs";
 import { nodeError } from "./node-error.mjs";
-import { received, sent } from "./values.mjs";
+import { demandOpen, demandTransferable, transferredOf } from "./transfer-list.mjs";
+import { received, sent } from "./message-values.mjs";
 
 /** @type {{ new (): { port1: any, port2: any } }} */
 const EngineChannel = /** @type {any} */ (threads.MessageChannel);
@@ -24,71 +24,32 @@ export const KIND = Object.freeze({ MESSAGE: 0, CLOSE: 1, ONLINE: 2, ERROR: 3, E
 /** @param {number} kind @returns {boolean} whether it is about a thread: then it comes, if anybody listens or not */
 const isUrgent = (kind) => kind > KIND.CLOSE;
 
-/** @typedef {import("node:worker_threads").MessagePort} Port */
+/** @typedef {import("node:worker_threads").MessagePort} MessagePort */
 
 /**
  * @typedef {object} Envelope a message as it is sent
  * @property {any} value
  * @property {number} kind one of `KIND`
  * @property {number} number of the message in the run
- * @property {Port[]} ports that are transferred in it
+ * @property {MessagePort[]} ports that are transferred in it
  * @property {number[]} ids of these
  * @property {boolean} [isUnread] whether it couldn't be read: the value is what was thrown
  */
 
 /**
- * @typedef {object} World what ports need of their thread
+ * @typedef {object} PortContext what ports need of their thread
  * @property {number} agent
  * @property {import("../board/port-table.mjs").PortTable} table
  * @property {import("./moves.mjs").Moves} moves
  * @property {import("./buffers.mjs").Buffers} buffers
- * @property {import("./mesh.mjs").Mesh} mesh
+ * @property {import("./control-channels.mjs").ControlChannels} control
  * @property {() => string} here where the program's code is
- * @property {() => import("../agent/frames.mjs").Later} hereLater the same
+ * @property {() => import("../agent/frames.mjs").PlaceFinder} hereLater the same
  * @property {(why: string) => never} refuse ends the run
  * @property {(name: string, act: () => void) => void} later does something as a task of its own
  * @property {(number: number, kind: number, value: unknown) => void} noted notes what is in a message that is sent
  * @property {(text: string) => void} note notes what happens to the thread
  */
-
-/** @param {any} items @returns {any[]} a list of them: node, too, asks an array for no iterator */
-export const itemsOf = (items) => (isArray(items) ? copied(items) : [...items]);
-
-/** @param {any} transfer as `postMessage` gets it @returns {any[]} */
-function listOf(transfer) {
-  if (transfer === null || transfer === undefined) return [];
-  if (isIterable(transfer)) return itemsOf(transfer);
-  if (typeof transfer !== "object") throw notIterable("transferList");
-  const { transfer: list } = transfer;
-  if (list === undefined || list === null) return [];
-  if (!isIterable(list)) throw notIterable("options.transfer");
-  return itemsOf(list);
-}
-
-/** What node transfers by ports of its own, whose messages would come by no loop of the run. */
-const BY_OWN_PORTS = Object.freeze(["ReadableStream", "WritableStream", "TransformStream", "FileHandle"]);
-
-/** @param {any[]} list of what is transferred @param {(why: string) => never} refuse */
-export function demandTransferable(list, refuse) {
-  // The program may have replaced the iterators and functions of arrays.
-  for (let at = 0; at < list.length; at += 1) {
-    for (let which = 0; which < BY_OWN_PORTS.length; which += 1) {
-      const name = BY_OWN_PORTS[which];
-      if (isA(list[at], name)) refuse(`transferred a ${name}, which isn't simulated`);
-    }
-  }
-}
-
-/** @param {any} value @param {string} name of a class of node's or of the recorder's @returns {boolean} */
-const isA = (value, name) =>
-  value instanceof (name === "FileHandle" ? FileHandle : /** @type {any} */ (globalThis)[name]);
-
-/** @param {any} value */
-const isIterable = (value) => typeof value === "object" && value !== null && Symbol.iterator in value;
-
-/** @param {string} name of an argument */
-const notIterable = (name) =>
-  nodeError("ERR_INVALID_ARG_TYPE", `Optional ${name} argument must be an iterable`, {}, TypeError);
 
 /** So many objects can't be in each other so deep that the other side couldn't read them. */
 const FEW_OBJECTS = 100;
@@ -103,7 +64,10 @@ export class Ports {
   /** @type {Map<number, any>} the ports that this thread has, by their numbers */
   mine = new Map();
 
-  /** @param {World} world */
+  /** @type {any} the port whose message the thread's code has got last, while its loop begins nothing else */
+  latest = undefined;
+
+  /** @param {PortContext} world */
   constructor(world) {
     this.world = world;
   }
@@ -112,6 +76,7 @@ export class Ports {
   clear() {
     mapForEach(this.mine, (/** @type {any} */ port) => this.known(port).end());
     this.mine = new Map();
+    this.latest = undefined;
     this.#known = new EngineWeakMap();
   }
 
@@ -182,26 +147,39 @@ export class Ports {
   }
 
   /**
+   * @param {any[]} list what is transferred
+   * @param {any} [source] the port that sends it
+   * @returns {any[]} the ports in it
+   * @throws {DOMException} if one of them can't be transferred
+   */
+  among(list, source) {
+    const ports = list.filter((each) => this.has(each));
+    demandOpen(ports, source, (each) => this.known(each).closed);
+    return ports;
+  }
+
+  /**
    * Sends a message.
    * @param {any} port
    * @param {unknown} value
    * @param {unknown} transfer
    * @param {Function} [called] the function that the program's code has called; undefined: the thread itself sends
    * @param {number} [kind] one of `KIND`
+   * @returns {boolean | undefined} whether the other side is there; undefined if this one is closed
    */
   send(port, value, transfer, called, kind = KIND.MESSAGE) {
     const { table, moves, buffers } = this.world;
     const { id, closed } = this.known(port);
-    const list = listOf(transfer);
+    const list = transferredOf(transfer);
     demandTransferable(list, this.world.refuse);
-    const ports = list.filter((each) => this.has(each));
+    const ports = this.among(list, port);
     const walked = { objects: Infinity };
     const bare = sent(value, buffers, walked);
     if (closed && kind === KIND.MESSAGE) {
       // What is wrong with it is thrown, and what it has is given away, also if nobody can get it.
       post(new EngineChannel().port1, bare, list);
       ports.forEach((each) => this.leave(each));
-      return;
+      return undefined;
     }
     const number = called === undefined ? moves.sendNow() : moves.send(called, this.#goesTo(id ^ 1));
     const ids = ports.map((each) => this.known(each).id);
@@ -214,11 +192,15 @@ export class Ports {
     }
     for (let at = 0; at < ports.length; at += 1) this.leave(ports[at]);
     const peer = id ^ 1;
-    if (table.isClosed(peer)) return;
+    if (table.isClosed(peer)) return false;
+    // Node gives up a message with the port that it goes to.
+    if (ids.includes(peer)) ids.forEach((each) => this.#lose(each));
+    if (table.isClosed(peer)) return true;
     if (kind === KIND.CLOSE) table.closeFrom(peer);
     else table.addWaiting(peer, 1);
     if (isUrgent(kind)) table.addUrgent(peer, 1);
     this.rouse(peer);
+    return true;
   }
 
   /**
@@ -226,11 +208,11 @@ export class Ports {
    * @returns {Envelope | undefined} its next message, if one waits
    */
   take(port) {
-    const { table, moves, buffers, mesh, note } = this.world;
+    const { table, moves, buffers, control, note } = this.world;
     const known = this.known(port);
     const { id } = known;
     if (table.waiting(id) === 0) return undefined;
-    if (known instanceof QueuedPort) mesh.take();
+    if (known instanceof QueuedPort) control.take();
     const envelope = known.next();
     table.addWaiting(id, -1);
     if (envelope === undefined) return { value: undefined, kind: KIND.CLOSE, number: -1, ports: [], ids: [] };
@@ -276,9 +258,10 @@ export class Ports {
   /** @param {any} port that is closed by this thread: the other side learns that after what was sent before */
   close(port) {
     const known = this.known(port);
-    if (known.closed) return;
+    if (known.isGone) return;
     const { table } = this.world;
     known.closed = true;
+    known.isClosing = false;
     known.refed = false;
     if (!table.isClosed(known.id ^ 1)) this.send(port, undefined, [], undefined, KIND.CLOSE);
     table.close(known.id);
@@ -289,10 +272,21 @@ export class Ports {
     const { table } = this.world;
     /** @type {number[]} */
     const ready = [];
-    mapForEach(this.mine, (/** @type {any} */ _, /** @type {number} */ id) => {
-      if (table.isReady(id)) ready.push(id);
+    mapForEach(this.mine, (/** @type {any} */ port, /** @type {number} */ id) => {
+      if (table.isReady(id) && !this.known(port).isClosing) ready.push(id);
     });
     return ready.sort((one, other) => one - other).map((id) => this.mine.get(id));
+  }
+
+  /**
+   * @returns {any} the port that its listeners have closed while they had a message, if others wait: as in node, these
+   * come before anything else
+   */
+  get closing() {
+    const { latest } = this;
+    if (latest === undefined || !this.has(latest)) return undefined;
+    const { isClosing, left } = this.known(latest);
+    return isClosing && left > 0 && this.waiting(latest) > 0 ? latest : undefined;
   }
 
   /** @param {any} port of this thread @returns {number} how many messages wait there */
@@ -312,7 +306,7 @@ export class Ports {
   }
 
   /** @returns {string[]} what keeps this thread alive, in words */
-  keepers() {
+  liveHandles() {
     return this.keeping().map(({ keeper }) => keeper);
   }
 
@@ -335,12 +329,14 @@ export class Ports {
  * @param {Ports} ports
  */
 export function channelClass(ports) {
-  class MessageChannel {
-    constructor() {
-      const { port1, port2 } = ports.channel();
-      this.port1 = port1;
-      this.port2 = port2;
+  /** @this {any} */
+  function MessageChannel() {
+    if (new.target === undefined) {
+      throw nodeError("ERR_CONSTRUCT_CALL_REQUIRED", "Cannot call constructor without `new`", {}, TypeError);
     }
+    const { port1, port2 } = ports.channel();
+    this.port1 = port1;
+    this.port2 = port2;
   }
   put(MessageChannel.prototype, Symbol.toStringTag, "MessageChannel");
   return MessageChannel;

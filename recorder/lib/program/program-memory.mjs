@@ -5,7 +5,7 @@ import { AsyncWaiters } from "../board/async-waiters.mjs";
 import { memoryOf } from "../board/group-memory.mjs";
 import { MAKE, MOVES } from "../board/journal.mjs";
 import { Blocks, MESSAGES, MESSAGE_BYTES, MOST_BLOCKS, MOST_BYTES, messageBytes } from "../memory/blocks.mjs";
-import { Keepers } from "../memory/keepers.mjs";
+import { ThreadTexts } from "../memory/thread-texts.mjs";
 import { NamedPlaces } from "../memory/named-places.mjs";
 import { Pids } from "../memory/pids.mjs";
 import { Records } from "../memory/records.mjs";
@@ -47,7 +47,7 @@ export function programMemory(plan, logEvents) {
     ports: PortTable.memory(),
     tasks: TaskNotes.memory(),
     pids: Array.from({ length: plan.agents }, () => Pids.memory()),
-    keepers: Array.from({ length: plan.agents }, () => Keepers.memory()),
-    madeAt: Array.from({ length: MOST_BLOCKS }, () => Keepers.memory()),
+    threadTexts: Array.from({ length: plan.agents }, () => ThreadTexts.memory()),
+    madeAt: Array.from({ length: MOST_BLOCKS }, () => ThreadTexts.memory()),
   };
 }

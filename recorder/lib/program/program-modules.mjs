@@ -6,10 +6,11 @@
 import path from "node:path";
 import process from "node:process";
 import { fileURLToPath, pathToFileURL } from "node:url";
+import { replaceNeeded } from "../agent/ordinary/patch.mjs";
 import { apply } from "../primordials.mjs";
 import { CompiledFunctions } from "./compiled-functions.mjs";
 import {
-  Modules, SideEffectFreeRegExpPrototypeSymbolReplace, freshLoader, kIsExecuting, loadBuiltinModule,
+  Builtins, INSIDE, Modules, SideEffectFreeRegExpPrototypeSymbolReplace, freshLoader, kIsExecuting, loadBuiltinModule,
   makeRequireFunction, translators,
 } from "./internals.mjs";
 import { TestRunner } from "./test-runner.mjs";
@@ -106,6 +107,16 @@ function requireBuiltins() {
   translators.set("builtin", translate);
 }
 
+/** Programs don't find node's inside, which the thread has for the recorder. */
+function hideInside() {
+  const isShown = (/** @type {string} */ id) => !INSIDE.test(id);
+  for (const name of ["canBeRequiredByUsers", "canBeRequiredWithoutScheme"]) {
+    replaceNeeded(Builtins, name, (engine) => (/** @type {string} */ id) =>
+      isShown(id) && apply(engine, Builtins, [id]));
+  }
+  Modules.builtinModules = Modules.builtinModules.filter(isShown);
+}
+
 export class ProgramModules {
   /** The run's. */
   #loading = freshLoader();
@@ -127,8 +138,7 @@ export class ProgramModules {
       return compiled === undefined ? apply(engineCompile, this, [text, file, format]) : run(this, compiled, file);
     };
     requireBuiltins();
-    const isPublic = (/** @type {string} */ name) => !name.startsWith("internal/");
-    Modules.builtinModules = Modules.builtinModules.filter(isPublic);
+    hideInside();
   }
 
   /** Forgets all modules, for the next run. */

@@ -11,7 +11,7 @@ const {
 } = realTimers;
 
 /** Something that the recorder does later. Node finds it as the resource of what runs then. */
-export class Later {
+export class RecorderCallback {
   /** @param {() => void} act @param {number} [due] by the machine's clock, in milliseconds */
   constructor(act, due = 0) {
     this.act = act;
@@ -19,10 +19,10 @@ export class Later {
   }
 }
 
-/** @type {Later[]} what is done when the loop turns next */
+/** @type {RecorderCallback[]} what is done when the loop turns next */
 let next = [];
 
-/** @type {Later[]} what is done at a time */
+/** @type {RecorderCallback[]} what is done at a time */
 let timed = [];
 
 /** @param {boolean} isAwaited whether the loop is to turn at once and call `turn`: node looks at its counts for that */
@@ -33,7 +33,7 @@ function awaitTurn(isAwaited) {
   apply(toggleImmediateRef, binding, [isAwaited]);
 }
 
-/** @returns {Later[]} what is to be done when the loop has turned */
+/** @returns {RecorderCallback[]} what is to be done when the loop has turned */
 function takeNext() {
   const all = next;
   next = [];
@@ -41,10 +41,10 @@ function takeNext() {
   return all;
 }
 
-/** @param {number} now @returns {Later[]} what is to be done by then */
+/** @param {number} now @returns {RecorderCallback[]} what is to be done by then */
 function takeDue(now) {
   const all = timed;
-  /** @type {Later[]} */
+  /** @type {RecorderCallback[]} */
   const due = [];
   timed = [];
   for (let at = 0; at < all.length; at += 1) {
@@ -63,7 +63,7 @@ function firstDue() {
 
 /**
  * A function that node calls. No further one is below what is done: a stack has ten frames, also of a program's error.
- * @param {(now: number) => Later[]} take takes what is to be done
+ * @param {(now: number) => RecorderCallback[]} take takes what is to be done
  * @returns {(now: number) => number} returns when a time has come next
  */
 const doing = (take) => (now) => {
@@ -81,9 +81,9 @@ const doing = (take) => (now) => {
 
 setupTimers(doing(takeNext), doing(takeDue));
 
-/** @param {() => void} act is called when the real loop has turned @returns {Later} */
+/** @param {() => void} act is called when the real loop has turned @returns {RecorderCallback} */
 export function turnLater(act) {
-  const later = new Later(act);
+  const later = new RecorderCallback(act);
   if (next.length === 0) awaitTurn(true);
   next[next.length] = later;
   return later;
@@ -92,17 +92,17 @@ export function turnLater(act) {
 /** @returns {number} how many immediates node counts because the loop is to turn */
 export const turns = () => (next.length === 0 ? 0 : 1);
 
-/** @param {() => void} act @param {number} milliseconds of the machine's clock @returns {Later} */
+/** @param {() => void} act @param {number} milliseconds of the machine's clock @returns {RecorderCallback} */
 export function wake(act, milliseconds) {
   const now = apply(getLibuvNow, binding, []);
-  const later = new Later(act, now + milliseconds);
+  const later = new RecorderCallback(act, now + milliseconds);
   timed[timed.length] = later;
   apply(scheduleTimer, binding, [Math.max(1, firstDue() - now)]);
   apply(toggleTimerRef, binding, [true]);
   return later;
 }
 
-/** @param {Later | undefined} later that isn't to be done any more */
+/** @param {RecorderCallback | undefined} later that isn't to be done any more */
 export function never(later) {
   if (later !== undefined) later.act = () => {};
 }

@@ -4,10 +4,10 @@
 import { activeHandles } from "./internals.mjs";
 
 /** What is under way in a thread while node reads a module or a file. */
-export const READING = new Set(["FSReqPromise", "FSReqCallback", "FileHandleCloseReq", "CloseReq"]);
+export const FILE_REQUESTS = new Set(["FSReqPromise", "FSReqCallback", "FileHandleCloseReq", "CloseReq"]);
 
 /** What each thread has by itself, and isn't work that is under way. */
-const OURS = new Set(["Immediate", "MessagePort", "Timeout", ...READING]);
+const OURS = new Set(["Immediate", "MessagePort", "Timeout", ...FILE_REQUESTS]);
 
 /** What node calls the work whose answers the machine gives: open sockets, pipes and processes, and requests. */
 const REAL = new RegExp("^(?:Connect|GetAddrInfo|GetNameInfo|Http2|JS|Libuv|Pipe|Process|Query|Send|Shutdown|Simple"
@@ -109,14 +109,14 @@ export class RealWork {
   /**
    * The thread's part in a run is over: nothing of it may get into the next one.
    * @param {() => void} home is called if nothing is left, perhaps later
-   * @param {() => void} park is called if something may be: then the thread never begins again
+   * @param {() => void} parkForever is called if something may be: then the thread never begins again
    */
-  leave(home, park) {
+  leave(home, parkForever) {
     if (this.#used.length === 0) return home();
     if (this.#isLasting) this.close();
     const isLasting = this.#isLasting;
     this.#used = [];
     this.#isLasting = false;
-    this.children.end((areEnded) => (areEnded && !isLasting ? home() : park()));
+    this.children.end((areEnded) => (areEnded && !isLasting ? home() : parkForever()));
   }
 }

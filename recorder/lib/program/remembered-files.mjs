@@ -12,9 +12,9 @@ export const isThere = (file) => statSync(file, { throwIfNoEntry: false })?.isFi
 /** So many are remembered: some programs make other URLs in each run. */
 const MOST_FILES = 1_000;
 
-/** @typedef {{ found: { url: string }, file: string }} Known what was found, and its path */
+/** @typedef {{ found: { url: string }, file: string }} FoundFile what was found, and its path */
 
-/** @type {Map<string, Known>} the files that modules import, by module and specifier */
+/** @type {Map<string, FoundFile>} the files that modules import, by module and specifier */
 const files = new Map();
 
 /**

@@ -16,14 +16,14 @@
  * @property {import("./wait-async.mjs").WaitAsync} waits
  * @property {import("./locks.mjs").Locks} locks
  * @property {import("./ends.mjs").Ends} ends
- * @property {import("../memory/keepers.mjs").Keepers} keepers
+ * @property {import("../memory/thread-texts.mjs").ThreadTexts} threadTexts
  * @property {(why: string) => never} refuse ends the run
  * @property {() => never} leave leaves all code of the run
- * @property {() => void} goHome is called when the thread's part in the run is over, and none of its code goes on
+ * @property {() => void} becomeIdle is called when the thread's part in the run is over, and none of its code goes on
  * @property {Set<Child>} children workers that this thread has started
  * @property {import("../memory/task-notes.mjs").TaskNotes} notes of tasks that begin
  * @property {() => string | undefined} here where the program's code is
- * @property {import("./looking.mjs").Looking} looking
+ * @property {import("./io-polling.mjs").IoPolling} looking
  * @property {boolean} hasPhases whether timers that are due come before all else in each turn of the loop, as in node
  */
 

@@ -47,7 +47,7 @@ function entryOf(url) {
  * @param {import("./program-modules.mjs").ProgramModules} graph
  * @returns {Promise<unknown>}
  */
-export async function evaluated({ url, isCode }, graph) {
+export async function evaluatedProgram({ url, isCode }, graph) {
   return isCode ? graph.evaluate(url, EVALUATED) : graph.enter(entryOf(url));
 }
 

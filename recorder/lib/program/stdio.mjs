@@ -14,10 +14,11 @@ import { KIND } from "./ports.mjs";
 
 const Readable = /** @type {any} */ (stream).Readable;
 
-/** @typedef {"stdin" | "stdout" | "stderr"} Name */
-/** @typedef {Record<Name, boolean>} Piped which streams go by a port */
+/** @typedef {"stdin" | "stdout" | "stderr"} StreamName */
+/** @typedef {Record<StreamName, boolean>} Piped which streams go by a port */
 /**
- * @typedef {Piped & { port: any }} Given what a thread gets of the streams; the port is undefined if none goes by it
+ * @typedef {Piped & { port: any }} ThreadStreams what a thread gets of the streams; the port is undefined if none goes
+ * by it
  */
 
 /** @type {readonly ("stdout" | "stderr")[]} */
@@ -40,7 +41,7 @@ export const isAnyPiped = ({ stdin, stdout, stderr }) => stdin || stdout || stde
  * Takes the messages of streams.
  * @param {import("./ports.mjs").Ports} ports
  * @param {any} port
- * @param {(name: Name) => any} streamOf
+ * @param {(name: StreamName) => any} streamOf
  */
 function serve(ports, port, streamOf) {
   port[kWaitingStreams] = 0;
@@ -76,7 +77,7 @@ Unasked.prototype.addListener = Unasked.prototype.on;
 
 /** The streams of a Worker in the thread that has started it. */
 export class WorkersStdio {
-  /** @type {Partial<Record<Name, any>>} */
+  /** @type {Partial<Record<StreamName, any>>} */
   #streams = {};
   #hasEnded = false;
 
@@ -152,7 +153,7 @@ export class WorkersStdio {
 
 /**
  * What the thread's streams are in a run in which nothing is piped.
- * @type {Partial<Record<Name, any>>}
+ * @type {Partial<Record<StreamName, any>>}
  */
 const plain = {};
 
@@ -193,7 +194,7 @@ function noInput() {
 /**
  * Gives the thread the streams that its Worker has asked for.
  * @param {import("./ports.mjs").Ports} ports
- * @param {Given} given
+ * @param {ThreadStreams} given
  */
 export function beginStdio(ports, { port, stdin, ...printed }) {
   Object.assign(own, printed);

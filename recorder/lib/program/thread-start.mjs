@@ -6,10 +6,10 @@ import { WORD } from "../memory/layout.mjs";
 import { toThread } from "./moves.mjs";
 
 /**
- * @typedef {object} Starting what the start of a thread needs of the one that starts it
+ * @typedef {object} StartContext what the start of a thread needs of the one that starts it
  * @property {import("./ports.mjs").Ports} ports
  * @property {import("./moves.mjs").Moves} moves
- * @property {import("./mesh.mjs").Mesh} mesh
+ * @property {import("./control-channels.mjs").ControlChannels} control
  * @property {import("./buffers.mjs").Buffers} buffers
  * @property {import("./threads.mjs").Threads} threads
  * @property {import("./locks.mjs").Locks} locks
@@ -18,33 +18,35 @@ import { toThread } from "./moves.mjs";
  */
 
 /**
- * @typedef {{ url: string, isCode?: boolean, where: string }} Start what a thread is to run, and where it was started
+ * @typedef {{ url: string, isCode?: boolean, where: string }} ThreadStart what a thread is to run, and where it was
+ * started
  */
-/** @typedef {{ start: Start, number: number, ports: any[], ids: number[] }} Handed */
+/** @typedef {{ start: ThreadStart, number: number, ports: any[], ids: number[] }} StartMessage */
 
 /**
  * Starts a thread.
- * @param {Starting} starting
+ * @param {StartContext} starting
  * @param {object} given what it is to run; where it was started is added to it
  * @param {any[]} transferList what it gets for good
  * @param {Function} called the function that the program's code has called
  * @returns {{ agent: number, port: any, where: string }} its number, the port to it, and where it was started
  */
 export function startThread(starting, given, transferList, called) {
-  const { ports, moves, mesh, buffers, threads, locks, here, refuse } = starting;
+  const { ports, moves, control, buffers, threads, locks, here, refuse } = starting;
   const { words } = moves.board;
+  const among = ports.among(transferList);
   const number = moves.send(called, toThread(words[WORD.JOINED]));
   const agent = words[WORD.JOINED];
   if (agent === SCRIPT_LIMITS.agents) refuse(`started a Worker more than the ${agent} threads that a run can have`);
-  mesh.needs(agent + 1);
+  control.needs(agent + 1);
   buffers.handTo(agent);
   locks.handTo(agent);
   const { port1, port2 } = ports.channel();
-  const moved = transferList.filter((each) => ports.has(each)).concat(port2);
+  const moved = among.concat(port2);
   const ids = moved.map((each) => ports.known(each).id);
   const where = here();
   const start = { ...given, where };
-  mesh.hand(agent, { kind: "start", start, number, ports: moved, ids }, transferList.concat(port2));
+  control.hand(agent, { kind: "start", start, number, ports: moved, ids }, transferList.concat(port2));
   moved.forEach((each) => ports.leave(each));
   threads.start(agent);
   return { agent, port: port1, where };
@@ -52,15 +54,15 @@ export function startThread(starting, given, transferList, called) {
 
 /**
  * What a thread that another one has started was handed.
- * @param {Pick<Starting, "mesh" | "ports" | "moves">} starting
- * @returns {{ start: Start, parentPort: any }}
+ * @param {Pick<StartContext, "control" | "ports" | "moves">} starting
+ * @returns {{ start: ThreadStart, parentPort: any }}
  */
-export function takenStart({ mesh, ports, moves }) {
+export function takenStart({ control, ports, moves }) {
   ports.world.table.begins(moves.agent);
-  /** @type {Handed[]} */
+  /** @type {StartMessage[]} */
   const handed = [];
-  mesh.onItem("start", (item) => void handed.push(item));
-  mesh.take();
+  control.onItem("start", (item) => void handed.push(item));
+  control.take();
   const { start, number, ports: moved, ids } = handed[0];
   moved.forEach((each, at) => ports.adopt(each, ids[at]));
   moves.receive(number);
@@ -71,5 +73,5 @@ export function takenStart({ mesh, ports, moves }) {
 const fileName = (url) =>
   (/^(?:data|blob):/.test(url) ? `a ${url.slice(0, 5)} URL` : url.slice(url.lastIndexOf("/") + 1));
 
-/** @param {Start} start @returns {string} what the thread is, for people */
+/** @param {ThreadStart} start @returns {string} what the thread is, for people */
 export const threadName = ({ url, isCode }) => (isCode ? "evaluated code" : fileName(url));

@@ -10,9 +10,9 @@ import {
 } from "./internals.mjs";
 import { turns } from "./real-loop.mjs";
 
-/** @typedef {any} Item a Timeout or an Immediate */
+/** @typedef {any} TimerObject a Timeout or an Immediate */
 /** @typedef {{ text: string, readonly where: string | undefined }} Described it, in words, and where it was made */
-/** @typedef {import("../agent/frames.mjs").Later} Later */
+/** @typedef {import("../agent/frames.mjs").PlaceFinder} PlaceFinder */
 
 const { getTimerCallbacks, immediateQueue, kRefed, knownTimersById, timerListMap, timerListQueue } = nodeTimers;
 const { immediateInfo, timeoutInfo } = realTimers;
@@ -28,11 +28,11 @@ const stop = () => {
 export class Timers {
   /** Node's functions that run callbacks; one callback each time. */
   #process = getTimerCallbacks(stop);
-  /** @type {WeakMap<Item, Later>} where each was made */
+  /** @type {WeakMap<TimerObject, PlaceFinder>} where each was made */
   #made = new WeakMap();
-  /** @type {Item[]} immediates of the round that has begun, and those of the next one */
+  /** @type {TimerObject[]} immediates of the round that has begun, and those of the next one */
   #round = [];
-  /** @type {Item[]} */
+  /** @type {TimerObject[]} */
   #next = [];
   /** @type {unknown[]} signals that have a time. Node would forget the timers of those that are garbage */
   #signals = [];
@@ -44,12 +44,13 @@ export class Timers {
    * One for each thread: node's timers are those of the run from now on.
    * @param {object} given
    * @param {() => number} given.now the run's clock in milliseconds
-   * @param {(called: Function) => Later} [given.here] where the code is that makes a timer; `called` makes it
+   * @param {(called: Function) => PlaceFinder} [given.here] where the code is that makes a timer; `called` makes it
    */
   constructor({ now, here = () => () => undefined }) {
     this.#now = () => Math.floor(now());
     putBelowTimers(this.#now, (item) => void weakSet(this.#made, item, here(classOf(item))));
     this.#keepSignals();
+    keepCount();
     this.clear();
   }
 
@@ -90,9 +91,9 @@ export class Timers {
   }
 
   /** @returns {Described[]} the timers, by deadline, and the immediates that keep the thread alive */
-  keepers() {
+  liveHandles() {
     this.#gather();
-    const isRefed = (/** @type {Item} */ item) => item[kRefed];
+    const isRefed = (/** @type {TimerObject} */ item) => item[kRefed];
     const waiting = allTimers().filter(isRefed);
     waiting.sort((one, other) => timeOf(one) - timeOf(other));
     const ready = this.#round.concat(this.#next).filter(isRefed);
@@ -181,7 +182,7 @@ export class Timers {
     }
   }
 
-  /** @returns {Item | undefined} the timer that node runs next, if it is due */
+  /** @returns {TimerObject | undefined} the timer that node runs next, if it is due */
   #due() {
     const due = this.#dueInPass();
     if (due !== undefined) return due;
@@ -212,7 +213,7 @@ export class Timers {
     immediateQueue.tail = null;
   }
 
-  /** @param {Item} item @returns {Described} */
+  /** @param {TimerObject} item @returns {Described} */
   #described(item) {
     const where = weakGet(this.#made, item);
     return {
@@ -224,35 +225,43 @@ export class Timers {
   }
 }
 
+/** Node 20 counts each object that is cleared as an immediate. One that is none isn't counted here. */
+function keepCount() {
+  replaceNeeded(immediateQueue, "remove", (engine) => (/** @type {TimerObject} */ item) => {
+    if (!(item instanceof nodeTimers.Immediate)) immediateInfo[IMMEDIATES] += 1;
+    return apply(engine, immediateQueue, [item]);
+  });
+}
+
 /** @returns {any[]} node's lists of timers, one for each number of milliseconds */
 const lists = () => Object.values(timerListMap);
 
-/** @returns {Item[]} */
+/** @returns {TimerObject[]} */
 const allTimers = () => lists().flatMap((list) => itemsOf(list));
 
-/** @param {Item} item @returns {Function} node's class of it */
+/** @param {TimerObject} item @returns {Function} node's class of it */
 const classOf = (item) => (item instanceof nodeTimers.Immediate ? nodeTimers.Immediate : nodeTimers.Timeout);
 
-/** @param {Item} item @returns {string} it in words */
+/** @param {TimerObject} item @returns {string} it in words */
 function textOf(item) {
   if (classOf(item) === nodeTimers.Immediate) return "an immediate";
   return `${item._repeat === null ? "a timer" : "an interval"} of ${item._idleTimeout} ms`;
 }
 
-/** @param {Item} timer @returns {number} when it is due */
+/** @param {TimerObject} timer @returns {number} when it is due */
 const timeOf = (timer) => timer._idleStart + Math.trunc(timer._idleTimeout);
 
 /** @param {any} list of node's @returns {number} when its first timer is due; Infinity if it has none */
 const dueOf = (list) => (list._idlePrev === list ? Infinity : list._idlePrev._idleStart + list.msecs);
 
-/** @param {any} list of node's @returns {Item[]} its timers, the oldest first */
+/** @param {any} list of node's @returns {TimerObject[]} its timers, the oldest first */
 function itemsOf(list) {
   const items = [];
   for (let item = list._idlePrev; item !== list; item = item._idlePrev) items.push(item);
   return items;
 }
 
-/** @param {Item[]} immediates @returns {Item | undefined} the first that wasn't cleared */
+/** @param {TimerObject[]} immediates @returns {TimerObject | undefined} the first that wasn't cleared */
 function firstOf(immediates) {
   while (immediates.length > 0 && immediates[0]._destroyed) immediates.shift();
   return immediates[0];

@@ -9,9 +9,9 @@ const { receiveMessageOnPort: receive } = threads;
 /** In place of `message`: what was thrown. */
 export const UNREAD = Symbol("unread");
 
-/** @typedef {{ message?: any, [UNREAD]?: unknown }} Found */
+/** @typedef {{ message?: any, [UNREAD]?: unknown }} UnreadMessage */
 
-/** @param {any} port @returns {Found | undefined} what comes next; undefined: nothing */
+/** @param {any} port @returns {UnreadMessage | undefined} what comes next; undefined: nothing */
 export function nextOf(port) {
   try {
     return receive(port);

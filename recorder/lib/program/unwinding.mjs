@@ -6,7 +6,7 @@ import { createHook, executionAsyncResource } from "node:async_hooks";
 import { Session } from "node:inspector";
 import { promiseHooks } from "node:v8";
 import { MessagePort } from "node:worker_threads";
-import { restoreBuiltins } from "./builtins.mjs";
+import { restoreBuiltins } from "./restored-builtins.mjs";
 import { restoreProcess } from "./install.mjs";
 import { leaveContexts } from "./internals.mjs";
 import { isDropped } from "./microtasks.mjs";
@@ -16,8 +16,8 @@ import { turnLater } from "./real-loop.mjs";
  * @typedef {object} Unwound
  * @property {() => void} stop nothing of the thread is recorded from now on, and nothing begins
  * @property {() => boolean} isSwept runs ticks and microtasks, and returns whether node has nothing else under way
- * @property {() => void} goHome the thread can begin again
- * @property {() => never} park the thread never goes on
+ * @property {() => void} becomeIdle the thread can begin again
+ * @property {() => never} parkForever the thread never goes on
  */
 
 class Unwinding {
@@ -35,7 +35,7 @@ class Unwinding {
     this.unwound = unwound;
     // What else node calls, such as a tick, may run code of the program, and can't be dropped. So the thread sleeps for
     // good.
-    this.hook = createHook({ before: () => void (this.#isOwn(executionAsyncResource()) || unwound.park()) });
+    this.hook = createHook({ before: () => void (this.#isOwn(executionAsyncResource()) || unwound.parkForever()) });
   }
 
   /** Leaves all code of the program that runs now. */
@@ -54,13 +54,13 @@ class Unwinding {
   /** Nothing of the program is on the stack. */
   #sweep = () => {
     this.#next = undefined;
-    if (!this.unwound.isSwept()) this.unwound.park();
+    if (!this.unwound.isSwept()) this.unwound.parkForever();
     // A promise's job was broken off meanwhile, so it sweeps once more.
     if (this.#next !== undefined) return;
     this.hook.disable();
     this.#release?.();
     this.#release = undefined;
-    this.unwound.goHome();
+    this.unwound.becomeIdle();
   };
 
   /** @param {object} resource of what node calls @returns {boolean} whether that runs no code of the program */
@@ -82,19 +82,19 @@ class Unwinding {
 
 /**
  * What a thread has that is made later.
- * @typedef {object} Late
+ * @typedef {object} DeferredServices
  * @property {import("./loop.mjs").Loop} [loop]
  * @property {import("./ends.mjs").Ends} [ends]
  * @property {{ clear: () => void }} [wasm] what modules of WebAssembly leave
- * @property {() => void} [goHome] leaves nothing of the run, so that the thread can begin again
+ * @property {() => void} [becomeIdle] leaves nothing of the run, so that the thread can begin again
  */
 
 /**
  * @param {import("../agent/player.mjs").Player} player
- * @param {Late} late
+ * @param {DeferredServices} late
  * @returns {() => never} leaves all code of the program that runs in this thread
  */
-export function leaveOf({ agent, part, table }, late) {
+export function leaveOf({ agent, part, context }, late) {
   const { leave } = new Unwinding({
     stop: () => {
       part.isPlaying = false;
@@ -105,9 +105,9 @@ export function leaveOf({ agent, part, table }, late) {
       late.loop?.halt();
     },
     isSwept: () => late.loop?.isSwept() ?? true,
-    goHome: () => late.goHome?.(),
-    park: () => table.board.turn.park(agent),
+    becomeIdle: () => late.becomeIdle?.(),
+    parkForever: () => context.board.turn.parkForever(agent),
   });
-  table.leave = leave;
+  context.leave = leave;
   return leave;
 }

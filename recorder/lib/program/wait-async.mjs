@@ -8,7 +8,7 @@ import { engineCall } from "../agent/engine.mjs";
 import { sourceAbove } from "../agent/frames.mjs";
 import { unwrapped } from "../agent/ordinary/watched.mjs";
 import { NO_WAITER } from "../board/async-waiters.mjs";
-import { byteOf } from "../memory/memory.mjs";
+import { byteOf } from "../memory/recorded-memory.mjs";
 import { apply, bufferOf, likeEngine, put } from "../primordials.mjs";
 import { Buffers } from "./buffers.mjs";
 
@@ -31,7 +31,7 @@ const { waitAsync: engineWaitAsync } = /** @type {any} */ (Atomics);
  */
 
 /**
- * @typedef {object} Around what waits need of their thread
+ * @typedef {object} WaitAsyncContext what waits need of their thread
  * @property {import("./moves.mjs").Moves} moves
  * @property {import("./buffers.mjs").Buffers} buffers
  * @property {() => boolean} isPlaying
@@ -45,7 +45,7 @@ export class WaitAsync {
   /** @type {Waiting[]} in the order of their calls */
   #pending = [];
 
-  /** @param {Around} around */
+  /** @param {WaitAsyncContext} around */
   constructor(around) {
     this.around = around;
     this.waiters = /** @type {import("../board/async-waiters.mjs").AsyncWaiters} */ (around.moves.board.waiters);

@@ -11,11 +11,12 @@ import { isCalledByAgents } from "../agent/frames.mjs";
 import { defineProperty, isArray } from "../primordials.mjs";
 import { deserializeError } from "./internals.mjs";
 import { nodeError } from "./node-error.mjs";
-import { KIND, demandTransferable, itemsOf } from "./ports.mjs";
+import { KIND } from "./ports.mjs";
 import { sharedEnv } from "./process-env.mjs";
 import { WorkersStdio, isAnyPiped, pipedOf } from "./stdio.mjs";
 import { startThread } from "./thread-start.mjs";
-import { sent } from "./values.mjs";
+import { demandTransferable, itemsOf } from "./transfer-list.mjs";
+import { sent } from "./message-values.mjs";
 
 const { SHARE_ENV } = /** @type {any} */ (threads);
 const { nextTick } = /** @type {any} */ (process);
@@ -31,10 +32,10 @@ const { prototype: engine } = /** @type {any} */ (threads.Worker);
  * @property {Set<import("./served.mjs").Child>} children workers that haven't ended
  */
 
-/** @typedef {import("./thread-start.mjs").Starting & OfNode} Starting */
+/** @typedef {import("./thread-start.mjs").StartContext & OfNode} WorkerContext */
 
 /**
- * @typedef {object} Start what a thread is to run
+ * @typedef {object} WorkerStart what a thread is to run
  * @property {string} url or the code, if it is evaluated
  * @property {boolean} isCode
  * @property {any} workerData
@@ -42,8 +43,8 @@ const { prototype: engine } = /** @type {any} */ (threads.Worker);
  * @property {string[]} execArgv
  * @property {Record<string, string | undefined>} env
  * @property {boolean} sharesEnv whether it is that of the thread that starts it
- * @property {Limits} resourceLimits
- * @property {import("./stdio.mjs").Given} stdio
+ * @property {ResourceLimits} resourceLimits
+ * @property {import("./stdio.mjs").ThreadStreams} stdio
  * @property {string} threadName
  * @property {Map<unknown, unknown>} environment
  * @property {string} where it was started
@@ -100,7 +101,7 @@ function execArgvOf({ execArgv }, refuse) {
   return words;
 }
 
-/** @typedef {Record<string, number>} Limits */
+/** @typedef {Record<string, number>} ResourceLimits */
 
 /** Those that a thread has by default, on any machine. No thread is held to its limits. */
 const LIMITS = Object.freeze({
@@ -111,9 +112,9 @@ const LIMITED = Object.freeze(Object.keys(LIMITS));
 /** Node gives a thread at least so much. */
 const LEAST_OLD = 2;
 
-/** @param {any} options @returns {Limits} */
+/** @param {any} options @returns {ResourceLimits} */
 function limitsOf({ resourceLimits }) {
-  /** @type {Limits} */
+  /** @type {ResourceLimits} */
   const limits = { ...LIMITS };
   LIMITED.forEach((name) => {
     const given = resourceLimits?.[name];
@@ -125,7 +126,7 @@ function limitsOf({ resourceLimits }) {
 
 /**
  * Starts a thread.
- * @param {Starting} starting
+ * @param {WorkerContext} starting
  * @param {unknown} file
  * @param {any} options
  * @param {Function} called the function that the program's code has called
@@ -154,10 +155,10 @@ function started(starting, file, options, called) {
 
 const NO_PORTS = Object.freeze({ port1: undefined, port2: undefined });
 
-/** @type {Starting | undefined} a thread has one part in a run */
+/** @type {WorkerContext | undefined} a thread has one part in a run */
 let starting;
 
-/** @returns {Starting} */
+/** @returns {WorkerContext} */
 function world() {
   if (starting === undefined) throw new Error("the thread has no part in a run yet");
   return starting;
@@ -314,7 +315,7 @@ if (DISPOSE !== undefined && DISPOSE in engine) {
   defineProperty(Worker.prototype, DISPOSE, { configurable: true, writable: true, value });
 }
 
-/** @param {Starting} given @returns {Function} the class by which the program starts workers */
+/** @param {WorkerContext} given @returns {Function} the class by which the program starts workers */
 export function workerClass(given) {
   starting = given;
   return Worker;

@@ -4,7 +4,7 @@ import { createHash } from "node:crypto";
 import { KINDS, SIZES } from "../../script/kinds.mjs";
 import { elementText } from "../../script/values.mjs";
 
-/** @typedef {import("../options/names.mjs").Name} Name */
+/** @typedef {import("../options/names.mjs").NamedView} NamedView */
 
 /** @typedef {{ digest: string, shown: string[] }} MoreBytes those of blocks that no script can have */
 
@@ -39,7 +39,7 @@ const cut = (text, most) => (text.length > most ? `${text.slice(0, most)}…` : 
 
 /**
  * The values of an array or a word.
- * @param {Name} name
+ * @param {NamedView} name
  * @param {string[]} bytes of each buffer, in hexadecimal digits
  */
 function namedText({ name, kind, block, offset, length }, bytes) {
@@ -60,7 +60,7 @@ export const bytesText = (shown) => shown.map((hex) => (hex === "" ? "-" : hex))
 /**
  * Whether any byte that no name has isn't zero.
  * @param {string[]} bytes of each buffer, in hexadecimal digits
- * @param {Name[]} names
+ * @param {NamedView[]} names
  * @returns {boolean}
  */
 function hasMore(bytes, names) {
@@ -89,7 +89,7 @@ export function moreBytesOf(blocks) {
 }
 
 export class FinalStates {
-  /** @param {Name[]} names of words and arrays */
+  /** @param {NamedView[]} names of words and arrays */
   constructor(names) {
     this.names = names;
     /** @type {Map<string, FinalState>} by how the run ended and all bytes, or by their hash if these are many */

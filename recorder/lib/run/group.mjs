@@ -15,54 +15,38 @@ import { within } from "../processes/within.mjs";
 import { problemIn } from "./given-calls.mjs";
 import { loadProblem } from "./load-problem.mjs";
 import { RefereeThread } from "./referee-thread.mjs";
-import { TextMaker } from "./taken.mjs";
+import { TextMaker } from "./run-snapshot.mjs";
 
 /** @typedef {import("../processes/thread.mjs").Thread} Thread */
 /** @typedef {import("./outcome.mjs").Aside} Aside */
 /** @typedef {import("./outcome.mjs").Judgement} Judgement */
 /** @typedef {import("./outcome.mjs").One} One */
 /** @typedef {import("./outcome.mjs").Outcome} Outcome */
-/** @typedef {import("./outcome.mjs").Wanted} Wanted */
+/** @typedef {import("./outcome.mjs").WantedRun} WantedRun */
 
 /** @typedef {{ setup: unknown, names: string[], hasInit: boolean, hasCheck: boolean }} Has what a module has */
 /** @typedef {{ thread: Thread, has: Has }} Loaded */
 
-/** @typedef {(buffers: SharedArrayBuffer[], about: { agents: number, args: string[] }) => unknown} OfBuffers */
-
 /**
- * @typedef {object} GroupOptions
- * @property {string} module the URL of the agents' module
- * @property {"fail" | "allow"} [stuck] whether a run of a program that is stuck fails
- * @property {number} [early] by how many milliseconds the clock of a program's run may be ahead of what waits
+ * @typedef {object} OwnOptions what a group is given besides options of the library, or in place of some
+ * @property {string} module the URL of the agents' module, or of the program's main one
  * @property {boolean} [isProgram] whether the module is a program that starts its threads itself
- * @property {boolean} [web] whether the program is one for browsers
- * @property {"all" | "none"} [programOutput] for which runs it is shown what a program prints; else for the first one
- * @property {"ordinary" | "relaxed"} [wasmAccesses] what plain aligned accesses of WebAssembly to shared memory are
  * @property {string[]} args for the agents
- * @property {number} [agents] how many
- * @property {number[]} [buffers] their bytes
- * @property {number[]} [noBlock] agents that can't block
  * @property {string} [strategy] how it is drawn who moves next, as `waysOf` takes it
- * @property {boolean} [everywhere] whether agents are switched before each call, also where no agents can meet
  * @property {boolean} [inTurn] whether agents begin in turn under each seed; else some seeds draw their order
- * @property {number | "never"} [timeouts] in how many draws the end of a timed wait is offered while something else can
- * move; never: it isn't, even if nothing else can move
  * @property {number} maxMoves
  * @property {number} seconds for how long an agent may make no call
  * @property {boolean} fresh
- * @property {"watch" | "store" | "refuse"} [ordinary] what is done with ordinary reads and writes
- * @property {"fail" | "allow"} [races] whether a run that finishes and has unordered accesses fails
- * @property {"fail" | "allow"} [limits] whether a run that meets a limit fails
- * @property {"fail" | "allow"} [unrecorded] whether a run fails in which agents use shared memory that isn't recorded
- * @property {"run" | "real"} [clock] which time agents get
- * @property {boolean} [trace] whether each run has its trace
  * @property {boolean} [isBrief] whether outcomes of runs that pass have no bytes and answers
- * @property {OfBuffers} [init] fills the buffers before each run, in place of the module's
- * @property {OfBuffers} [check] throws if the buffers aren't right after a run that finished, in place of the
- * module's
  * @property {number} [loadSeconds] how long the module may take to be loaded
  * @property {number} [logEvents] how many events the log has room for; as `Log.memory` has it if it isn't given
  */
+
+/** @typedef {import("../../recorder.cjs").WithBuffers} OfBuffers */
+/** @typedef {Omit<import("../../options.cjs").OfModule, "program">} OfModule */
+/** @typedef {Omit<import("../../options.cjs").OfProgram, "program" | "module">} OfProgram */
+/** @typedef {import("../../options.cjs").RunOptions & OfModule & OfProgram} LibraryOptions */
+/** @typedef {OwnOptions & Omit<LibraryOptions, keyof OwnOptions | "sabsim">} GroupOptions */
 
 /**
  * The options that always have a value.
@@ -70,7 +54,7 @@ import { TextMaker } from "./taken.mjs";
  */
 
 const DEFAULT_LOAD_SECONDS = 30;
-const AGENT_MODULE = new URL("../agent/worker.mjs", import.meta.url);
+const AGENT_MODULE = new URL("../agent/agent-worker.mjs", import.meta.url);
 
 /**
  * A part of a group, which is there when it has started.
@@ -131,7 +115,7 @@ export class Group {
 
   /**
    * Makes a run for each seed, in their order.
-   * @param {Wanted[]} seeds
+   * @param {WantedRun[]} seeds
    * @param {(outcome: Outcome, judgement: Judgement | undefined, aside: Aside) => void} onOutcome
    * @param {(outcome: Outcome) => void} [onFailing] is called for a failing run before that, and before the next run,
    * whose agents may end the process
@@ -203,7 +187,7 @@ export class Group {
 
   /**
    * Makes one run.
-   * @param {Wanted} wanted
+   * @param {WantedRun} wanted
    * @returns {Promise<One>}
    */
   async one(wanted) {
@@ -296,10 +280,10 @@ export class Group {
   refereeOptions({ hasInit, hasCheck }) {
     const { init, check, module, seconds, fresh, trace, isBrief, ordinary } = this.options;
     const { races, limits, unrecorded } = this.options;
-    /** @type {(own: OfBuffers | undefined, isTheirs: boolean) => "library" | "module" | undefined} */
-    const whose = (own, isTheirs) => {
+    /** @type {(own: OfBuffers | undefined, isProgramMemory: boolean) => "library" | "module" | undefined} */
+    const whose = (own, isProgramMemory) => {
       if (own !== undefined) return "library";
-      return isTheirs ? "module" : undefined;
+      return isProgramMemory ? "module" : undefined;
     };
     const asked = { init: whose(init, hasInit), check: whose(check, hasCheck) };
     return { module, seconds, fresh, trace, isBrief, ordinary, races, limits, unrecorded, ...asked };

@@ -4,7 +4,7 @@
 import { KINDS, SCRIPT_KINDS, SIZES } from "../../script/kinds.mjs";
 import { HELD, MESSAGES } from "../memory/blocks.mjs";
 import { FLAG, NO_CALL } from "../memory/log.mjs";
-import { byteOf } from "../memory/memory.mjs";
+import { byteOf } from "../memory/recorded-memory.mjs";
 import { FIRST_MORE } from "../memory/more-blocks.mjs";
 import { Names } from "../options/names.mjs";
 import { windowNames } from "./window-names.mjs";
@@ -14,8 +14,8 @@ import { TouchedPages, Windows } from "./windows.mjs";
 /** @typedef {import("../memory/log.mjs").LogEvent} LogEvent */
 /** @typedef {import("../memory/records.mjs").Call} Call */
 /** @typedef {import("../memory/stores.mjs").Store} Store */
-/** @typedef {import("../options/names.mjs").Name} Name */
-/** @typedef {import("./transcript.mjs").Run} Run */
+/** @typedef {import("../options/names.mjs").NamedView} NamedView */
+/** @typedef {import("./transcript.mjs").TranscriptSource} TranscriptSource */
 /** @typedef {import("./windows.mjs").Window} Window */
 
 /** @typedef {Window & { name: string }} NamedWindow with the name of its buffer; empty: it isn't known */
@@ -24,7 +24,7 @@ import { TouchedPages, Windows } from "./windows.mjs";
 
 /**
  * @typedef {object} Written a run as its script and its trace have it
- * @property {Run} run
+ * @property {TranscriptSource} run
  * @property {Pick<import("../memory/stores.mjs").Stores, "list" | "isWhole" | "isLost">} stores
  * @property {string[]} bytes of each block at the end, in hexadecimal digits
  * @property {NamedWindow[]} [windows] if its blocks aren't the program's
@@ -41,7 +41,7 @@ const EFFECTS = FLAG.READS | FLAG.WRITES | FLAG.WAITERS;
 /**
  * A call that throws since its view has no such element.
  * @param {LogEvent} event
- * @param {Run["records"]} records
+ * @param {TranscriptSource["records"]} records
  * @returns {Call | undefined} undefined: the event is something else
  */
 function callOutside({ flags, method, agent, call }, records) {
@@ -53,7 +53,7 @@ function callOutside({ flags, method, agent, call }, records) {
 /**
  * The windows that a run needs: what it touches. A call outside of its view needs the whole view, since it throws by
  * the view's length. What a buffer had in it before it was shared needs a first page: all is ordered with it.
- * @param {Run} run whose blocks are the program's
+ * @param {TranscriptSource} run whose blocks are the program's
  * @returns {Windows | undefined} undefined: no script has room for all
  */
 export function windowsOf({ log, records, lengths }) {
@@ -73,7 +73,7 @@ export function windowsOf({ log, records, lengths }) {
 
 /** Says where the views, calls and events of a run are in its windows. */
 class Placing {
-  /** @param {Windows} windows @param {Run} run */
+  /** @param {Windows} windows @param {TranscriptSource} run */
   constructor(windows, { records, lengths }) {
     this.windows = windows;
     this.records = records;
@@ -123,7 +123,7 @@ class Placing {
 
 /** The calls of an agent, in windows. */
 class PlacedRecords {
-  /** @param {Run["records"][number]} records @param {Placing} placing */
+  /** @param {TranscriptSource["records"][number]} records @param {Placing} placing */
   constructor(records, placing) {
     this.records = records;
     this.placing = placing;
@@ -150,7 +150,7 @@ class PlacedRecords {
 
 /**
  * The kinds of elements by which a run touches each window.
- * @param {Run["log"]} log whose blocks are the program's
+ * @param {TranscriptSource["log"]} log whose blocks are the program's
  * @param {Windows} windows
  * @returns {Map<Window, number[]>} in rising order
  */
@@ -169,9 +169,9 @@ function kindsIn(log, windows) {
 
 /**
  * @param {Windows} windows
- * @param {Run} run whose blocks are the program's
- * @param {Name[]} names of the windows' views
- * @returns {Run}
+ * @param {TranscriptSource} run whose blocks are the program's
+ * @param {NamedView[]} names of the windows' views
+ * @returns {TranscriptSource}
  */
 function runIn(windows, run, names) {
   const { log, records } = run;
@@ -190,7 +190,7 @@ function runIn(windows, run, names) {
  * it.
  * @param {Window} window
  * @param {number} kind of the elements that are stored; what isn't a whole one is stored as bytes
- * @param {import("../memory/more-blocks.mjs").Start} start of its buffer
+ * @param {import("../memory/more-blocks.mjs").BlockStart} start of its buffer
  * @returns {Store[]} none if all is zero
  */
 function startOf({ from, to, block, byte }, kind, { bytes, agent, position }) {
@@ -235,10 +235,10 @@ function storesIn(kinds, windows, stores, { more }) {
 }
 
 /** @param {Windows} windows @param {Blocks} blocks @returns {string[]} the bytes at the end, in hexadecimal digits */
-function bytesIn(windows, { memory: { known }, lengths }) {
+function bytesIn(windows, { memory: { shadow }, lengths }) {
   const blocks = windows.lengths(lengths[MESSAGES]).map((length) => Buffer.alloc(length));
   for (const { buffer, from, to, block, byte } of windows.list) {
-    blocks[block].set(known[buffer].subarray(from, to), byte);
+    blocks[block].set(shadow[buffer].subarray(from, to), byte);
   }
   return blocks.map((bytes) => bytes.toString("hex"));
 }

@@ -7,7 +7,7 @@ const UINT8 = KINDS.indexOf("Uint8");
 
 /**
  * Takes over what the buffers were filled with.
- * @param {import("../memory/memory.mjs").Memory} memory whose known bytes are all zero
+ * @param {import("../memory/recorded-memory.mjs").RecordedMemory} memory whose known bytes are all zero
  * @param {number} agent
  * @returns {import("../memory/stores.mjs").Store[]} whole words, and else bytes; none if all is zero
  */
@@ -22,7 +22,7 @@ export function initialStores(memory, agent) {
       if (bytes.some((value) => value !== 0)) stores.push({ position: 0, agent, block, byte, kind, bytes });
       byte += SIZES[kind];
     }
-    memory.takeOver(block, 0, real.length);
+    memory.syncShadow(block, 0, real.length);
   });
   return stores;
 }

@@ -28,10 +28,10 @@ export class KnownCalls {
   #asked = new Int32Array(FINGERPRINT);
 
   /**
-   * @param {import("./transcript.mjs").Run["records"][number]} records
+   * @param {import("./transcript.mjs").TranscriptSource["records"][number]} records
    * @param {number} position
-   * @param {(records: import("./transcript.mjs").Run["records"][number], position: number) => KnownCall} make is called
-   * if the call isn't known
+   * @param {(records: import("./transcript.mjs").TranscriptSource["records"][number], position: number) => KnownCall}
+   * make is called if the call isn't known
    * @returns {KnownCall}
    */
   at(records, position, make) {

@@ -1,12 +1,12 @@
 // Which failing run is the first one, that is reported, kept and shortened.
 
-/** @typedef {{ seed: number, onlyIf?: string }} Failing */
+/** @typedef {{ seed: number, onlyIf?: string }} FailingRun */
 
 /**
  * Whether a failing run comes before another. One that fails only after the early end of a timed wait comes behind all
  * others: it needs a time to pass that hardly ever passes. Else the lower seed comes first.
- * @param {Failing} one
- * @param {Failing} other
+ * @param {FailingRun} one
+ * @param {FailingRun} other
  * @returns {boolean}
  */
 export function comesBefore(one, other) {

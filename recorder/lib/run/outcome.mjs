@@ -13,7 +13,7 @@
  * @property {number} ordinary how many ordinary reads and writes were seen
  * @property {{ returned: number, calls: number }[]} progress of each agent: calls that returned, and that began
  * @property {import("./final-state.mjs").FinalState} state of the end
- * @property {import("./findings.mjs").RaceReport[]} races the unordered accesses, each pair of lines of code once
+ * @property {import("./race-reports.mjs").RaceReport[]} races the unordered accesses, each pair of lines of code once
  * @property {string[]} [bytes] of each buffer as it was left, in hexadecimal digits; runs that fail have this and what
  * follows, and others if it is asked for
  * @property {(string | null)[][]} [answers] of each agent's calls, as a report spells them; null: a wait that goes on
@@ -27,24 +27,24 @@
  * @property {import("./standing.mjs").Standing[]} [standing] what each agent is at in a deadlock, or at a limit
  * @property {string} [report] what sabsim must report
  * @property {string} [trace] each event as an object of JSON, a line each
- * @property {import("./accesses.mjs").Accesses} [accesses] by which arrays the trace's ordinary accesses were made, and
- * what they read
+ * @property {import("./array-accesses.mjs").ArrayAccesses} [accesses] by which arrays the trace's ordinary accesses
+ * were made, and what they read
  * @property {string} [noTrace] why there is no trace, though it was wanted
  * @property {import("./source-names.mjs").SourceText[]} [sources] the code of each file that the trace names
- * @property {Task[]} [tasks] of a program that has its trace: what its event loops have begun besides messages
+ * @property {LoopTask[]} [tasks] of a program that has its trace: what its event loops have begun besides messages
  * @property {[number, string][]} [messages] of the same run: the number of each message, and what is in it, shortened
  * @property {string[]} [threads] of a program: what each thread is, its file and where it was started; empty: the first
  * @property {number[]} [row] which agent moved with each draw, in order, if that is asked for
  * @property {string} [onlyIf] of a failing run in which a timed wait has ended early: what time must pass for that
  * @property {import("./timed-ends.mjs").OnlyByTime[]} [onlyByTime] waits that have ended only because their time was up
- * @property {import("./timed-ends.mjs").Place[]} [served] places at which agents of the run wait, and which other
+ * @property {import("./timed-ends.mjs").WaitPlace[]} [served] places at which agents of the run wait, and which other
  * agents have notified or written; only runs with timed waits have it
  * @property {string[]} [real] what a program has used that the machine answers, by name and line, if anything
  * @property {string[]} [unrecorded] which shared memory and which threads agents used that aren't recorded, if any
  */
 
 /**
- * @typedef {object} Task a timer, an immediate, or what comes of a function that node does later
+ * @typedef {object} LoopTask a timer, an immediate, or what comes of a function that node does later
  * @property {number} event how many events of the trace come before it
  * @property {number} agent
  * @property {string} text what its event loop begins, in words
@@ -65,22 +65,23 @@
  * @property {boolean} [isFresh] whether the agents' workers are started anew before
  */
 
-/** @typedef {Wanting & import("../board/row.mjs").RowWanted} Wanted a run that is to be made */
+/** @typedef {Wanting & import("../board/drawn-schedule.mjs").WantedSchedule} WantedRun a run that is to be made */
 
 /**
  * @typedef {object} Aside what is reported beside an outcome to code that compares runs
  * @property {{ agent: number, block: number, byte: number }[]} waiting who waits where in a deadlock, in order of
  * arrival
- * @property {import("../board/row.mjs").Stray} [stray] how it has strayed from the row that it was to go by exactly
- * @property {Again} [again] the result of a program's run in fresh threads, if it was made once more there
+ * @property {import("../board/drawn-schedule.mjs").Divergence} [divergence] how it has diverged from the row that it
+ * was to go by exactly
+ * @property {FirstRunAgain} [again] the result of a program's run in fresh threads, if it was made once more there
  */
 
 /**
- * @typedef {object} Again
+ * @typedef {object} FirstRunAgain
  * @property {string} acts a digest of all that was done in the run itself
  * @property {Pick<Outcome, "ending" | "detail" | "state"> & { acts: string }} again the same run in fresh threads
  * @property {string} [place] where that one first did something else
- * @property {boolean} [strays] whether that one couldn't go by the row of the first
+ * @property {boolean} [diverges] whether that one couldn't go by the row of the first
  */
 
 /**
@@ -97,5 +98,8 @@
  * @typedef {Omit<Judgement, "events"> & { events?: Int32Array }} SentJudgement without the events if they are copied
  */
 
-/** @typedef {Omit<One, "judgement"> & { judgement?: SentJudgement, taken?: import("./taken.mjs").Taken }} Sent the same
- * as the referee sends it: without its script and report if these are made of copies */
+/**
+ * @typedef {Omit<One, "judgement"> & { judgement?: SentJudgement,
+ * taken?: import("./run-snapshot.mjs").RunSnapshot }} Sent the same as the referee sends it: without its script and
+ * report if these are made of copies
+ */

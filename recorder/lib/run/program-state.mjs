@@ -3,14 +3,15 @@
 
 import { PortTable } from "../board/port-table.mjs";
 import { Blocks, FEW_MESSAGES, MESSAGES, MESSAGE_PLACES, MOST_BLOCKS, MOST_BYTES } from "../memory/blocks.mjs";
-import { Keepers } from "../memory/keepers.mjs";
+import { ThreadTexts } from "../memory/thread-texts.mjs";
 import { WORD } from "../memory/layout.mjs";
 import { TaskNotes } from "../memory/task-notes.mjs";
+import { thrownIn } from "./failure.mjs";
 import { moreBytesOf } from "./final-state.mjs";
 import { inWindows, windowsOf } from "./in-windows.mjs";
 import { blockNames } from "./program-names.mjs";
 import { PAGE_BYTES, Windows } from "./windows.mjs";
-import { digits } from "./words.mjs";
+import { digits } from "./summary-words.mjs";
 
 const CUT = "a thread was terminated while it waited, which no script can have: sabsim judges only the trace of such a "
   + "run";
@@ -42,7 +43,7 @@ const LOST = "so many ordinary writes were made to its buffers, or one had so ma
  * @property {SharedArrayBuffer[]} copies
  * @property {SharedArrayBuffer} ports
  * @property {SharedArrayBuffer} tasks
- * @property {SharedArrayBuffer[]} keepers
+ * @property {SharedArrayBuffer[]} threadTexts
  * @property {SharedArrayBuffer[]} madeAt where the memory of each block was made
  */
 
@@ -50,15 +51,15 @@ export class ProgramState {
   /**
    * @param {ProgramMemory} shared
    * @param {import("../board/board.mjs").Board} board
-   * @param {import("../memory/memory.mjs").Memory} memory
+   * @param {import("../memory/recorded-memory.mjs").RecordedMemory} memory
    * @param {import("../options/plan.mjs").Plan} plan which is kept as the runs have it
    */
   constructor(shared, board, memory, plan) {
     this.board = board;
     this.plan = plan;
     this.blocks = new Blocks(shared.blocks, shared.copies, memory, plan.buffers);
-    this.keepers = shared.keepers.map((each) => new Keepers(each));
-    this.madeAt = shared.madeAt.map((each) => new Keepers(each));
+    this.threadTexts = shared.threadTexts.map((each) => new ThreadTexts(each));
+    this.madeAt = shared.madeAt.map((each) => new ThreadTexts(each));
     this.ports = new PortTable(shared.ports);
     this.tasks = new TaskNotes(shared.tasks);
     /** What pilots know of its memory. */
@@ -68,7 +69,7 @@ export class ProgramState {
   /** A run begins. */
   begin() {
     this.blocks.begin();
-    for (const texts of [...this.keepers, ...this.madeAt]) texts.clear();
+    for (const texts of [...this.threadTexts, ...this.madeAt]) texts.clear();
     this.ports.begin();
     this.tasks.begin();
     this.places.begin();
@@ -90,21 +91,17 @@ export class ProgramState {
     return this.threads;
   }
 
-  /** @returns {boolean} whether the run has memory that neither a script nor a trace can have as it is */
-  get goesBeyond() {
-    return this.blocks.goBeyond;
-  }
-
   /**
-   * A run as its script and its trace have it, if its memory is more than these can have.
+   * A run as its script and its trace have it: in windows, if its memory is more than these can have.
    * @param {Written} made whose blocks are the program's
-   * @param {string[]} called the names of these
+   * @param {(text: string) => string} withNames names the places in a text
    * @param {import("./windows.mjs").Window[]} [list] windows that are known already
    * @returns {Written | undefined} undefined: there is no room for all that it touches
    */
-  inWindows(made, called, list) {
+  inWindows(made, withNames, list) {
+    if (!this.blocks.goBeyond) return made;
     const windows = list === undefined ? windowsOf(made.run) : new Windows(list);
-    return windows && inWindows(windows, made, this.blocks, called);
+    return windows && inWindows(windows, made, this.blocks, this.names(withNames).blocks);
   }
 
   /** @returns {string | undefined} why unordered accesses of the run may be missed, if so */
@@ -141,34 +138,28 @@ export class ProgramState {
   }
 
   /**
-   * What keeps those threads alive that have nothing to do.
+   * Which threads have ended by an error or an exit code, and what keeps those alive that have nothing to do.
    * @param {string} ending of the run
+   * @param {import("./source-names.mjs").SourceNames} sourceNames
    * @returns {string[]} a line each
    */
-  idle(ending) {
+  standstill(ending, sourceNames) {
     if (ending !== "stuck" && ending !== "deadlock") return [];
-    const idle = this.threads.filter((agent) => this.board.line.isIdle(agent));
-    return idle.map((agent) => `agent ${agent} has nothing to do, and is kept alive by ${this.keepers[agent].read()}`);
+    const { board, threadTexts, threads } = this;
+    const ended = threads.filter((agent) => threadTexts[agent].end() !== "").map((agent) => {
+      const { message, sources } = thrownIn(threadTexts[agent].end(), sourceNames);
+      const where = sources.length === 0 ? "" : `, at ${sources[0]}`;
+      return `agent ${agent} ended: ${sourceNames.withNames(message[0])}${where}`;
+    });
+    const idle = threads.filter((agent) => board.line.isIdle(agent)).map((agent) => sourceNames.withNames(
+      `agent ${agent} has nothing to do, and is kept alive by ${threadTexts[agent].read()}`));
+    return [...ended, ...idle];
   }
 
-  /**
-   * How those threads have ended that did so by an error or an exit code.
-   * @param {string} ending of the run
-   * @returns {{ agent: number, text: string }[]}
-   */
-  ends(ending) {
-    if (ending !== "stuck" && ending !== "deadlock") return [];
-    const ends = this.threads.map((agent) => ({ agent, text: this.keepers[agent].end() }));
-    return ends.filter(({ text }) => text !== "");
-  }
-
-  /**
-   * @param {string} detail
-   * @returns {string} where the top-level await is of which it says that it never settles, if it is known
-   */
-  awaitText(detail) {
-    const place = this.keepers[0].awaited();
-    return place !== "" && /has a top-level await that never settles$/.test(detail) ? `, at ${place}` : "";
+  /** @param {string} detail @returns {string} with the place of an await that never settles, if it is about that */
+  placed(detail) {
+    const place = this.threadTexts[0].awaited();
+    return place !== "" && /has a top-level await that never settles$/.test(detail) ? `${detail}, at ${place}` : detail;
   }
 
   /**
@@ -180,6 +171,6 @@ export class ProgramState {
     const own = this.madeAt.slice(0, count).map((each) => withNames(each.name()));
     const places = more.count === 0 ? own : [...own, ...Array.from({ length: MESSAGES + 1 - count }, () => "")];
     const blocks = blockNames([...places, ...more.numbers().map((block) => withNames(more.place(block)))]);
-    return { threads: this.threads.map((agent) => withNames(this.keepers[agent].name())), blocks };
+    return { threads: this.threads.map((agent) => withNames(this.threadTexts[agent].name())), blocks };
   }
 }

@@ -16,7 +16,7 @@ import { PLACES } from "../memory/known-places.mjs";
 import { FLAG } from "../memory/log.mjs";
 import { FIRST_MORE } from "../memory/more-blocks.mjs";
 import { ByteRanges } from "./byte-ranges.mjs";
-import { Numbers } from "./numbers.mjs";
+import { NumberBuffer } from "./number-buffer.mjs";
 import { Lines, Pairs } from "./race-lines.mjs";
 
 /** @typedef {import("../memory/log.mjs").Log} Log */
@@ -73,8 +73,8 @@ class Judge {
     /** For each byte, the clock that its last writer left if the write was atomic, and its size; else -1. */
     this.written = new Int32Array(PLACES);
     this.sizes = new Uint8Array(PLACES);
-    this.accesses = new Numbers();
-    this.left = new Numbers();
+    this.accesses = new NumberBuffer();
+    this.left = new NumberBuffer();
     this.run = 0;
     this.agents = 0;
     /** @type {ByteRanges | undefined} what stands for bytes, if there are blocks that no script can have */

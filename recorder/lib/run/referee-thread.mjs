@@ -5,7 +5,7 @@ import { begunThread, keepThread, keptThread } from "../processes/thread.mjs";
 import { within } from "../processes/within.mjs";
 
 /** @typedef {import("../processes/thread.mjs").Thread} Thread */
-/** @typedef {{ seeds: import("./outcome.mjs").Wanted[] } | { learns: true }} Work */
+/** @typedef {{ seeds: import("./outcome.mjs").WantedRun[] } | { learns: true }} Work */
 
 const REFEREE_MODULE = new URL("./referee.mjs", import.meta.url);
 
@@ -49,7 +49,7 @@ export class RefereeThread {
     this.thread.post(work);
   }
 
-  /** @returns {Promise<import("../processes/thread.mjs").Item>} the next message of its work */
+  /** @returns {Promise<import("../processes/thread.mjs").QueuedMessage>} the next message of its work */
   async next() {
     const item = await this.thread.next();
     const { outcome, finished } = item.message ?? {};

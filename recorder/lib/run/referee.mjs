@@ -15,13 +15,13 @@ import { LINES, RunMaker } from "./run-maker.mjs";
 import { RunReporter } from "./run-reporter.mjs";
 import { areSame } from "./same.mjs";
 import { SourceNames } from "./source-names.mjs";
-import { OTHER_INPUT } from "./words.mjs";
+import { OTHER_INPUT } from "./summary-words.mjs";
 
 /** @typedef {import("./outcome.mjs").One} One */
 /** @typedef {import("./outcome.mjs").Outcome} Outcome */
 /** @typedef {import("./outcome.mjs").Sent} Sent */
-/** @typedef {import("./outcome.mjs").Wanted} Wanted */
-/** @typedef {import("./run-maker.mjs").Made} Made */
+/** @typedef {import("./outcome.mjs").WantedRun} WantedRun */
+/** @typedef {import("./run-maker.mjs").RunResult} RunResult */
 
 const ANOTHER_WAY = "the run went another way when it was made once more to learn its lines of code";
 const BY_AGENTS = "its agents do something else then, as if a module keeps something in its own variables";
@@ -34,7 +34,7 @@ function goneText(gone) {
 
 class Referee {
   /**
-   * @param {import("./run-maker.mjs").Given} given
+   * @param {import("./run-maker.mjs").RefereeWorkerData} given
    * @param {() => void} rest awaits another group, when this one ends
    * @param {typeof import("./program-state.mjs").ProgramState} [ProgramState] for the runs of a program
    */
@@ -57,7 +57,7 @@ class Referee {
     this.sinceFresh = 0;
   }
 
-  /** @param {{ seeds?: Wanted[], learns?: boolean }} work */
+  /** @param {{ seeds?: WantedRun[], learns?: boolean }} work */
   async record({ seeds = [], learns = false }) {
     const { port } = this;
     if (learns) await this.#learn();
@@ -112,7 +112,7 @@ class Referee {
     if (!isProgram) await maker.replace(maker.agents);
   }
 
-  /** @param {Wanted} wanted @returns {Promise<Sent>} the outcome of a seed */
+  /** @param {WantedRun} wanted @returns {Promise<Sent>} the outcome of a seed */
   async #one(wanted) {
     const { maker, maker: { log }, reporter } = this;
     let lines = this.linesNext;
@@ -183,8 +183,8 @@ class Referee {
   /**
    * Whether a program's run may have gone as it did because of what earlier runs have left in the globals of its
    * threads.
-   * @param {Wanted} wanted
-   * @param {Made} found
+   * @param {WantedRun} wanted
+   * @param {RunResult} found
    */
   #mayRemember({ row }, { endless }) {
     const { isProgram, fresh } = this.options;
@@ -194,10 +194,10 @@ class Referee {
 
   /**
    * Makes a run once more in fresh threads. It notes its lines of code.
-   * @param {Wanted} wanted
+   * @param {WantedRun} wanted
    * @param {Outcome} outcome
-   * @param {Made} found
-   * @returns {Promise<import("./outcome.mjs").Again>}
+   * @param {RunResult} found
+   * @returns {Promise<import("./outcome.mjs").FirstRunAgain>}
    */
   async #inFreshThreads(wanted, outcome, found) {
     const { maker, reporter } = this;
@@ -212,10 +212,10 @@ class Referee {
     const place = reporter.placeOf(firstDifferent(before, maker.log));
     await this.#replace(made);
     const isOther = outcome.real !== undefined && !areSame(outcome, other);
-    return { acts, again, place, strays: made.stray !== undefined || isOther };
+    return { acts, again, place, diverges: made.divergence !== undefined || isOther };
   }
 
-  /** @param {Wanted} wanted @returns {Promise<One>} a run that is made only to see how it ends */
+  /** @param {WantedRun} wanted @returns {Promise<One>} a run that is made only to see how it ends */
   async #tried(wanted) {
     const { maker, reporter } = this;
     const { wantsLines = false } = wanted;
@@ -230,9 +230,9 @@ class Referee {
 
   /**
    * Adds lines of code to an outcome. If its accesses haven't noted them, the run is made once more.
-   * @param {Wanted} wanted
+   * @param {WantedRun} wanted
    * @param {Outcome} outcome
-   * @param {Made} found
+   * @param {RunResult} found
    * @param {{ lines: number, isFirst: boolean }} known which of the log's accesses have noted their lines; whether it
    * may be the first failing run
    */
@@ -262,19 +262,19 @@ class Referee {
     const again = await maker.made({ ...againAs(wanted, outcome), isSilent }, how);
     this.mayLackLines ||= found.racy && this.#lacksLines();
     const brief = reporter.brief(wanted, await maker.judgedAgain(again, found));
-    const same = areSame(brief, outcome) && again.stray === undefined;
+    const same = areSame(brief, outcome) && again.divergence === undefined;
     learnDetail(outcome, brief);
     await this.#replace(again);
     if (same) reporter.addSources(outcome, wantsTrace);
     else if (wantsTrace) outcome.noTrace = `${ANOTHER_WAY}: ${outcome.real === undefined ? BY_AGENTS : OTHER_INPUT}`;
   }
 
-  /** @param {Made} run after which workers that can't run again are started anew, or all if the option says so */
+  /** @param {RunResult} run after which workers that can't run again are started anew, or all if the option says so */
   async #replace({ gone }) {
     await this.maker.replace(this.options.fresh ? this.maker.all : gone);
   }
 
-  /** @param {Wanted} wanted @param {boolean} isFirst as above @returns {boolean} whether a run's trace is made */
+  /** @param {WantedRun} wanted @param {boolean} isFirst as above @returns {boolean} whether a run's trace is made */
   #isTraceWanted({ isTrial = false, needsTrace = false }, isFirst) {
     return !isTrial && (this.options.trace || needsTrace || isFirst);
   }
@@ -282,14 +282,14 @@ class Referee {
 
 /**
  * How a run is made once more: by its seed, or by its row if the machine's answers are a part of it.
- * @param {Wanted} wanted
+ * @param {WantedRun} wanted
  * @param {Outcome} outcome
- * @returns {Wanted}
+ * @returns {WantedRun}
  */
 const againAs = (wanted, { real, row }) =>
   (real === undefined || row === undefined ? wanted : { ...wanted, row, isExact: true });
 
-/** @param {Outcome} outcome in whose text a program's threads and blocks get their names @param {Made} found */
+/** @param {Outcome} outcome in whose text a program's threads and blocks get their names @param {RunResult} found */
 function nameIn(outcome, { names }) {
   if (names === undefined) return;
   outcome.detail = namedText(outcome.detail, names);
@@ -305,13 +305,13 @@ function learnDetail(outcome, again) {
   if (outcome.ending === "failed" && again?.detail.startsWith(outcome.detail)) outcome.detail = again.detail;
 }
 
-/** @param {Made} found @returns {import("./outcome.mjs").Aside} */
-const asideOf = ({ waiting, stray }) => ({ waiting, stray });
+/** @param {RunResult} found @returns {import("./outcome.mjs").Aside} */
+const asideOf = ({ waiting, divergence }) => ({ waiting, divergence });
 
 /** Waits for what it needs to make runs, and then for its work: one group after the other. */
 export function main() {
   const { port } = workerData;
-  port.once("message", async (/** @type {Omit<import("./run-maker.mjs").Given, "port">} */ given) => {
+  port.once("message", async (/** @type {Omit<import("./run-maker.mjs").RefereeWorkerData, "port">} */ given) => {
     const State = given.options.isProgram ? (await import("./program-state.mjs")).ProgramState : undefined;
     new Referee({ port, ...given }, main, State).awaitWork();
   });

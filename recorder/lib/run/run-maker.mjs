@@ -2,22 +2,21 @@
 // end, looks for unordered accesses, and calls for `check`.
 
 import { Board } from "../board/board.mjs";
-import { strayText } from "../board/row.mjs";
+import { divergenceText } from "../board/drawn-schedule.mjs";
 import { NOBODY, ORDER, WORD } from "../memory/layout.mjs";
 import { Log } from "../memory/log.mjs";
-import { Memory } from "../memory/memory.mjs";
+import { RecordedMemory } from "../memory/recorded-memory.mjs";
 import { Notes } from "../memory/notes.mjs";
 import { Stores } from "../memory/stores.mjs";
-import { thrownIn } from "./failure.mjs";
 import { initialStores } from "./initial.mjs";
 import { PILOT_SECONDS } from "./pilots.mjs";
 import { isRacy } from "./races.mjs";
-import { unseenText } from "./unseen.mjs";
+import { unseenText } from "./unseen-text.mjs";
 
-/** @typedef {import("./outcome.mjs").Wanted} Wanted */
+/** @typedef {import("./outcome.mjs").WantedRun} WantedRun */
 
 /**
- * @typedef {object} Made how a run ended
+ * @typedef {object} RunResult how a run ended
  * @property {import("./outcome.mjs").Ending} ending
  * @property {string} detail
  * @property {string[]} bytes of each block, in hexadecimal digits
@@ -29,10 +28,11 @@ import { unseenText } from "./unseen.mjs";
  * that ended by a deadlock or at a limit
  * @property {number[]} asking agents that asked for a call when a run met a limit
  * @property {import("../board/end.mjs").Met} [met] who met it
- * @property {import("./unseen.mjs").AgentsNote[]} unseen what agents did that nobody saw
+ * @property {import("./unseen-text.mjs").AgentsNote[]} unseen what agents did that nobody saw
  * @property {boolean} [isUnseen] whether it fails for that
- * @property {import("./unseen.mjs").AgentsNote[]} [real] what agents of a program used that the machine answers
- * @property {import("../board/row.mjs").Stray} [stray] how it has strayed from the row that it was to go by
+ * @property {import("./unseen-text.mjs").AgentsNote[]} [real] what agents of a program used that the machine answers
+ * @property {import("../board/drawn-schedule.mjs").Divergence} [divergence] how it has diverged from the row that it
+ * was to go by
  * @property {import("./program-names.mjs").ProgramNames} [names] of a program's threads and blocks
  * @property {import("./final-state.mjs").MoreBytes} [more] of a program, in blocks that no script can have
  */
@@ -55,7 +55,7 @@ import { unseenText } from "./unseen.mjs";
  */
 
 /**
- * @typedef {object} Given what the referee's thread is started with
+ * @typedef {object} RefereeWorkerData what the referee's thread is started with
  * @property {import("node:worker_threads").MessagePort} port
  * @property {ReturnType<typeof import("../board/group-memory.mjs").memoryOf>} memory
  * @property {import("../options/plan.mjs").Plan} plan
@@ -83,7 +83,7 @@ export const LINES = Object.freeze({ NONE: -1, OF_RACES: 0, OF_FIRST: 4_096, ALL
 
 export class RunMaker {
   /**
-   * @param {Given} given
+   * @param {RefereeWorkerData} given
    * @param {import("./source-names.mjs").SourceNames} sourceNames
    * @param {typeof import("./program-state.mjs").ProgramState} [ProgramState] for the runs of a program
    */
@@ -93,7 +93,7 @@ export class RunMaker {
     this.options = options;
     this.sourceNames = sourceNames;
     this.board = new Board(memory.board, rules);
-    this.memory = new Memory(memory.buffers, memory.copies);
+    this.memory = new RecordedMemory(memory.buffers, memory.copies);
     this.log = new Log(memory.log, this.board.words, WORD.EVENTS);
     this.stores = new Stores(memory.stores, this.board.words, this.memory);
     this.notes = memory.notes.map((each) => new Notes(each));
@@ -103,9 +103,9 @@ export class RunMaker {
 
   /**
    * One run, by a seed, or by a row.
-   * @param {Wanted} wanted
+   * @param {WantedRun} wanted
    * @param {number} lines one of `LINES`: which accesses note their lines of code
-   * @returns {Promise<Made>}
+   * @returns {Promise<RunResult>}
    */
   async made(wanted, lines) {
     const { board, memory, plan, options, sourceNames } = this;
@@ -123,20 +123,20 @@ export class RunMaker {
     board.begin(wanted.seed);
     const result = await this.#ended();
     if (this.program !== undefined) this.agents = this.program.learn();
-    const stray = board.row.strayed();
+    const divergence = board.row.diverged();
     const bytes = memory.hex();
     const isAtLimit = result.ending === "limit";
     const waiting = isAtLimit || result.ending === "deadlock" ? board.line.waiting() : [];
     const asking = isAtLimit ? this.agents.filter((agent) => board.line.asks(agent)) : [];
     const met = isAtLimit ? board.end.met() : undefined;
-    const gone = this.#sentHome();
+    const gone = this.#cancelled();
     const endless = gone.filter((agent) => !board.turn.isParked(agent));
     const racy = options.ordinary === "watch" && isRacy(this.log, plan.agents, plan.buffers.length);
-    const isWhole = this.program !== undefined;
-    const isPlaced = isAtLimit || isWhole;
-    const named = isPlaced ? sourceNames.withNames(this.#placed(result.detail)) : this.#named(result.detail);
-    const told = [named, ...this.#standstillLines(result.ending)].filter((line) => line !== "");
-    const detail = stray === undefined ? told.join("\n") : strayText(stray, named);
+    const placed = this.program?.placed(result.detail) ?? (isAtLimit ? result.detail : undefined);
+    const named = placed === undefined ? this.#named(result.detail) : sourceNames.withNames(placed);
+    const still = this.program?.standstill(result.ending, sourceNames) ?? [];
+    const told = [named, ...still].filter((line) => line !== "");
+    const detail = divergence === undefined ? told.join("\n") : divergenceText(divergence, named);
     const notes = this.agents.flatMap((agent) => this.notes[agent].read().map((note) => ({ ...note, agent })));
     const unseen = notes.filter(({ kind }) => kind !== "real");
     const real = notes.filter(({ kind }) => kind === "real");
@@ -144,17 +144,19 @@ export class RunMaker {
     const more = this.program?.moreBytes();
     const { ending } = result;
     const ended = { ending, detail, bytes, gone, endless, racy, initial, waiting, asking, met };
-    return { ...ended, unseen, real, stray, names, more };
+    return { ...ended, unseen, real, divergence, names, more };
   }
 
-  /** @param {Made} found @returns {Promise<Made>} how a run ends, with what is known when its agents are home */
+  /**
+   * @param {RunResult} found
+   * @returns {Promise<RunResult>} how a run ends, with what is known when its agents are idle
+   */
   async judged(found) {
     const { check, races, unrecorded } = this.options;
     const unseen = unseenText(found.unseen, unrecorded, this.sourceNames.placeName);
-    if (unseen !== "" && found.stray === undefined) return failedFor(unseen, found);
+    if (unseen !== "" && found.divergence === undefined) return failedFor(unseen, found);
     if (found.ending !== "finished") return found;
-    const triedNothing = this.program === undefined && this.#triedNothing();
-    if (triedNothing) return { ...found, ending: "failed", detail: NOTHING_TRIED };
+    if (this.#triedNothing()) return { ...found, ending: "failed", detail: NOTHING_TRIED };
     const problem = check === undefined ? "" : await this.#asked("check");
     if (problem !== "") return { ...found, ending: "check", detail: `check ${problem}` };
     return found.racy && races === "fail" ? { ...found, ending: "race" } : found;
@@ -163,9 +165,9 @@ export class RunMaker {
   /**
    * How a run ends that was made once more. A check that didn't end before isn't called again, since it would take as
    * long again.
-   * @param {Made} again
-   * @param {Made} found the run as it was made before
-   * @returns {Promise<Made>}
+   * @param {RunResult} again
+   * @param {RunResult} found the run as it was made before
+   * @returns {Promise<RunResult>}
    */
   async judgedAgain(again, { ending, detail }) {
     const isEndless = ending === "check" && detail.startsWith(`check ${ENDLESS}`);
@@ -191,7 +193,7 @@ export class RunMaker {
     const seconds = this.program === undefined ? Math.min(options.seconds, PILOT_SECONDS) : options.seconds;
     const isSilent = board.turn.awaitEnd(seconds);
     if (this.program !== undefined) this.agents = this.program.learn();
-    await this.replace(this.#sentHome());
+    await this.replace(this.#cancelled());
     // If ordinary reads aren't seen, nobody knows what an agent does between its calls.
     const isHidden = options.ordinary !== "watch" && board.words[WORD.STORES] > 0;
     return !isSilent && !isHidden;
@@ -205,9 +207,10 @@ export class RunMaker {
     if (gone.length > 0) await this.#answered({ replace: gone });
   }
 
-  /** Whether agents made no call and no access, as far as it is seen, on recorded memory. */
+  /** Whether a module's agents made no call and no access, as far as it is seen, on recorded memory. */
   #triedNothing() {
-    return this.callCount() === 0 && this.accessCount() === 0 && this.board.words[WORD.STORES] === 0;
+    const made = this.callCount() + this.accessCount() + this.board.words[WORD.STORES];
+    return this.program === undefined && made === 0;
   }
 
   /** @param {string[]} bytes of each block @returns {string[]} of those that the code that is run has made */
@@ -232,7 +235,7 @@ export class RunMaker {
 
   /**
    * Leaves nothing of an earlier run.
-   * @param {Wanted} wanted
+   * @param {WantedRun} wanted
    */
   #clear(wanted) {
     if (this.program === undefined) this.memory.reset();
@@ -259,25 +262,6 @@ export class RunMaker {
     return ending === "finished" ? this.#named(detail) : `${ENDLESS}: ${this.sourceNames.withNames(detail)}`;
   }
 
-  /** @param {string} detail @returns {string} with where the await is that it is about, if that was noted */
-  #placed(detail) {
-    return `${detail}${this.program?.awaitText(detail) ?? ""}`;
-  }
-
-  /**
-   * @param {string} ending
-   * @returns {string[]} which threads of a program have ended by an error, and which have nothing to do
-   */
-  #standstillLines(ending) {
-    const { program, sourceNames } = this;
-    const ends = (program?.ends(ending) ?? []).map(({ agent, text }) => {
-      const { message, sources } = thrownIn(text, sourceNames);
-      const where = sources.length === 0 ? "" : `, at ${sources[0]}`;
-      return `agent ${agent} ended: ${sourceNames.withNames(message[0])}${where}`;
-    });
-    return [...ends, ...(program?.idle(ending) ?? []).map((line) => sourceNames.withNames(line))];
-  }
-
   /** @param {string} detail of code that failed @returns {string} in which places that the recorder found are named */
   #named(detail) {
     return NOT_SYNCHRONOUS.test(detail) ? this.sourceNames.withNames(detail) : detail;
@@ -296,9 +280,9 @@ export class RunMaker {
     return place === undefined ? result : { ...result, detail: `${result.detail}: it is at ${place}` };
   }
 
-  /** Sends the agents home. @returns {number[]} those that can't run again */
-  #sentHome() {
-    this.board.dismiss();
+  /** Cancels the agents. @returns {number[]} those that can't run again */
+  #cancelled() {
+    this.board.cancelAll();
     return this.agents.filter((agent) => !this.board.turn.isBack(agent, GRACE_MILLISECONDS));
   }
 
@@ -314,8 +298,8 @@ export class RunMaker {
 /**
  * How a run ends in which agents did what nobody saw. What an agent threw comes after that; another ending isn't known.
  * @param {string} unseen
- * @param {Made} found
- * @returns {Made}
+ * @param {RunResult} found
+ * @returns {RunResult}
  */
 function failedFor(unseen, found) {
   const own = found.ending === "failed" && found.detail !== "" ? `\n${found.detail}` : "";

@@ -7,24 +7,24 @@ import { Records } from "../memory/records.mjs";
 import { Sources } from "../memory/sources.mjs";
 import { Names } from "../options/names.mjs";
 import { preloads } from "../processes/preloads.mjs";
-import { accessesIn } from "./accesses.mjs";
+import { accessesIn } from "./array-accesses.mjs";
 import { standstillOf, thrownIn } from "./failure.mjs";
-import { raceReports } from "./findings.mjs";
+import { raceReports } from "./race-reports.mjs";
 import { FinalStates } from "./final-state.mjs";
-import { fitted } from "./fitting.mjs";
+import { scriptWithinLimits } from "./script-within-limits.mjs";
 import { addAnswers, addTexts } from "./script-texts.mjs";
 import { askingLines, standingsOf, waitText, waitsOf } from "./standing.mjs";
 import { earlyText, onlyByTimeOf, servedOf } from "./timed-ends.mjs";
 import { UNSEEN_LINE, placesIn, traceText, unseenLine } from "./trace.mjs";
 import { transcriptOf } from "./transcript.mjs";
-import { NO_SCRIPT, realIn, unrecordedIn } from "./unseen.mjs";
+import { NO_SCRIPT, realIn, unrecordedIn } from "./unseen-text.mjs";
 
 /** @typedef {import("./outcome.mjs").Outcome} Outcome */
-/** @typedef {import("./run-maker.mjs").Made} Made */
+/** @typedef {import("./run-maker.mjs").RunResult} RunResult */
 /** @typedef {import("./in-windows.mjs").Written} Written */
 
 export class RunReporter {
-  /** @param {import("./run-maker.mjs").Given} given @param {import("./run-maker.mjs").RunMaker} maker */
+  /** @param {import("./run-maker.mjs").RefereeWorkerData} given @param {import("./run-maker.mjs").RunMaker} maker */
   constructor({ memory, plan, options }, maker) {
     this.maker = maker;
     this.options = options;
@@ -36,7 +36,7 @@ export class RunReporter {
     };
     this.copies = new CopiedRuns(memory.runs);
     this.states = new FinalStates(plan.names);
-    /** @type {{ found: Made, written: Written | undefined } | undefined} what was asked for last */
+    /** @type {{ found: RunResult, written: Written | undefined } | undefined} what was asked for last */
     this.last = undefined;
     /**
      * Whether each ordinary access is seen: code that was loaded before the recorder may make some that aren't watched.
@@ -44,7 +44,11 @@ export class RunReporter {
     this.seesAll = options.ordinary === "watch" && !preloads();
   }
 
-  /** @param {import("./outcome.mjs").Wanted} wanted @param {Made} found @returns {Outcome} what each outcome has */
+  /**
+   * @param {import("./outcome.mjs").WantedRun} wanted
+   * @param {RunResult} found
+   * @returns {Outcome} what each outcome has
+   */
   brief({ seed }, found) {
     const { maker, options } = this;
     const { ending, detail } = found;
@@ -92,7 +96,7 @@ export class RunReporter {
   /**
    * Adds the script and its report, for a run that fails or is to be checked.
    * @param {Outcome} outcome
-   * @param {Made} found
+   * @param {RunResult} found
    */
   addScript(outcome, found) {
     if (found.isUnseen) {
@@ -108,13 +112,16 @@ export class RunReporter {
       outcome.noScript = why;
       return;
     }
-    const fit = fitted(written.run, written.stores, found.initial, written.bytes);
+    const fit = scriptWithinLimits(written.run, written.stores, found.initial, written.bytes);
     this.#addFailure(outcome, found, written.windows === undefined ? fit.transcript : transcriptOf(run, []));
     if (outcome.fails || !options.isBrief) addAnswers(outcome, fit, written.bytes, agents.length);
     addTexts(outcome, fit);
   }
 
-  /** @param {Made} found @returns {Written | undefined} the run as its script and its trace have it, if they can */
+  /**
+   * @param {RunResult} found
+   * @returns {Written | undefined} the run as its script and its trace have it, if they can
+   */
   #writtenOf(found) {
     if (this.last?.found !== found) this.last = { found, written: this.#written(found.bytes) };
     return this.last.written;
@@ -128,16 +135,15 @@ export class RunReporter {
   #written(bytes, windows) {
     const { maker: { program, stores }, run, sourceNames } = this;
     const made = { run: { ...run, isOrdinary: this.#isOrdinary() }, stores, bytes };
-    if (program === undefined || !program.goesBeyond) return made;
-    return program.inWindows(made, program.names((text) => sourceNames.withNames(text)).blocks, windows);
+    return program === undefined ? made : program.inWindows(made, (text) => sourceNames.withNames(text), windows);
   }
 
   /**
    * Copies of what was written down of a run, if another thread can make its script and report of them. It can if the
    * run has passed by itself: then nothing else in its outcome is made from its calls.
    * @param {Outcome} outcome
-   * @param {Made} found
-   * @returns {import("./taken.mjs").Taken | undefined}
+   * @param {RunResult} found
+   * @returns {import("./run-snapshot.mjs").RunSnapshot | undefined}
    */
   taken({ ending, fails }, { initial, bytes }) {
     const { maker, maker: { stores }, run: { log, records } } = this;
@@ -150,7 +156,7 @@ export class RunReporter {
   /**
    * A digest of all that was done, for a comparison with another run.
    * @param {Outcome} outcome
-   * @param {Made} found
+   * @param {RunResult} found
    * @returns {string}
    */
   acts(outcome, found) {
@@ -214,7 +220,7 @@ export class RunReporter {
     return this.seesAll && log.hasRoom() ? "" : UNSEEN_LINE;
   }
 
-  /** @returns {import("./outcome.mjs").Task[]} those that a program's event loops have begun */
+  /** @returns {import("./outcome.mjs").LoopTask[]} those that a program's event loops have begun */
   #tasks() {
     const tasks = this.maker.program?.tasks.list() ?? [];
     const sourceOf = (/** @type {string} */ place) => (place === "" ? null : this.sourceNames.nameOf(place));
@@ -224,8 +230,8 @@ export class RunReporter {
   /**
    * Whether unordered accesses were found, if the outcome has the script, so that both can be checked.
    * @param {Outcome} outcome
-   * @param {Made} found
-   * @param {import("./taken.mjs").Taken} [taken] of which the outcome gets its script
+   * @param {RunResult} found
+   * @param {import("./run-snapshot.mjs").RunSnapshot} [taken] of which the outcome gets its script
    * @returns {import("./outcome.mjs").SentJudgement | undefined}
    */
   judgement({ script }, found, taken) {
@@ -246,7 +252,7 @@ export class RunReporter {
   /**
    * Adds what made a run fail. To the detail of a deadlock or a limit it adds where agents wait, or ask for a call.
    * @param {Outcome} outcome
-   * @param {Made} found
+   * @param {RunResult} found
    * @param {import("../../script/text.mjs").Transcript} transcript
    */
   #addFailure(outcome, { waiting, asking, met }, transcript) {

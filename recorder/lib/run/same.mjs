@@ -1,10 +1,10 @@
 // Whether two runs did the same.
 
-import { isLook, moverOf } from "../board/row.mjs";
+import { isRealAnswer, moverOf } from "../board/drawn-schedule.mjs";
 
 /** @typedef {import("./outcome.mjs").Outcome} Outcome */
-/** @typedef {Pick<Outcome, "seed" | "ending" | "detail" | "moves" | "calls" | "state" | "noScript">} Summary */
-/** @typedef {Summary & Pick<Outcome, "real" | "row">} RunSummary with its row if it got real answers */
+/** @typedef {Pick<Outcome, "seed" | "ending" | "detail" | "moves" | "calls" | "state" | "noScript">} BriefOutcome */
+/** @typedef {BriefOutcome & Pick<Outcome, "real" | "row">} RunSummary with its row if it got real answers */
 
 /**
  * Whether two runs of a seed did the same, as far as every run reports. If they got real answers, their rows are
@@ -33,8 +33,8 @@ function movesOf(row) {
   const moves = [];
   for (let at = row.length - 1; at >= 0; at -= 1) {
     const [drawn, agent] = [row[at], moverOf(row[at])];
-    if (!isLook(drawn) || moving.delete(agent)) moves.push({ drawn, at });
-    if (!isLook(drawn)) moving.add(agent);
+    if (!isRealAnswer(drawn) || moving.delete(agent)) moves.push({ drawn, at });
+    if (!isRealAnswer(drawn)) moving.add(agent);
   }
   return moves.reverse();
 }

@@ -3,12 +3,12 @@
 import { reportText } from "../../script/report.mjs";
 
 /** @typedef {import("./outcome.mjs").Outcome} Outcome */
-/** @typedef {import("./fitting.mjs").Fitted} Fitted */
+/** @typedef {import("./script-within-limits.mjs").ScriptWithinLimits} ScriptWithinLimits */
 
 /**
  * Adds the bytes at the end and the answers to an outcome.
  * @param {Outcome} outcome
- * @param {Fitted} fitted
+ * @param {ScriptWithinLimits} fitted
  * @param {string[]} bytes of each block at the end, in hexadecimal digits
  * @param {number} agents how many make calls of their own
  */
@@ -21,7 +21,7 @@ export function addAnswers(outcome, { transcript }, bytes, agents) {
 /**
  * Adds the script and its report to an outcome, or why there is none.
  * @param {Outcome} outcome
- * @param {Fitted} fitted
+ * @param {ScriptWithinLimits} fitted
  */
 export function addTexts(outcome, { transcript, script, holds, bytes = [], noScript }) {
   if (script === undefined) {

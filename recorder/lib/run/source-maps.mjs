@@ -5,7 +5,7 @@ import { readFileSync } from "node:fs";
 import { SourceMap } from "node:module";
 
 /**
- * @typedef {object} Place in a file
+ * @typedef {object} SourcePlace in a file
  * @property {string} file its URL
  * @property {number} line from 1
  * @property {number} column from 1
@@ -69,8 +69,8 @@ export class SourceMaps {
 
   /**
    * The place in the code that people wrote.
-   * @param {Place} place
-   * @returns {Place} the place itself, if no map says otherwise
+   * @param {SourcePlace} place
+   * @returns {SourcePlace} the place itself, if no map says otherwise
    */
   original(place) {
     const mapped = this.#mappedOf(place.file);

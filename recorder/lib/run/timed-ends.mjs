@@ -5,7 +5,7 @@ import { CALL_NUMBERS } from "../../script/kinds.mjs";
 import { FLAG } from "../memory/log.mjs";
 
 /** @typedef {import("../memory/log.mjs").Log} Log */
-/** @typedef {{ block: number, byte: number }} Place at which agents wait: a byte, at which an element begins */
+/** @typedef {{ block: number, byte: number }} WaitPlace at which agents wait: a byte, at which an element begins */
 
 /**
  * @typedef {object} OnlyByTime a wait that ended only because its time was up: nothing else could move, and its word
@@ -36,8 +36,8 @@ export function earlyText({ milliseconds, other, before, more }) {
   return `only if ${duration} ${pass} before ${next}${further}`;
 }
 
-/** @param {Place} place @returns {string} a key for it */
-export const placeKey = ({ block, byte }) => `${block} ${byte}`;
+/** @param {WaitPlace} place @returns {string} a key for it */
+export const waitPlaceKey = ({ block, byte }) => `${block} ${byte}`;
 
 /**
  * The waits of a run that ended only because their time was up, those of one line once.
@@ -53,7 +53,7 @@ export function onlyByTimeOf(log, records, lineOf) {
     if ((log.flagsAt(position) & FLAG.ONLY_BY_TIME) === 0) continue;
     const { agent, call, source, block, from: byte } = log.at(position);
     const milliseconds = records[agent].callAt(call).limit ?? 0;
-    const key = `${agent} ${source} ${milliseconds} ${placeKey({ block, byte })}`;
+    const key = `${agent} ${source} ${milliseconds} ${waitPlaceKey({ block, byte })}`;
     if (!found.has(key)) found.set(key, { agent, line: lineOf(agent, source), milliseconds, block, byte });
   }
   return [...found.values()];
@@ -62,23 +62,25 @@ export function onlyByTimeOf(log, records, lineOf) {
 /**
  * The places at which agents wait and that others notify or write: a wait at another place is a sleep.
  * @param {Log} log
- * @returns {Place[]}
+ * @returns {WaitPlace[]}
  */
 export function servedOf(log) {
-  /** @type {Map<string, { place: Place, to: number, agents: number }>} the word's end, and a bit for each that waits */
+  /**
+   * @type {Map<string, { place: WaitPlace, to: number, agents: number }>} the word's end, and a bit for each that waits
+   */
   const waiters = new Map();
   for (let position = 0; position < log.length; position += 1) {
     if (log.methodAt(position) !== WAIT) continue;
     const place = { block: log.blockAt(position), byte: log.fromAt(position) };
-    const known = waiters.get(placeKey(place)) ?? { place, to: 0, agents: 0 };
+    const known = waiters.get(waitPlaceKey(place)) ?? { place, to: 0, agents: 0 };
     known.to = Math.max(known.to, log.toAt(position));
     known.agents |= 1 << log.agentAt(position);
-    waiters.set(placeKey(place), known);
+    waiters.set(waitPlaceKey(place), known);
   }
   return [...waiters.values()].filter((waited) => isServed(log, waited)).map(({ place }) => place);
 }
 
-/** @param {Log} log @param {{ place: Place, to: number, agents: number }} waited where the agents wait */
+/** @param {Log} log @param {{ place: WaitPlace, to: number, agents: number }} waited where the agents wait */
 function isServed(log, { place: { block, byte }, to, agents }) {
   for (let position = 0; position < log.length; position += 1) {
     if (log.blockAt(position) !== block || agents === 1 << log.agentAt(position)) continue;

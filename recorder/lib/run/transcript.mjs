@@ -8,10 +8,10 @@ import { KINDS, SCRIPT_CONSTRUCTORS, SIZES } from "../../script/kinds.mjs";
 import { answerText } from "../../script/report.mjs";
 import { JOIN, LEAVE, MAKE, MOVES, TIME_UP } from "../board/journal.mjs";
 import { READ } from "../memory/log.mjs";
-import { callText, viewName } from "../memory/spelling.mjs";
+import { namedCallText, viewName } from "../memory/spelling.mjs";
 import { STORED } from "../memory/stores.mjs";
 import { NO_NAMES, nameText } from "../options/names.mjs";
-import { Helpers, isAsync } from "./helpers.mjs";
+import { Helpers, isAsync } from "./wait-helpers.mjs";
 import { KnownCalls } from "./known-calls.mjs";
 
 /** @typedef {import("../memory/records.mjs").Records} Records */
@@ -22,7 +22,7 @@ import { KnownCalls } from "./known-calls.mjs";
 /** @typedef {import("../../script/text.mjs").SpelledView} SpelledView */
 
 /**
- * @typedef {object} Run what a transcript is made from
+ * @typedef {object} TranscriptSource what a transcript is made from
  * @property {import("../memory/log.mjs").Log} log
  * @property {Pick<Records, "callAt" | "doneAt" | "takeFingerprint">[]} records of each agent
  * @property {number[]} lengths of the blocks
@@ -32,13 +32,13 @@ import { KnownCalls } from "./known-calls.mjs";
  * @property {KnownCalls} [known] calls of other runs with the same names and lengths
  */
 
-/** @typedef {{ kind: number, block: number, offset: number, length: number }} Range of a view */
+/** @typedef {import("../memory/spelling.mjs").ViewRange} ViewRange of a view */
 
 /** The view that says so in a script. */
 export const UNSEEN = "ordinary_unseen";
 const NO_ELEMENT = Object.freeze({ kind: KINDS.indexOf("Uint8"), block: 0, offset: 0, length: 0 });
 
-/** @param {string} name @param {Range} range @returns {SpelledView} */
+/** @param {string} name @param {ViewRange} range @returns {SpelledView} */
 function viewOf(name, { kind, block, offset, length }) {
   return { name, kind: KINDS[kind], block, offset, length };
 }
@@ -48,7 +48,7 @@ const BYTES = new Uint8Array(Math.max(...SIZES));
 const ELEMENTS = SCRIPT_CONSTRUCTORS.map((Kind) => new Kind(BYTES.buffer, 0, 1));
 
 class Writer {
-  /** @param {Run} run @param {boolean[]} canBlock of each agent, also of the one of `init` */
+  /** @param {TranscriptSource} run @param {boolean[]} canBlock of each agent, also of the one of `init` */
   constructor({ lengths, names = NO_NAMES, known = new KnownCalls() }, canBlock) {
     this.lengths = lengths;
     this.canBlock = [...canBlock];
@@ -56,7 +56,7 @@ class Writer {
     this.names = names;
     this.known = known;
     /** Makes a call that isn't known. */
-    this.make = (/** @type {Run["records"][number]} */ records, /** @type {number} */ position) => {
+    this.make = (/** @type {TranscriptSource["records"][number]} */ records, /** @type {number} */ position) => {
       return this.#call(records, position);
     };
     /** @type {Map<string, SpelledView>} */
@@ -132,7 +132,7 @@ class Writer {
 
   /**
    * A call as the texts have it.
-   * @param {Run["records"][number]} records
+   * @param {TranscriptSource["records"][number]} records
    * @param {number} position
    * @returns {import("./known-calls.mjs").KnownCall}
    */
@@ -140,12 +140,16 @@ class Writer {
     const call = records.callAt(position);
     const named = this.names.ofCall(call);
     const name = named?.view.name ?? viewName(this.lengths, call);
-    const text = callText(name, call, named?.index);
+    const text = namedCallText(name, call, named?.index);
     const done = { text, ...records.doneAt(position), isOwn: true, name: named && nameText(named) };
     return named === undefined ? { done, view: viewOf(name, call) } : { done };
   }
 
-  /** @param {Run["records"][number]} records @param {number} agent @returns {Done} the agent's next call */
+  /**
+   * @param {TranscriptSource["records"][number]} records
+   * @param {number} agent
+   * @returns {Done} the agent's next call
+   */
   #next(records, agent) {
     const position = this.own[agent];
     const { done, view } = this.known.at(records, position, this.make);
@@ -154,7 +158,7 @@ class Writer {
     return done;
   }
 
-  /** @param {Run["records"][number]} records @param {number} agent @param {number} event */
+  /** @param {TranscriptSource["records"][number]} records @param {number} agent @param {number} event */
   addEvent(records, agent, event) {
     if (event !== LEAVE && event !== TIME_UP) this.calls[agent].push(this.#next(records, agent));
     this.addMoves(agent, MOVES[event], event === TIME_UP);
@@ -162,7 +166,7 @@ class Writer {
 
   /**
    * Adds the begin of a wait in which nobody sleeps, or its end: its helper makes it.
-   * @param {Run["records"][number]} records
+   * @param {TranscriptSource["records"][number]} records
    * @param {number} owner the agent that has called waitAsync
    * @param {number} event
    * @param {number} call which of its calls it is
@@ -204,7 +208,7 @@ class Writer {
 
 /**
  * Reads what was done in a run that has ended.
- * @param {Run} run
+ * @param {TranscriptSource} run
  * @param {Store[]} stores that stand for ordinary writes, in their order
  * @param {Store[]} [initial] those that fill the buffers at first, of an agent of their own
  * @returns {Transcript}

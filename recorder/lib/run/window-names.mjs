@@ -7,7 +7,7 @@ import { MOST_CHARACTERS } from "../options/names.mjs";
 /** What the names of other views begin with, and what is left of a word that was cut. */
 const OF_OTHERS = /^(?:_|ordinary_|init_|waitAsync_)+/;
 
-/** @typedef {import("../options/names.mjs").Name} Name */
+/** @typedef {import("../options/names.mjs").NamedView} NamedView */
 /** @typedef {import("./windows.mjs").Window} Window */
 
 /**
@@ -34,7 +34,7 @@ function stemOf(called, buffer) {
 /**
  * @param {Map<Window, number[]>} windows the kinds of elements by which each is touched
  * @param {string[]} called the names of the program's blocks
- * @returns {Name[]} one for each window and kind
+ * @returns {NamedView[]} one for each window and kind
  */
 export function windowNames(windows, called) {
   /** @type {Set<string>} */

@@ -11,15 +11,15 @@ export const PAGE_BYTES = 64;
 const ALIGNED = 8;
 
 /**
- * @typedef {object} Stretch of a buffer
+ * @typedef {object} BufferRange of a buffer
  * @property {number} buffer its number: that of a block of the run
  * @property {number} from its first byte
  * @property {number} to the byte behind its last one
  */
 
-/** @typedef {Stretch & { block: number, byte: number }} Window where the stretch begins in the script */
+/** @typedef {BufferRange & { block: number, byte: number }} Window where the stretch begins in the script */
 
-/** @typedef {{ block: number, byte: number }} Place in the script */
+/** @typedef {{ block: number, byte: number }} ScriptPlace in the script */
 
 /** @typedef {(buffer: number, from: number, to: number) => number} Cut see `TouchedPages.cut` */
 
@@ -63,7 +63,7 @@ export class TouchedPages {
     return Math.max(page * PAGE_BYTES, from);
   }
 
-  /** @returns {Generator<Stretch>} the longest ones, in the order of the buffers and of their bytes */
+  /** @returns {Generator<BufferRange>} the longest ones, in the order of the buffers and of their bytes */
   *stretches() {
     for (const buffer of [...this.pages.keys()].sort((one, other) => one - other)) {
       const pages = /** @type {Uint8Array} */ (this.pages.get(buffer));
@@ -102,7 +102,7 @@ export class Windows {
   /**
    * Packs stretches of buffers: each into the first block that has room for it. If none has, as much of it as can be
    * goes into the one that has most.
-   * @param {Iterable<Stretch>} stretches
+   * @param {Iterable<BufferRange>} stretches
    * @param {Cut} [cut] without it, none can be cut
    * @returns {Windows | undefined} undefined: there is no room for all
    */
@@ -172,7 +172,7 @@ export class Windows {
   /**
    * @param {number} buffer
    * @param {number} byte that a window has, or the block for messages
-   * @returns {Place}
+   * @returns {ScriptPlace}
    */
   placeOf(buffer, byte) {
     if (buffer === MESSAGES) return { block: MESSAGES, byte };

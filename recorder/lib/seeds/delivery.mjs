@@ -1,6 +1,6 @@
 // Outcomes that are handed out one by one, in the order of their seeds: they are the same whatever the number of jobs.
 
-/** @typedef {import("./job.mjs").Checked} Outcome */
+/** @typedef {import("./job.mjs").CheckedOutcome} CheckedOutcome */
 
 /** Something that changes again and again. */
 class Change {
@@ -22,7 +22,7 @@ export class Delivery {
   /** @param {number} first seed */
   constructor(first) {
     this.next = first;
-    /** @type {Map<number, Outcome | undefined>} outcomes that nobody has taken; undefined: it will never come */
+    /** @type {Map<number, CheckedOutcome | undefined>} outcomes that nobody has taken; undefined: it will never come */
     this.arrived = new Map();
     /** @type {{ failure: unknown } | undefined} why no more will come */
     this.failed = undefined;
@@ -33,7 +33,7 @@ export class Delivery {
     this.taking = new Change();
   }
 
-  /** @param {Outcome} outcome */
+  /** @param {CheckedOutcome} outcome */
   add(outcome) {
     this.arrived.set(outcome.seed, outcome);
     this.arrival.signal();
@@ -59,7 +59,7 @@ export class Delivery {
 
   /**
    * The outcome of the next seed that has one.
-   * @returns {Promise<Outcome | undefined>} undefined if all were taken; fails if no more will come
+   * @returns {Promise<CheckedOutcome | undefined>} undefined if all were taken; fails if no more will come
    */
   async take() {
     for (;;) {
@@ -72,7 +72,7 @@ export class Delivery {
     }
   }
 
-  /** @returns {Outcome[]} those that have come and weren't taken, also if one before them will never come */
+  /** @returns {CheckedOutcome[]} those that have come and weren't taken, also if one before them will never come */
   left() {
     const seeds = [...this.arrived.keys()].sort((one, other) => one - other);
     return seeds.flatMap((seed) => this.arrived.get(seed) ?? []);

@@ -2,9 +2,9 @@
 // module keeps something from run to run. A program's first failing run is made once more at once, in fresh threads.
 
 import { endingsText, hasThrown } from "../../page/endings.mjs";
-import { OTHER_INPUT } from "../run/words.mjs";
+import { OTHER_INPUT } from "../run/summary-words.mjs";
 
-/** @typedef {import("./job.mjs").Checked} Outcome */
+/** @typedef {import("./job.mjs").CheckedOutcome} CheckedOutcome */
 
 /**
  * @typedef {object} Remembering how it differed
@@ -18,8 +18,8 @@ import { OTHER_INPUT } from "../run/words.mjs";
 
 /**
  * Compares two runs of a seed.
- * @param {Pick<Outcome, "seed" | "ending" | "detail" | "state" | "acts" | "real">} first
- * @param {Pick<Outcome, "ending" | "detail" | "state" | "acts">} again
+ * @param {Pick<CheckedOutcome, "seed" | "ending" | "detail" | "state" | "acts" | "real">} first
+ * @param {Pick<CheckedOutcome, "ending" | "detail" | "state" | "acts">} again
  * @returns {Remembering | undefined} undefined if they are the same
  */
 export function differenceBetween(first, again) {
@@ -48,12 +48,12 @@ const differenceText = (found) => (DIFFERENCES[found.differs] ?? DIFFERENCES.act
 /**
  * What is added to the text of a failing run that got real answers.
  * @param {import("../run/outcome.mjs").Outcome} outcome
- * @param {import("../run/outcome.mjs").Again} [made] its result in fresh threads
+ * @param {import("../run/outcome.mjs").FirstRunAgain} [made] its result in fresh threads
  * @returns {string} nothing if it is the same there
  */
 export function otherInputText(outcome, made) {
   if (made === undefined) return "";
-  const differs = made.strays || differenceBetween({ ...outcome, acts: made.acts }, made.again) !== undefined;
+  const differs = made.diverges || differenceBetween({ ...outcome, acts: made.acts }, made.again) !== undefined;
   return differs ? `made once more in fresh threads, the run went another way: ${OTHER_INPUT}` : "";
 }
 
@@ -61,8 +61,8 @@ export function otherInputText(outcome, made) {
 export class KeepsGlobals extends Error {}
 
 /**
- * @param {Pick<Outcome, "seed" | "ending" | "detail" | "state">} outcome of a program's run that fails
- * @param {import("../run/outcome.mjs").Again} [made] its result in fresh threads
+ * @param {Pick<CheckedOutcome, "seed" | "ending" | "detail" | "state">} outcome of a program's run that fails
+ * @param {import("../run/outcome.mjs").FirstRunAgain} [made] its result in fresh threads
  * @returns {KeepsGlobals | undefined} undefined if it is the same there
  */
 export function keepsGlobals(outcome, made) {

@@ -12,13 +12,13 @@ const job = new Job();
 // It is forked, and so can send.
 const outbox = new Outbox((message) => process.send?.(message));
 
-/** @param {import("./job.mjs").Checked} outcome */
+/** @param {import("./job.mjs").CheckedOutcome} outcome */
 function sendOutcome(outcome) {
   outbox.add(outcome);
   onceMore();
 }
 
-/** @param {import("./remote-job.mjs").Request} request @returns {Promise<unknown>} */
+/** @param {import("./remote-job.mjs").JobRequest} request @returns {Promise<unknown>} */
 async function answerTo(request) {
   if (request.open !== undefined) await job.open(request.open);
   // Its first workers have begun.

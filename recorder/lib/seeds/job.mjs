@@ -3,7 +3,7 @@
 // the buffers, and no process has to be started. It is used as a `RemoteJob` is.
 
 import { checkedBy } from "../check/check.mjs";
-import { Repeats } from "../check/repeats.mjs";
+import { CheckedRuns } from "../check/checked-runs.mjs";
 import { Group } from "../run/group.mjs";
 import { FirstFailing } from "../run/order.mjs";
 import { simulatorAt } from "../simulator/chosen.mjs";
@@ -12,9 +12,10 @@ import { KeepsGlobals, keepsGlobals, otherInputText } from "./first-again.mjs";
 
 /** @typedef {import("../run/outcome.mjs").Outcome} Outcome */
 /**
- * @typedef {{ stray?: import("../board/row.mjs").Stray, acts?: string }} Besides `acts` is a digest of what was done
+ * @typedef {{ divergence?: import("../board/drawn-schedule.mjs").Divergence, acts?: string }} Besides `acts` is a
+ * digest of what was done
  */
-/** @typedef {Outcome & import("../check/check.mjs").Check & Besides} Checked */
+/** @typedef {Outcome & import("../check/check.mjs").Check & Besides} CheckedOutcome */
 
 /** Why a failing run isn't checked if its job's process was ended before. */
 const NOT_CHECKED = "the process of its job ended before it was checked";
@@ -31,14 +32,14 @@ const NOT_CHECKED = "the process of its job ended before it was checked";
 
 /**
  * @typedef {object} ShortenedByJob
- * @property {Checked} [shortest] undefined: the run stays as it was found
+ * @property {CheckedOutcome} [shortest] undefined: the run stays as it was found
  * @property {import("../shorter/shorten.mjs").Shortened} shortened
  */
 
 /**
  * An outcome without its long texts.
- * @param {Checked} outcome
- * @returns {Checked}
+ * @param {CheckedOutcome} outcome
+ * @returns {CheckedOutcome}
  */
 function lightened({ script, report, trace, accesses, sources, tasks, messages, bytes, answers, row, ...rest }) {
   return rest;
@@ -51,7 +52,7 @@ function lightened({ script, report, trace, accesses, sources, tasks, messages, 
  * @returns {Promise<Group>}
  */
 async function openGroup(options, meanwhile) {
-  const Kind = options.isProgram ? (await import("../program/group.mjs")).ProgramGroup : Group;
+  const Kind = options.isProgram ? (await import("../program/program-group.mjs")).ProgramGroup : Group;
   return Kind.open(options, meanwhile);
 }
 
@@ -59,10 +60,10 @@ export class Job {
   /** @type {Promise<Group> | undefined} */
   #group;
 
-  /** @type {import("../simulator/chosen.mjs").Simulator | undefined} */
+  /** @type {import("../simulator/chosen.mjs").ChosenSimulator | undefined} */
   #simulator;
 
-  /** @type {Repeats | undefined} undefined: each run is replayed, since the module isn't asked */
+  /** @type {CheckedRuns | undefined} undefined: each run is replayed, since the module isn't asked */
   #repeats;
 
   /** @type {unknown} why a check has failed, or why a run is no finding */
@@ -83,7 +84,7 @@ export class Job {
   async open(options) {
     const { checks, checkEvery, sabsim, isBrief = false, shortens = false } = options;
     this.#simulator = checks ? simulatorAt(sabsim) : undefined;
-    this.#repeats = this.#simulator instanceof ModuleSimulator ? new Repeats() : undefined;
+    this.#repeats = this.#simulator instanceof ModuleSimulator ? new CheckedRuns() : undefined;
     this.#every = checkEvery;
     this.#isBrief = isBrief;
     this.#shortens = shortens;
@@ -93,16 +94,16 @@ export class Job {
 
   /**
    * Makes runs, and checks them.
-   * @param {import("../run/outcome.mjs").Wanted[]} seeds
-   * @param {(outcome: Checked) => void} onOutcome
-   * @param {(outcome: Checked) => void} [onFailing] is called for a failing run before it is checked, and before the
-   * next run begins
+   * @param {import("../run/outcome.mjs").WantedRun[]} seeds
+   * @param {(outcome: CheckedOutcome) => void} onOutcome
+   * @param {(outcome: CheckedOutcome) => void} [onFailing] is called for a failing run before it is checked, and before
+   * the next run begins
    * @returns {Promise<void>} fails if a check has failed, and the outcome of that run is the last one; also if a
    * program keeps something in globals
    */
   async run(seeds, onOutcome, onFailing = () => {}) {
     const group = await this.#opened();
-    /** @param {Outcome} outcome @param {Checked} as */
+    /** @param {Outcome} outcome @param {CheckedOutcome} as */
     const brief = ({ seed }, as) => (!this.#isBrief || seed === this.#first ? as : lightened(as));
     await group.run(seeds, (outcome, judgement, aside) => {
       if (this.#failure !== undefined) return;
@@ -121,7 +122,7 @@ export class Job {
   /**
    * Looks for the shortest run that fails as one that was found, and checks it.
    * @param {import("../run/same.mjs").RunSummary} summary the summary of that run
-   * @param {(tried: import("../shorter/shorten.mjs").Tried) => void} onTry
+   * @param {(tried: import("../shorter/shorten.mjs").ShortenProgress) => void} onTry
    * @returns {Promise<ShortenedByJob>} fails if the check has failed
    */
   async shorten(summary, onTry) {
@@ -142,17 +143,17 @@ export class Job {
     return this.#group ?? Promise.reject(new Error("the job wasn't opened"));
   }
 
-  /** @param {import("../run/outcome.mjs").One} run @returns {Checked | undefined} undefined: it is no finding */
+  /** @param {import("../run/outcome.mjs").One} run @returns {CheckedOutcome | undefined} undefined: it is no finding */
   #checked(run) {
     try {
-      const { outcome, aside: { stray, again } } = run;
+      const { outcome, aside: { divergence, again } } = run;
       const isReal = outcome.real !== undefined;
       const keeps = isReal ? undefined : keepsGlobals(outcome, again);
       if (keeps !== undefined) throw keeps;
       const checked = checkedBy(this.#simulator, run, this.#every, this.#repeats);
       const besides = isReal ? otherInputText(outcome, again) : "";
       if (besides !== "") checked.detail = [checked.detail, besides].filter((text) => text !== "").join("\n");
-      return stray === undefined ? checked : { ...checked, stray };
+      return divergence === undefined ? checked : { ...checked, divergence };
     } catch (failure) {
       this.#failure = failure;
       return failure instanceof KeepsGlobals ? undefined : { ...run.outcome, checked: false };

@@ -15,7 +15,9 @@ const LEAST_IDLE = 0.5;
 /** A job is worth it if the runs would go on for so many times as long as it takes to open one. */
 const WORTH = 2;
 
-/** @typedef {{ jobs: number, made: number, left: number }} Progress how many jobs there are, runs made, seeds left */
+/**
+ * @typedef {{ jobs: number, made: number, left: number }} JobProgress how many jobs there are, runs made, seeds left
+ */
 
 /** @returns {number} for how many milliseconds processors were idle, all together */
 const idleTime = () => cpus().reduce((sum, { times }) => sum + times.idle, 0);
@@ -36,7 +38,7 @@ export function isWorthIt({ milliseconds, idle, made }, left, opening) {
 /**
  * Yields when a further job is to be taken.
  * @param {Promise<unknown>} opened settled when the first one is open
- * @param {() => Progress} progress
+ * @param {() => JobProgress} progress
  * @param {AbortSignal} signal aborted when no more runs are wanted
  * @returns {AsyncGenerator<void, void, void>} it fails when the signal is aborted
  */

@@ -4,7 +4,7 @@
 
 import timers from "node:timers";
 
-/** @typedef {import("./job.mjs").Checked} Checked */
+/** @typedef {import("./job.mjs").CheckedOutcome} CheckedOutcome */
 /** @typedef {import("./remote-job.mjs").Message} Message */
 
 const { setImmediate: turnLater } = timers;
@@ -15,7 +15,7 @@ export const MOST_OUTCOMES = 8;
 /** After so long the next outcome is the last one of its message: some checks take long. */
 export const LONG_MILLISECONDS = 10;
 
-/** @param {Checked} outcome @returns {boolean} whether it goes alone: it fails, or it may be long */
+/** @param {CheckedOutcome} outcome @returns {boolean} whether it goes alone: it fails, or it may be long */
 const goesAlone = ({ fails, script, trace }) => fails || script !== undefined || trace !== undefined;
 
 export class Outbox {
@@ -30,7 +30,7 @@ export class Outbox {
     this.send = send;
   }
 
-  /** @param {Checked} outcome is sent with others, or as soon as this thread has nothing else to do */
+  /** @param {CheckedOutcome} outcome is sent with others, or as soon as this thread has nothing else to do */
   add(outcome) {
     if (goesAlone(outcome)) {
       this.put({ outcome });

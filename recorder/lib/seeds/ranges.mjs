@@ -1,7 +1,7 @@
 // Ranges of seeds: what a command line asks for, the shard of one machine, and the union of several.
 
 /**
- * @typedef {object} Range the seeds from the first to the last, both included
+ * @typedef {object} SeedRange the seeds from the first to the last, both included
  * @property {number} first
  * @property {number} last
  */
@@ -12,17 +12,17 @@
  * @property {number} of how many there are
  */
 
-/** @param {Range} range @returns {number} how many seeds it has */
+/** @param {SeedRange} range @returns {number} how many seeds it has */
 export const countOf = ({ first, last }) => last - first + 1;
 
-/** @param {Range} range @returns {string} as `seeds 501 to 750` */
+/** @param {SeedRange} range @returns {string} as `seeds 501 to 750` */
 export const rangeText = ({ first, last }) => (first === last ? `seed ${first}` : `seeds ${first} to ${last}`);
 
 /**
  * The seeds of a shard: the shards' seeds follow each other, and of two shards one has at most one seed more.
- * @param {Range} range with at least as many seeds as there are shards
+ * @param {SeedRange} range with at least as many seeds as there are shards
  * @param {Shard} shard
- * @returns {Range}
+ * @returns {SeedRange}
  */
 export function shardOf(range, { number, of }) {
   const left = countOf(range) % of;
@@ -32,16 +32,16 @@ export function shardOf(range, { number, of }) {
   return { first, last: first + each - (number <= left ? 0 : 1) };
 }
 
-/** @param {Range[]} ranges @returns {Range[]} by their first seeds */
+/** @param {SeedRange[]} ranges @returns {SeedRange[]} by their first seeds */
 const sorted = (ranges) => [...ranges].sort((one, other) => one.first - other.first);
 
 /**
  * The seeds of some ranges, each once.
- * @param {Range[]} ranges
- * @returns {Range[]} in ascending order, and none begins just after the end of another
+ * @param {SeedRange[]} ranges
+ * @returns {SeedRange[]} in ascending order, and none begins just after the end of another
  */
 export function united(ranges) {
-  /** @type {Range[]} */
+  /** @type {SeedRange[]} */
   const all = [];
   for (const { first, last } of sorted(ranges)) {
     const before = all.at(-1);
@@ -53,11 +53,11 @@ export function united(ranges) {
 
 /**
  * The seeds of some ranges that aren't among those of others.
- * @param {Range[]} ranges
- * @param {Range[]} others
- * @returns {Range[]} in ascending order
+ * @param {SeedRange[]} ranges
+ * @param {SeedRange[]} others
+ * @returns {SeedRange[]} in ascending order
  */
-export function without(ranges, others) {
+export function seedsWithout(ranges, others) {
   let left = united(ranges);
   for (const { first, last } of others) {
     left = left.flatMap((range) => {

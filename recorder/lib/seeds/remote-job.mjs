@@ -7,21 +7,21 @@ import { endGroup, endRest } from "../processes/group-end.mjs";
 import { NoSabsim } from "../simulator/native.mjs";
 import { KeepsGlobals } from "./first-again.mjs";
 
-/** @typedef {import("./job.mjs").Checked} Checked */
+/** @typedef {import("./job.mjs").CheckedOutcome} CheckedOutcome */
 
 /**
- * @typedef {object} Request what a job's process is asked for: one of these
+ * @typedef {object} JobRequest what a job's process is asked for: one of these
  * @property {Parameters<import("./job.mjs").Job["open"]>[0]} [open]
- * @property {import("../run/outcome.mjs").Wanted[]} [run]
+ * @property {import("../run/outcome.mjs").WantedRun[]} [run]
  * @property {import("../run/same.mjs").RunSummary} [shorten]
  */
 
 /**
  * @typedef {object} Message what it replies: one of these
- * @property {import("../shorter/shorten.mjs").Tried} [tried]
- * @property {Checked} [failing] the outcome of a run that fails, and that is about to be checked
+ * @property {import("../shorter/shorten.mjs").ShortenProgress} [tried]
+ * @property {CheckedOutcome} [failing] the outcome of a run that fails, and that is about to be checked
  * @property {string} [passed] the next outcomes in order, as JSON text of a list
- * @property {Checked} [outcome] the next one, if it fails or may be long
+ * @property {CheckedOutcome} [outcome] the next one, if it fails or may be long
  * @property {Packed} [failed]
  * @property {unknown} [done]
  */
@@ -66,13 +66,13 @@ export class RemoteJob {
   /** @param {import("node:child_process").ChildProcess} child its process */
   constructor(child) {
     this.child = child;
-    /** @type {(tried: import("../shorter/shorten.mjs").Tried) => void} */
+    /** @type {(tried: import("../shorter/shorten.mjs").ShortenProgress) => void} */
     this.onTry = () => {};
     /** @type {((message: Message) => void) | undefined} what is done with messages while a request is under way */
     this.onMessage = undefined;
     /** @type {string | undefined} why its process is no more */
     this.lost = undefined;
-    /** @type {Checked | undefined} a failing run whose check hasn't ended */
+    /** @type {CheckedOutcome | undefined} a failing run whose check hasn't ended */
     this.failing = undefined;
     /** @type {Promise<void>} */
     this.gone = new Promise((done) => this.#watch(done));
@@ -89,8 +89,8 @@ export class RemoteJob {
   }
 
   /**
-   * @param {import("../run/outcome.mjs").Wanted[]} seeds
-   * @param {(outcome: Checked) => void} onOutcome
+   * @param {import("../run/outcome.mjs").WantedRun[]} seeds
+   * @param {(outcome: CheckedOutcome) => void} onOutcome
    * @returns {Promise<void>}
    */
   run(seeds, onOutcome) {
@@ -99,7 +99,7 @@ export class RemoteJob {
 
   /**
    * @param {import("../run/same.mjs").RunSummary} summary the summary of a run that was found
-   * @param {(tried: import("../shorter/shorten.mjs").Tried) => void} onTry
+   * @param {(tried: import("../shorter/shorten.mjs").ShortenProgress) => void} onTry
    * @returns {Promise<import("./job.mjs").ShortenedByJob>}
    */
   shorten(summary, onTry) {
@@ -143,13 +143,13 @@ export class RemoteJob {
   }
 
   /**
-   * @param {Request} request
-   * @param {(outcome: Checked) => void} [onOutcome]
+   * @param {JobRequest} request
+   * @param {(outcome: CheckedOutcome) => void} [onOutcome]
    * @returns {Promise<any>}
    */
   #ask(request, onOutcome) {
     return new Promise((done, fail) => {
-      /** @param {Checked} outcome */
+      /** @param {CheckedOutcome} outcome */
       const handOn = (outcome) => {
         this.failing = undefined;
         onOutcome?.(outcome);

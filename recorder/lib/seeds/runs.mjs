@@ -10,7 +10,7 @@ import { LostJob, RemoteJob } from "./remote-job.mjs";
 import { SeedQueue } from "./seed-queue.mjs";
 import { startJob } from "./start-job.cjs";
 
-/** @typedef {import("./job.mjs").Checked} Outcome */
+/** @typedef {import("./job.mjs").CheckedOutcome} CheckedOutcome */
 /** @typedef {RemoteJob | import("./job.mjs").Job} AnyJob */
 
 /**
@@ -25,7 +25,7 @@ import { startJob } from "./start-job.cjs";
  * @property {number} [origin] the seed from which one in so many is counted; the first if it isn't given
  * @property {boolean} [failFast] whether the first failing run is the last, unless it fails only after an early end
  * @property {boolean} [trials] whether only their endings are wanted, which takes less time: outcomes have no script
- * @property {Omit<import("../run/outcome.mjs").Wanted, "seed" | "whole">} [wanted] what else is wanted of each run
+ * @property {Omit<import("../run/outcome.mjs").WantedRun, "seed" | "whole">} [wanted] what else is wanted of each run
  * @property {boolean} [shortens] whether the first failing run will be shortened
  * @property {boolean} [isBrief] whether only the outcomes of runs that may be the first failing one have their long
  * texts
@@ -37,7 +37,7 @@ import { startJob } from "./start-job.cjs";
 
 /** @typedef {import("../run/group.mjs").GroupOptions & OfRuns} RunsOptions */
 
-/** @param {Outcome} outcome @returns {import("../run/same.mjs").RunSummary} */
+/** @param {CheckedOutcome} outcome @returns {import("../run/same.mjs").RunSummary} */
 const briefly = ({ seed, ending, detail, moves, calls, state, noScript, real, row }) =>
   ({ seed, ending, detail, moves, calls, state, noScript, ...(real === undefined ? {} : { real, row }) });
 
@@ -48,7 +48,7 @@ export class Runs {
   /** How many outcomes have come. */
   #made = 0;
 
-  /** @type {{ job: AnyJob, outcome: Outcome } | undefined} the first seed's run, and the job that made it */
+  /** @type {{ job: AnyJob, outcome: CheckedOutcome } | undefined} the first seed's run, and the job that made it */
   #first;
 
   /** @type {AbortController} aborted when no more runs are wanted */
@@ -71,8 +71,8 @@ export class Runs {
 
   /**
    * Makes the runs, up to the first failing one if that is to be the last.
-   * @returns {AsyncGenerator<Outcome, void, void>} in the order of the seeds; it fails at the first difference, if the
-   * process of a job has ended, and by the signal
+   * @returns {AsyncGenerator<CheckedOutcome, void, void>} in the order of the seeds; it fails at the first difference,
+   * if the process of a job has ended, and by the signal
    */
   async *outcomes() {
     const { delivery, options: { failFast, goesOn }, signal } = this;
@@ -92,8 +92,9 @@ export class Runs {
 
   /**
    * Looks for the shortest run that fails as one that was found, in the first job.
-   * @param {Outcome} found
-   * @param {(tried: import("../shorter/shorten.mjs").Tried) => void} [onTry] is called with each run that this takes
+   * @param {CheckedOutcome} found
+   * @param {(tried: import("../shorter/shorten.mjs").ShortenProgress) => void} [onTry] is called with each run that
+   * this takes
    * @returns {Promise<import("./job.mjs").ShortenedByJob>}
    */
   shorten(found, onTry = () => {}) {
@@ -102,8 +103,8 @@ export class Runs {
 
   /**
    * Makes the run of a program that is kept once more, so that what it prints is shown, unless that was shown already.
-   * @param {Outcome} found the failing run
-   * @param {Outcome} [shortest] that is kept in its place
+   * @param {CheckedOutcome} found the failing run
+   * @param {CheckedOutcome} [shortest] that is kept in its place
    */
   async showOutput(found, shortest) {
     const { first, isProgram, programOutput } = this.options;
@@ -124,7 +125,7 @@ export class Runs {
     if (first === undefined || fresh || this.#made < 2 || isLost(first.job)) return undefined;
     const { job, outcome: { seed } } = first;
     const compared = { ...wanted, seed, whole: false, wantsActs: true, isSilent: true };
-    /** @type {Outcome | undefined} */
+    /** @type {CheckedOutcome | undefined} */
     let again;
     try {
       await this.#atRest(() => job.run([compared], (outcome) => {
@@ -139,7 +140,7 @@ export class Runs {
     return again && differenceBetween(first.outcome, again);
   }
 
-  /** @param {Outcome} outcome @returns {boolean} whether it is the last one */
+  /** @param {CheckedOutcome} outcome @returns {boolean} whether it is the last one */
   isLast(outcome) {
     const { failFast, last } = this.options;
     return outcome.seed === last || (failFast === true && isFirstOfAll(outcome));
@@ -264,11 +265,11 @@ export class Runs {
 
   /**
    * @param {AnyJob} job
-   * @param {import("../run/outcome.mjs").Wanted[]} seeds in their order
+   * @param {import("../run/outcome.mjs").WantedRun[]} seeds in their order
    */
   async #run(job, seeds) {
     let made = 0;
-    /** @type {Outcome[]} the run whose check has failed: the failure comes before it */
+    /** @type {CheckedOutcome[]} the run whose check has failed: the failure comes before it */
     const differing = [];
     try {
       await job.run(seeds, (outcome) => {
@@ -300,8 +301,8 @@ const isLost = (job) => job instanceof RemoteJob && job.lost !== undefined;
 /**
  * All outcomes of some runs. When no more are taken, all that was started is ended.
  * @param {Runs} runs
- * @returns {AsyncGenerator<Outcome & { remembers?: import("./first-again.mjs").Remembering }, void, void>} the last one
- * says how the first seed's run differed when it was made once more, if it did
+ * @returns {AsyncGenerator<CheckedOutcome & { remembers?: import("./first-again.mjs").Remembering }, void, void>} the
+ * last one says how the first seed's run differed when it was made once more, if it did
  */
 export async function* outcomesOf(runs) {
   try {

@@ -1,6 +1,6 @@
 // The seeds of runs that are to be made, in their order.
 
-/** @typedef {import("../run/outcome.mjs").Wanted} Wanted */
+/** @typedef {import("../run/outcome.mjs").WantedRun} WantedRun */
 
 /** The most seeds that a job is given at a time. */
 export const BATCH = 16;
@@ -20,7 +20,7 @@ export class SeedQueue {
     this.batch = failFast ? 1 : Math.max(1, Math.min(BATCH, Math.ceil((last - first + 1) / jobs)));
   }
 
-  /** @returns {Wanted[]} the next few; none if all were taken */
+  /** @returns {WantedRun[]} the next few; none if all were taken */
   take() {
     const seeds = [];
     while (this.left > 0 && seeds.length < this.batch) {

@@ -12,8 +12,8 @@ const own = pathToFileURL(__filename);
 const PROGRAM = fileURLToPath(new URL("../processes/own-process.cjs", own));
 const MODULE = new URL("./job-process.mjs", own).href;
 const REFEREE = new URL("../run/referee.mjs", own).href;
-const AGENT = new URL("../agent/worker.mjs", own).href;
-const THREADS = [new URL("../program/worker.mjs", own).href, String(FIRST_THREADS), ...GRAPH_FLAGS];
+const AGENT = new URL("../agent/agent-worker.mjs", own).href;
+const THREADS = [new URL("../program/program-worker.mjs", own).href, String(FIRST_THREADS), ...GRAPH_FLAGS];
 
 // The words by which node's command line itself has the program, and those that say what kind it is.
 const EVALUATED = /^(-[ep]+|--eval|--print|--input-type)$/;
@@ -39,14 +39,14 @@ function jobWords(words) {
 }
 
 /**
- * @typedef {object} Known what is known of the runs, so that no more workers begin than are needed
+ * @typedef {object} ExpectedRuns what is known of the runs, so that no more workers begin than are needed
  * @property {boolean} [isProgram] whether it runs a program of several threads, whose workers begin in another way
  * @property {number} [agents] how many; undefined: the module says it
  * @property {boolean} [everywhere] whether no pilots are made
  */
 
 /**
- * @param {Known} [known]
+ * @param {ExpectedRuns} [known]
  * @param {import("../processes/platform.cjs").Platform} platform
  * @returns {import("node:child_process").ChildProcess} which leads a group of processes, where there are groups. On
  *   Windows a detached process would have no console

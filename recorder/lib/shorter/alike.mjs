@@ -2,7 +2,7 @@
 
 /** @typedef {import("../run/outcome.mjs").Outcome} Outcome */
 /** @typedef {import("../run/outcome.mjs").Aside} Aside */
-/** @typedef {{ outcome: Outcome, aside: Aside }} Run */
+/** @typedef {{ outcome: Outcome, aside: Aside }} RunAndAside */
 
 // A number, with its sign and its fraction.
 const NUMBERS = /-?\d+(\.\d+)?/g;
@@ -27,13 +27,13 @@ const pairOf = (lines) => lines.join(" and ");
  * Whether a run fails as another one does: with the same ending. A deadlock must also have the same agents at the same
  * places, and a race the pair of lines that the other one reports first. Any other ending must have the same message up
  * to its numbers.
- * @param {Run} run
- * @param {Run} other
+ * @param {RunAndAside} run
+ * @param {RunAndAside} other
  * @returns {boolean}
  */
 export function failsAlike(run, other) {
   const { ending, detail, races } = other.outcome;
-  if (run.outcome.ending !== ending || run.aside.stray !== undefined) return false;
+  if (run.outcome.ending !== ending || run.aside.divergence !== undefined) return false;
   if (ending === "deadlock") return waitersOf(run.aside) === waitersOf(other.aside);
   if (ending !== "race") return findingOf(run.outcome.detail) === findingOf(detail);
   return races.length > 0 && run.outcome.races.some(({ lines }) => pairOf(lines) === pairOf(races[0].lines));

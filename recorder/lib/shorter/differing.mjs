@@ -1,9 +1,9 @@
 // How a run that was made by the row of a kept script differs from that script, in words.
 
-import { isLook, moverOf } from "../board/row.mjs";
+import { isRealAnswer, moverOf } from "../board/drawn-schedule.mjs";
 
 /** @typedef {import("./kept-script.mjs").KeptScript} KeptScript */
-/** @typedef {import("./kept-script.mjs").Step} Step */
+/** @typedef {import("./kept-script.mjs").ScriptStep} ScriptStep */
 
 /** The code no longer does what a kept script has. */
 export class NoLongerTheSame extends Error {
@@ -17,13 +17,13 @@ export class NoLongerTheSame extends Error {
 const OTHER_MODULE = "; if the script is of another module, replay it with that one";
 
 /**
- * How a run has strayed from its row.
- * @param {import("../board/row.mjs").Stray} stray
+ * How a run has diverged from its row.
+ * @param {import("../board/drawn-schedule.mjs").Divergence} divergence
  * @param {string} detail of its outcome, which ends with the call that is made now
  * @param {KeptScript} kept
  * @returns {string}
  */
-export function strayedText({ reason, agent, draw }, detail, { draws }) {
+export function differingText({ reason, agent, draw }, detail, { draws }) {
   if (reason === "goes on") return `agent ${agent} goes on where the script ends`;
   const { step: { call, text }, goesOn } = draws[draw];
   const was = `agent ${agent}'s call ${call}`;
@@ -38,17 +38,17 @@ export function strayedText({ reason, agent, draw }, detail, { draws }) {
   return `${was} was ${text} in the script, and now the agent hasn't come so far: ${now}`;
 }
 
-/** @param {Step} step in words */
+/** @param {ScriptStep} step in words */
 function writeText({ agent, call, text }) {
   return `agent ${agent}'s ordinary write before its call ${call} was ${text} in the script`;
 }
 
-/** @param {Step} step in words */
+/** @param {ScriptStep} step in words */
 function initText({ text }) {
   return `\`init\` left ${text} in the script`;
 }
 
-/** @param {Step | undefined} step @returns {string | undefined} what another step must have to be the same */
+/** @param {ScriptStep | undefined} step @returns {string | undefined} what another step must have to be the same */
 const nameOf = (step) => step && `${step.agent} ${step.isOwn} ${step.key}`;
 
 /**
@@ -57,7 +57,7 @@ const nameOf = (step) => step && `${step.agent} ${step.isOwn} ${step.key}`;
  * @param {KeptScript} now
  * @returns {string | undefined} how it differs; undefined if both are the same
  */
-export function differenceText(kept, now) {
+export function replayDifferenceText(kept, now) {
   const { length } = kept.steps;
   let at = 0;
   while (at < length && nameOf(kept.steps[at]) === nameOf(now.steps[at])) at += 1;
@@ -87,16 +87,16 @@ export function firstOtherText(kept, now) {
   return `the script has ${stepText(was)} next, and now comes ${stepText(is)}`;
 }
 
-/** @param {Step} step in words */
+/** @param {ScriptStep} step in words */
 const stepText = ({ agent, isOwn, call, text }) =>
   `agent ${agent}'s ${isOwn ? "call" : "ordinary write before its call"} ${call}, ${text}`;
 
 /**
- * How a run of a program has strayed from the row of a kept one.
- * @param {import("../board/row.mjs").Stray} stray
+ * How a run of a program has diverged from the row of a kept one.
+ * @param {import("../board/drawn-schedule.mjs").Divergence} divergence
  * @returns {string}
  */
-export function rowStrayedText({ reason, agent, draw, wanted, able }) {
+export function programDivergenceText({ reason, agent, draw, wanted, able }) {
   if (reason === "goes on") return `agent ${agent} goes on where the kept run ends`;
   if (wanted === undefined) return `agent ${agent} gets a real answer where the kept run ends`;
   return `${drawText(wanted, draw)}, and now ${nowText(reason, agent, wanted)}${ableText(able)}`;
@@ -104,13 +104,17 @@ export function rowStrayedText({ reason, agent, draw, wanted, able }) {
 
 /** @param {number} drawn @param {number} draw its position in the row of a kept run */
 const drawText = (drawn, draw) =>
-  `agent ${moverOf(drawn)} ${isLook(drawn) ? "got a real answer" : "moved"} with draw ${draw} of the kept run`;
+  `agent ${moverOf(drawn)} ${isRealAnswer(drawn) ? "got a real answer" : "moved"} with draw ${draw} of the kept run`;
 
-/** @param {import("../board/row.mjs").StrayReason} reason @param {number} agent @param {number} wanted */
+/**
+ * @param {import("../board/drawn-schedule.mjs").DivergenceReason} reason
+ * @param {number} agent
+ * @param {number} wanted
+ */
 function nowText(reason, agent, wanted) {
   if (reason === "comes") return `agent ${agent} gets one before`;
   if (reason === "ended") return "it has come to its end, or hasn't begun";
-  return isLook(wanted) ? "it gets none" : "it has nothing to do, or waits";
+  return isRealAnswer(wanted) ? "it gets none" : "it has nothing to do, or waits";
 }
 
 /** @param {number[]} able which agents could move instead */
@@ -125,7 +129,7 @@ function ableText(able) {
  * @param {number | undefined} at where they differ first, in that one; undefined: they don't
  * @returns {string | undefined}
  */
-export function rowEndedText(row, at) {
+export function programEndText(row, at) {
   if (at === undefined) return undefined;
   if (at === row.length) return "the run goes on where the kept run ends";
   return `${drawText(row[at], at)}, and now the run is over, or another agent moved there`;

@@ -6,7 +6,7 @@
 const STUCK = /^(\d+) \d+ \d+ stuck (\S+)$/gm;
 
 /**
- * @param {import("../simulator/chosen.mjs").Simulator} simulator
+ * @param {import("../simulator/chosen.mjs").ChosenSimulator} simulator
  * @param {string} script
  * @returns {IdleMove[]} none if it is no script
  */

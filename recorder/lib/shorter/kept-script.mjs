@@ -8,13 +8,13 @@
 import { handOverOf, helpersIn } from "../../script/helpers.mjs";
 import { CALLS, KINDS, SCRIPT_KINDS, SIZES } from "../../script/kinds.mjs";
 import { OF_STORES, writtenText } from "../../script/written.mjs";
-import { callNumber } from "../board/row.mjs";
-import { byteOf } from "../memory/memory.mjs";
-import { callText, placedCallText } from "../memory/spelling.mjs";
+import { callNumber } from "../board/drawn-schedule.mjs";
+import { byteOf } from "../memory/recorded-memory.mjs";
+import { namedCallText, placedCallText } from "../memory/spelling.mjs";
 import { Refused } from "../options/refused.mjs";
 
 /**
- * @typedef {object} Step a call that begins, or a store that stands for an ordinary write
+ * @typedef {object} ScriptStep a call that begins, or a store that stands for an ordinary write
  * @property {number} agent
  * @property {boolean} isOwn whether the agent called it
  * @property {number} call its number among the agent's own; of a store that of the next one
@@ -31,9 +31,9 @@ import { Refused } from "../options/refused.mjs";
 /**
  * @typedef {object} Draw of who makes a call, or goes on from a wait
  * @property {number} agent
- * @property {Step} step the call
+ * @property {ScriptStep} step the call
  * @property {boolean} goesOn
- * @property {Step[]} writes what the agent has written ordinarily before it asked for its next call
+ * @property {ScriptStep[]} writes what the agent has written ordinarily before it asked for its next call
  */
 
 /**
@@ -41,7 +41,7 @@ import { Refused } from "../options/refused.mjs";
  * @property {number[]} lengths of the blocks
  * @property {boolean[]} canBlock of each agent, without helpers and the one of `init`
  * @property {Draw[]} draws
- * @property {Step[]} steps in the order in which they begin
+ * @property {ScriptStep[]} steps in the order in which they begin
  */
 
 const METHODS = CALLS.map(({ name }) => name);
@@ -63,14 +63,14 @@ function need(holds, why) {
 /** @type {(value: unknown) => value is number} */
 const isCount = (value) => Number.isInteger(value) && Number(value) >= 0;
 
-/** @typedef {import("../memory/spelling.mjs").Range} View */
+/** @typedef {import("../memory/spelling.mjs").ViewRange} ViewRange */
 /** @typedef {import("../run/windows.mjs").Windows} Windows */
 
 /**
  * @typedef {Map<string, import("../../script/text.mjs").View>} AsSpelled views as the script has them, by their names
  */
 
-/** @param {any} script @param {number[]} lengths of its blocks @returns {Map<string, View>} by their names */
+/** @param {any} script @param {number[]} lengths of its blocks @returns {Map<string, ViewRange>} by their names */
 function viewsOf({ views }, lengths) {
   need(Array.isArray(views), "it has no views");
   return new Map(views.map(({ name, kind, block = 0, offset, length: given }) => {
@@ -97,15 +97,15 @@ function lengthsOf(script) {
 function keyOf(call, windows) {
   const behind = windows?.behind(call.block, byteOf(call));
   if (behind === undefined) return placedCallText(call, call);
-  return `${behind.buffer} ${behind.byte} ${callText(KINDS[call.kind], call, 0)}`;
+  return `${behind.buffer} ${behind.byte} ${namedCallText(KINDS[call.kind], call, 0)}`;
 }
 
 /**
  * @param {any} parts of a call as a script has it
- * @param {Map<string, View>} views
+ * @param {Map<string, ViewRange>} views
  * @param {AsSpelled} spelled
  * @param {Windows | undefined} windows
- * @returns {Omit<Step, "agent" | "call"> & { view: string, waits: boolean, isHandOver: boolean }}
+ * @returns {Omit<ScriptStep, "agent" | "call"> & { view: string, waits: boolean, isHandOver: boolean }}
  */
 function callOf(parts, views, spelled, windows) {
   need(Array.isArray(parts) && METHODS.includes(parts[0]), `${JSON.stringify(parts)} is no call`);
@@ -120,7 +120,7 @@ function callOf(parts, views, spelled, windows) {
   const isWrite = !isOwn && method === "store" && operands.length === 1;
   return {
     isOwn, view: name, waits: method === "wait", loads: method === "load", isHandOver: handOverOf(parts) !== undefined,
-    text: isWrite ? writeOf(spelled, name, index, operands[0]) : callText(name, call),
+    text: isWrite ? writeOf(spelled, name, index, operands[0]) : namedCallText(name, call),
     key: keyOf(call, windows), block, from, to: from + SIZES[kind],
   };
 }
@@ -170,12 +170,12 @@ class Reader {
     /**
      * For each agent: how many calls have begun, how many of these are its own, the last one if it waits, and its last
      * draw.
-     * @type {{ begun: number, own: number, waits: Step | undefined, last: Draw | undefined }[]}
+     * @type {{ begun: number, own: number, waits: ScriptStep | undefined, last: Draw | undefined }[]}
      */
     this.at = this.calls.map(() => ({ begun: 0, own: 0, waits: undefined, last: undefined }));
     /** @type {Draw[]} */
     this.draws = [];
-    /** @type {Step[]} */
+    /** @type {ScriptStep[]} */
     this.steps = [];
     this.position = 0;
   }
@@ -227,7 +227,7 @@ class Reader {
    * @param {Reader["calls"][number][number]} call that begins
    * @param {number} agent whose it is: of a helper's its thread
    * @param {boolean} isWhole
-   * @returns {Step | undefined} undefined: it is over
+   * @returns {ScriptStep | undefined} undefined: it is over
    */
   #step(call, agent, isWhole) {
     const at = this.at[agent];

@@ -4,44 +4,48 @@
 // stretches, with two stretches of an agent joined, or with one made shorter.
 
 import { areSame, firstOtherMove } from "../run/same.mjs";
-import { NO_SCRIPT } from "../run/unseen.mjs";
-import { OTHER_INPUT, TIMES_TRIED } from "../run/words.mjs";
+import { NO_SCRIPT } from "../run/unseen-text.mjs";
+import { OTHER_INPUT, TIMES_TRIED } from "../run/summary-words.mjs";
 import { failsAlike } from "./alike.mjs";
-import { inOneGo } from "./in-one-go.mjs";
+import { groupedByAgent } from "./grouped-by-agent.mjs";
 import { keptScript } from "./kept-script.mjs";
-import { changesOf, joinedFrom, rowOf, shortenedAt, stretchesOf, without } from "./stretches.mjs";
+import { changesOf, joinedFrom, rowOf, shortenedAt, stretchesOf, stretchesWithout } from "./stretches.mjs";
 
 /** @typedef {import("../run/outcome.mjs").Outcome} Outcome */
 /** @typedef {import("../run/outcome.mjs").One} One */
 /** @typedef {import("./stretches.mjs").Stretch} Stretch */
 /** @typedef {import("../run/same.mjs").RunSummary} RunSummary */
 
-/** @typedef {{ before: number, after: number }} Change */
+/** @typedef {{ before: number, after: number }} BeforeAndAfter */
 
 /**
  * @typedef {object} Shortened the result of shortening a failing run
  * @property {number} runs how many it took
- * @property {Change} changes how often the agent that moved changed: in the run as it was found, and in the shortest
- * @property {Change} calls of Atomics that were begun, in the same two runs
+ * @property {BeforeAndAfter} changes how often the agent that moved changed: in the run as it was found, and in the
+ * shortest
+ * @property {BeforeAndAfter} calls of Atomics that were begun, in the same two runs
  * @property {string} [stopped] why it was ended before all was tried
  * @property {string} [unchanged] why the run is returned as it was found
  */
 
 /**
- * @typedef {object} Found
+ * @typedef {object} ShortenResult
  * @property {One} [shortest] undefined: the run is returned as it was found
  * @property {Shortened} shortened
  */
 
 /**
- * @typedef {object} Limits
+ * @typedef {object} ShortenLimits
  * @property {number} [most] how many runs are made at most
  * @property {number} [milliseconds] how long it may take
- * @property {(tried: Tried) => void} [onTry] is called with each run that was made
+ * @property {(tried: ShortenProgress) => void} [onTry] is called with each run that was made
  * @property {boolean} [isFresh] whether the agents' workers are started anew before
  */
 
-/** @typedef {{ runs: number, changes: number }} Tried how many runs were made, and the changes of the shortest then */
+/**
+ * @typedef {{ runs: number, changes: number }} ShortenProgress how many runs were made, and the changes of the shortest
+ * then
+ */
 
 /** The runs that are made at most. A machine that makes as many in time finds the same run as every other one. */
 const MOST_RUNS = 400;
@@ -92,7 +96,7 @@ class Search {
   /**
    * @param {import("../run/group.mjs").Group} group
    * @param {One} first the run as it was found, with its row
-   * @param {Required<Limits>} limits
+   * @param {Required<ShortenLimits>} limits
    * @param {number} begun when it has begun, in milliseconds
    */
   constructor(group, first, limits, begun) {
@@ -128,7 +132,7 @@ class Search {
     const { script } = this.first.outcome;
     if (script === undefined) return [];
     const kept = keptScript(script, "the run");
-    const rows = kept.canBlock.map((_, agent) => stretchesOf(inOneGo(kept, agent)));
+    const rows = kept.canBlock.map((_, agent) => stretchesOf(groupedByAgent(kept, agent)));
     return rows.sort((one, other) => one.length - other.length);
   }
 
@@ -147,7 +151,7 @@ class Search {
       for (let tried = 0; tried < this.#stretches().length;) {
         const all = this.#stretches();
         const at = isBackward ? Math.max(0, all.length - tried - size) : tried;
-        if (!await this.#isBetter(without(all, at, size))) tried += size;
+        if (!await this.#isBetter(stretchesWithout(all, at, size))) tried += size;
       }
       if (size <= 1) return;
       size = Math.ceil(size / 2);
@@ -221,14 +225,14 @@ class Search {
 }
 
 /** @param {Stretch[]} stretches @param {number} at */
-const droppedAt = (stretches, at) => [without(stretches, at, 1)];
+const droppedAt = (stretches, at) => [stretchesWithout(stretches, at, 1)];
 
 /**
  * Looks for the shortest run that fails in the same way as one that was found by its seed.
  * @param {import("../run/group.mjs").Group} group of the same agents
  * @param {RunSummary} summary of the run that was found
- * @param {Limits} [limits]
- * @returns {Promise<Found>}
+ * @param {ShortenLimits} [limits]
+ * @returns {Promise<ShortenResult>}
  */
 export async function shorten(group, summary, limits = {}) {
   const begun = performance.now();
@@ -268,7 +272,7 @@ const timesOf = ({ real }) => (real === undefined ? 1 : TIMES_TRIED);
  * @param {number} runs
  * @param {string} unchanged why it stays so
  * @param {string} [stopped]
- * @returns {Found}
+ * @returns {ShortenResult}
  */
 function asFound({ calls }, { row = [] }, runs, unchanged, stopped) {
   const changes = changesOf(row);

@@ -1,6 +1,6 @@
 // Rows as stretches: which agent moves, and for how many draws in a row.
 
-import { moverOf } from "../board/row.mjs";
+import { moverOf } from "../board/drawn-schedule.mjs";
 
 /**
  * @typedef {{ agent: number, draws: number }} Stretch of an agent; one to which real answers come has another number
@@ -30,7 +30,7 @@ export const changesOf = (row) => Math.max(0, stretchesOf(row.map(moverOf)).leng
  * @param {number} count
  * @returns {Stretch[]} all but so many from one on
  */
-export const without = (stretches, at, count) => [...stretches.slice(0, at), ...stretches.slice(at + count)];
+export const stretchesWithout = (stretches, at, count) => [...stretches.slice(0, at), ...stretches.slice(at + count)];
 
 // An agent that isn't held up makes fewer calls, so it may need fewer draws if two of its stretches are joined.
 const MOST_FEWER = 3;

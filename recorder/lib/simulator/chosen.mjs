@@ -3,7 +3,7 @@
 import { ModuleSimulator } from "./module.mjs";
 import { NativeSimulator, programAt } from "./native.mjs";
 
-/** @typedef {ModuleSimulator | NativeSimulator} Simulator */
+/** @typedef {ModuleSimulator | NativeSimulator} ChosenSimulator */
 
 /**
  * The native program that is chosen: by an option, or else by SABSIM of the environment.
@@ -16,6 +16,6 @@ export function chosenProgram(option) {
   return path === "" ? undefined : programAt(path);
 }
 
-/** @param {string} [program] the path of the native program; undefined: the module @returns {Simulator} */
+/** @param {string} [program] the path of the native program; undefined: the module @returns {ChosenSimulator} */
 export const simulatorAt = (program) =>
   program === undefined ? new ModuleSimulator() : new NativeSimulator(program);

@@ -3,17 +3,17 @@
 import { readFileSync } from "node:fs";
 import { Simulator } from "../../wasm/simulator.mjs";
 
-/** @typedef {import("../../wasm/simulator.mjs").Job} Job */
+/** @typedef {import("../../wasm/simulator.mjs").SimulatorJob} SimulatorJob */
 /** @typedef {import("../../wasm/simulator.mjs").SearchJob} SearchJob */
 
 /**
- * @typedef {object} Ended how a job ends
+ * @typedef {object} SimulatorResult how a job ends
  * @property {number | null} status that the program would end with; null: a signal has ended it
  * @property {string} output
  * @property {string} complaint
  */
 
-/** @typedef {Ended & { leftOut: number }} EndedSearch how many bytes of the output had no room */
+/** @typedef {SimulatorResult & { leftOut: number }} SimulatorSearchResult how many bytes of the output had no room */
 
 const FOLDER = new URL("../../wasm/", import.meta.url);
 
@@ -82,9 +82,9 @@ export class ModuleSimulator {
   }
 
   /**
-   * @param {Job} job
+   * @param {SimulatorJob} job
    * @param {string} input
-   * @returns {Ended}
+   * @returns {SimulatorResult}
    * @throws {Error} if the module stops in the middle, or can't be compiled
    */
   run(job, input) {
@@ -97,7 +97,7 @@ export class ModuleSimulator {
    * @param {SearchJob} job
    * @param {string} input
    * @param {number} room how many bytes the output may have
-   * @returns {EndedSearch}
+   * @returns {SimulatorSearchResult}
    * @throws {Error} as above
    */
   search(job, input, room) {

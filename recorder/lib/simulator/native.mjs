@@ -3,10 +3,10 @@
 import { spawn, spawnSync } from "node:child_process";
 import { accessSync, constants, statSync } from "node:fs";
 
-/** @typedef {import("./module.mjs").Job} Job */
-/** @typedef {import("./module.mjs").Ended} Ended */
+/** @typedef {import("./module.mjs").SimulatorJob} SimulatorJob */
+/** @typedef {import("./module.mjs").SimulatorResult} SimulatorResult */
 /** @typedef {import("./module.mjs").SearchJob} SearchJob */
-/** @typedef {import("./module.mjs").EndedSearch} EndedSearch */
+/** @typedef {import("./module.mjs").SimulatorSearchResult} SimulatorSearchResult */
 
 // The longest report has 100,000 lines, and the bytes of four blocks; the longest trace has a million lines.
 const MOST_OUTPUT = 2 ** 26;
@@ -18,7 +18,7 @@ const REFUSED_WORDS = 2;
 /** The program isn't there, or can't be run. */
 export class NoSabsim extends Error {}
 
-/** @param {Job} job @returns {string[]} the words that ask the program for it */
+/** @param {SimulatorJob} job @returns {string[]} the words that ask the program for it */
 function wordsOf({ job, format, acts = false }) {
   const [command, ...kind] = job.split("-");
   const chosen = format === undefined ? [] : ["--format", format];
@@ -46,9 +46,9 @@ export class NativeSimulator {
   prepare() {}
 
   /**
-   * @param {Job} job
+   * @param {SimulatorJob} job
    * @param {string} input
-   * @returns {Ended}
+   * @returns {SimulatorResult}
    * @throws {NoSabsim}
    */
   run(job, input) {
@@ -62,7 +62,7 @@ export class NativeSimulator {
    * @param {SearchJob} job
    * @param {string} input
    * @param {AbortSignal} [signal] ends the program
-   * @returns {Promise<EndedSearch>}
+   * @returns {Promise<SimulatorSearchResult>}
    * @throws {NoSabsim}
    */
   async search({ timeouts, limit, format = "plain" }, input, signal) {
@@ -86,7 +86,7 @@ export class NativeSimulator {
     return new NoSabsim(`${this.path} can't do ${job}, so it is older than the recorder: ${complaint.trim()}`);
   }
 
-  /** @param {string[]} words @param {string} input @returns {Ended} */
+  /** @param {string[]} words @param {string} input @returns {SimulatorResult} */
   #ended(words, input) {
     const encoding = /** @type {const} */ ("utf8");
     const options = { input, encoding, maxBuffer: MOST_OUTPUT, timeout: MOST_MILLISECONDS };

@@ -3,7 +3,7 @@
 
 import { dataOf } from "../every/data.mjs";
 import { Every } from "../every/every.mjs";
-import { everyText } from "../every/text.mjs";
+import { everyText } from "../every/every-text.mjs";
 import { everyOptions } from "../library/every-schedule.mjs";
 import { RunFailed } from "./run-failed.cjs";
 

@@ -3,10 +3,10 @@
 
 import { Views } from "../../page/elements.mjs";
 import { Stepper } from "../../page/steps.mjs";
-import { pageData } from "../keeping/page.mjs";
+import { pageData } from "../keeping/kept-page.mjs";
 
-/** @typedef {import("../library/recorder.mjs").Outcome} Outcome */
-/** @typedef {import("../simulator/chosen.mjs").Simulator} Simulator */
+/** @typedef {import("../library/record-runs.mjs").RecordedOutcome} RecordedOutcome */
+/** @typedef {import("../simulator/chosen.mjs").ChosenSimulator} ChosenSimulator */
 
 /** @typedef {{ at: number, text: string, isMarked: boolean }} Act with its number among the steps of the run */
 
@@ -22,8 +22,8 @@ const MOST_CHARACTERS = 160;
 const NO_MOVE = "-";
 
 /**
- * @param {Outcome} outcome of the run
- * @param {{ simulator: Simulator, module: string }} about with the URL of the agents' module
+ * @param {RecordedOutcome} outcome of the run
+ * @param {{ simulator: ChosenSimulator, module: string }} about with the URL of the agents' module
  * @returns {string[]} a title, the acts, and then the bytes and how far each agent came; none if there is no script, or
  * the simulator can't replay it
  */
@@ -42,8 +42,8 @@ export function lastActs(outcome, { simulator, module }) {
 }
 
 /**
- * @param {Simulator} simulator
- * @param {Outcome} outcome
+ * @param {ChosenSimulator} simulator
+ * @param {RecordedOutcome} outcome
  * @param {"explained" | "json"} format
  * @returns {string | undefined} undefined if there is no script, or it can't be replayed
  */

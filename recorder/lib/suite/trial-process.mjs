@@ -5,14 +5,14 @@ import { RunFailed } from "./run-failed.cjs";
 import { tried } from "./trial.mjs";
 
 /**
- * @typedef {object} Asked
+ * @typedef {object} TrialRequest
  * @property {import("./trial.mjs").AnyTrialOptions} options
  * @property {string} [folder] from which a relative path of the module is taken
  * @property {string} [place] where the trial is asked for
  * @property {string} [name] of its test
  */
 
-/** @param {Asked} asked @returns {Promise<import("./trial-apart.cjs").Reply>} */
+/** @param {TrialRequest} asked @returns {Promise<import("./trial-apart.cjs").Reply>} */
 async function replyTo({ options, folder, place, name }) {
   try {
     return { end: "passed", text: await tried(options, { folder: () => folder, place, name }) };

@@ -1,24 +1,24 @@
 // A trial of a module of agents, or of a program, in somebody's test suite: it fails if a run fails.
 
 import { resolve } from "node:path";
-import { OnlyByTime, onlyByTimeLines } from "../command/only-by-time.mjs";
+import { OnlyByTimeWaits, onlyByTimeLines } from "../command/only-by-time.mjs";
 import { isExpected, messageOf } from "../command/problems.mjs";
 import { howMade } from "../keeping/how-made.mjs";
-import { Keeper, missingFiles } from "../keeping/keep.mjs";
+import { RunStore, missingFiles } from "../keeping/run-store.mjs";
 import { keepProgram } from "../keeping/kept-program.mjs";
 import { keepPictures, notesOn } from "../keeping/pictures.mjs";
 import { runsOf } from "../library/explore.mjs";
 import { checkedOwn } from "../library/library-options.mjs";
 import { needFittingAll } from "../options/of-all.mjs";
 import { comesBefore } from "../run/order.mjs";
-import { counted, digits } from "../run/words.mjs";
+import { countText, digits } from "../run/summary-words.mjs";
 import { rememberingText } from "../seeds/first-again.mjs";
 import { simulatorAt } from "../simulator/chosen.mjs";
-import { failureText } from "./failure.mjs";
+import { failureText } from "./failure-text.mjs";
 import { keptFolder } from "./kept-folder.mjs";
 import { RunFailed, stackOf } from "./run-failed.cjs";
 
-/** @typedef {import("../library/recorder.mjs").Outcome} Outcome */
+/** @typedef {import("../library/record-runs.mjs").RecordedOutcome} RecordedOutcome */
 /** @typedef {import("../seeds/runs.mjs").Runs} Runs */
 /** @typedef {import("../library/library-options.mjs").TrialOptions} TrialOptions */
 /** @typedef {import("../library/library-options.mjs").ProgramTrialOptions} ProgramTrialOptions */
@@ -32,9 +32,9 @@ class Passed {
   unchecked = "";
   /** @type {Set<string>} what agents used that isn't recorded */
   used = new Set();
-  onlyByTime = new OnlyByTime();
+  onlyByTime = new OnlyByTimeWaits();
 
-  /** @param {Outcome} outcome of a run that passed */
+  /** @param {RecordedOutcome} outcome of a run that passed */
   add(outcome) {
     this.count += 1;
     if (outcome.checked) this.checked += 1;
@@ -49,7 +49,7 @@ class Passed {
     const checks = checked > 0 ? `${digits(checked)} checked by the simulator` : `none checked: ${unchecked}`;
     const used = [...this.used].join(", ");
     const unseen = used === "" ? [] : [`agents used what isn't recorded, which is allowed: ${used}`];
-    const line = [`${counted(this.count, "run")} passed, ${checks}`, ...unseen, ...besides].join("; ");
+    const line = [`${countText(this.count, "run")} passed, ${checks}`, ...unseen, ...besides].join("; ");
     return [line, ...onlyByTimeLines(this.onlyByTime.data(), this.count)].join("\n");
   }
 }
@@ -89,7 +89,10 @@ async function passedOf(given, caller) {
   }
   needFittingAll(options, (name) => `\`${name}\``, false);
   const passed = new Passed();
-  /** @type {{ outcome: Outcome, before: number } | undefined} the first failing run, and how many passed before it */
+  /**
+   * @type {{ outcome: RecordedOutcome, before: number } | undefined} the first failing run, and how many passed before
+   * it
+   */
   let first;
   /** @type {string[]} */
   let besides = [];
@@ -119,7 +122,7 @@ async function rememberingLines(runs) {
 /**
  * What is reported about a run that fails, and what can't be kept or explained.
  * @param {Runs} runs
- * @param {Outcome} failing
+ * @param {RecordedOutcome} failing
  * @param {number} passed how many runs of lower seeds passed
  * @param {{ out?: string, shorten: boolean, caller: Caller }} about
  * @returns {Promise<string>}
@@ -147,15 +150,16 @@ function testOf({ name, place = "" }) {
 
 /**
  * Keeps a run.
- * @param {{ failing: Outcome, outcome: Outcome }} runs the one that has failed, and the shortest that fails so
+ * @param {{ failing: RecordedOutcome, outcome: RecordedOutcome }} runs the one that has failed, and the shortest that
+ * fails so
  * @param {Runs["options"]} options of the runs
  * @param {() => string} folder where
- * @param {import("../simulator/chosen.mjs").Simulator} simulator
+ * @param {import("../simulator/chosen.mjs").ChosenSimulator} simulator
  * @returns {string[]} which files are where, and which aren't kept
  */
 function keptLines({ failing, outcome }, options, folder, simulator) {
   try {
-    const keeper = new Keeper(resolve(folder()), "`out`");
+    const keeper = new RunStore(resolve(folder()), "`out`");
     keeper.keepFirst(failing);
     if (outcome !== failing) keeper.keepShortest(failing, outcome);
     const noRow = keepProgram(keeper, outcome, options);

@@ -33,7 +33,8 @@ import { Timeline } from "./timeline.mjs";
 /** @typedef {import("./script.mjs").Call} Call */
 
 /**
- * @typedef {import("../../script/report.mjs").Entry & { isOfEngine: boolean }} Entry what a move did, and who says so
+ * @typedef {import("../../script/report.mjs").EntryText & { isOfEngine: boolean }} Entry what a move did, and who says
+ * so
  */
 
 /** @typedef {{ entries: Entry[], blocks: Uint8Array[], returned: number[] }} Outcome */

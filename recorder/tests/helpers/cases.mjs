@@ -5,7 +5,7 @@ import { Job } from "../../lib/seeds/job.mjs";
 import { CASE_WORD } from "./case-word.mjs";
 import { CHECKER } from "./needs.mjs";
 
-/** @typedef {import("../../lib/seeds/job.mjs").Checked} Checked */
+/** @typedef {import("../../lib/seeds/job.mjs").CheckedOutcome} CheckedOutcome */
 
 export class Cases {
   /** @type {Job | undefined} undefined: it isn't there yet, or a run has broken it */
@@ -29,7 +29,7 @@ export class Cases {
   /**
    * Tries the cases one after the other.
    * @param {number} count how many
-   * @returns {Promise<Checked[]>} the outcome of each, when the workers have ended
+   * @returns {Promise<CheckedOutcome[]>} the outcome of each, when the workers have ended
    */
   async outcomesOfAll(count) {
     try {
@@ -39,7 +39,10 @@ export class Cases {
     }
   }
 
-  /** @param {number} at which case @returns {Promise<Checked>} the outcome of its run, checked by the simulator */
+  /**
+   * @param {number} at which case
+   * @returns {Promise<CheckedOutcome>} the outcome of its run, checked by the simulator
+   */
   outcomeOf(at) {
     const outcome = this.#rest.then(() => this.#tried(at));
     this.#rest = outcome.catch(() => {});
@@ -52,10 +55,10 @@ export class Cases {
     await this.#job?.close();
   }
 
-  /** @param {number} at @returns {Promise<Checked>} */
+  /** @param {number} at @returns {Promise<CheckedOutcome>} */
   async #tried(at) {
     this.#at = at;
-    /** @type {Checked[]} */
+    /** @type {CheckedOutcome[]} */
     const outcomes = [];
     try {
       await this.#opened();

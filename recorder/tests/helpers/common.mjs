@@ -1,6 +1,6 @@
 // What the tests share.
 
-import { execFile } from "node:child_process";
+import { execFile, spawnSync } from "node:child_process";
 import { mkdtempSync, readFileSync, readdirSync, rmSync, writeFileSync } from "node:fs";
 import { tmpdir } from "node:os";
 import { join } from "node:path";
@@ -18,16 +18,50 @@ export const agentsPath = (name) => fileURLToPath(new URL(`../agents/${name}.mjs
 /** The command line's program. */
 export const RECORD = fileURLToPath(new URL("../../record.mjs", import.meta.url));
 
+/** @typedef {{ status: number, stdout: string, stderr: string }} Ended */
+
 /**
- * Runs the command line in a process of its own.
+ * Runs the command line in a process of its own, beside others.
  * @param {string[]} words
- * @returns {Promise<{ status: number, stdout: string, stderr: string }>}
+ * @param {object} [options] of execFile
+ * @returns {Promise<Ended>}
  */
-export const commandThere = (words) => new Promise((done) => {
-  execFile(process.execPath, [RECORD, ...words], (error, stdout, stderr) => {
+export const commandThere = (words, options = {}) => new Promise((done) => {
+  execFile(process.execPath, [RECORD, ...words], options, (error, stdout, stderr) => {
     done({ status: Number(error?.code ?? 0), stdout, stderr });
   });
 });
+
+/**
+ * Runs node to its end, while nothing else goes on here.
+ * @param {string[]} words
+ * @param {object} [options] of spawnSync
+ * @returns {Ended}
+ */
+export function nodeNow(words, options = {}) {
+  const { status, stdout, stderr } = spawnSync(process.execPath, words, { encoding: "utf8", ...options });
+  return { status, stdout, stderr };
+}
+
+/**
+ * Runs the command line so.
+ * @param {string[]} words
+ * @param {object} [options]
+ */
+export const commandNow = (words, options) => nodeNow([RECORD, ...words], options);
+
+/**
+ * What a process prints, and how it ends.
+ * @param {import("node:child_process").ChildProcess} child
+ * @returns {Promise<Ended & { signal: string | null }>}
+ */
+export function endOf(child) {
+  const texts = { stdout: "", stderr: "" };
+  for (const name of ["stdout", "stderr"]) child[name].setEncoding("utf8").on("data", (text) => (texts[name] += text));
+  return new Promise((done) => {
+    child.on("close", (status, signal) => done({ ...texts, status, signal }));
+  });
+}
 
 /**
  * Records one of the cases of `agents/cases.mjs`; without a check unless it is asked for. With `everywhere` no pilots
@@ -63,6 +97,23 @@ export function agentsOf(folder, body) {
   writeFileSync(path, `export default function agent({ buffers, agent, agents, args }) {\n${body}\n}\n`);
   return path;
 }
+
+/**
+ * Writes a whole module of agents, into a folder of its own.
+ * @param {import("node:test").TestContext} test
+ * @param {string} text
+ * @returns {string} its path
+ */
+export function moduleOf(test, text) {
+  const path = join(temporaryFolder(test), "agents.mjs");
+  writeFileSync(path, text);
+  return path;
+}
+
+/** A module of two agents, each of which adds 1. */
+export const COUNTS = `export const setup = { agents: 2, buffers: [4] };
+export default ({ buffers }) => void Atomics.add(new Int32Array(buffers[0]), 0, 1);
+`;
 
 /** The processes whose environment has a word, which all children of a process inherit. */
 export function processesWith(word) {

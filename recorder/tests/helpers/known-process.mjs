@@ -2,13 +2,13 @@
 // for a program, and no outcome goes from process to process. What it is asked for is in `known.test.mjs`.
 
 import { checkedBy } from "../../lib/check/check.mjs";
-import { Repeats } from "../../lib/check/repeats.mjs";
+import { CheckedRuns } from "../../lib/check/checked-runs.mjs";
 import { Group } from "../../lib/run/group.mjs";
 import { simulatorAt } from "../../lib/simulator/chosen.mjs";
 import { CHECKER } from "./needs.mjs";
 import { lasting } from "./recorded.mjs";
 
-/** @typedef {import("../../lib/seeds/job.mjs").Checked} Checked */
+/** @typedef {import("../../lib/seeds/job.mjs").CheckedOutcome} CheckedOutcome */
 /** @typedef {import("../../lib/run/outcome.mjs").Aside} Aside */
 /** @typedef {import("../../lib/run/outcome.mjs").Judgement} Judgement */
 
@@ -32,22 +32,25 @@ import { lasting } from "./recorded.mjs";
  * @property {string | undefined} noScript
  */
 
-/** @typedef {{ outcome: Checked, judgement: Judgement, stray: Aside["stray"] }} Judged all that is known of a run */
+/**
+ * @typedef {{ outcome: CheckedOutcome, judgement: Judgement, divergence: Aside["divergence"] }} Judged all that is
+ * known of a run
+ */
 
-/** @param {Checked} outcome @returns {Made} */
+/** @param {CheckedOutcome} outcome @returns {Made} */
 const madeOf = ({ seed, ending, races, bytes, checked, scriptHolds, noScript }) =>
   ({ seed, ending, races: races.map(({ lines }) => lines), isWhole: bytes !== undefined, checked, scriptHolds,
     noScript });
 
-/** @param {Checked} outcome @param {Judgement} judgement @param {Aside} aside @returns {Judged} */
-const judgedOf = (outcome, judgement, { stray }) => ({ outcome, judgement: lasting(judgement), stray });
+/** @param {CheckedOutcome} outcome @param {Judgement} judgement @param {Aside} aside @returns {Judged} */
+const judgedOf = (outcome, judgement, { divergence }) => ({ outcome, judgement: lasting(judgement), divergence });
 
 /** The runs of a program. */
 class Runs {
   #simulator = simulatorAt(CHECKER);
 
   // The native program is asked about each run.
-  #repeats = CHECKER === undefined ? new Repeats() : undefined;
+  #repeats = CHECKER === undefined ? new CheckedRuns() : undefined;
 
   /** @param {Group} group @param {number} every */
   constructor(group, every) {
@@ -58,8 +61,8 @@ class Runs {
   /**
    * Makes runs, checks them, and makes something of each.
    * @template Kept
-   * @param {import("../../lib/run/outcome.mjs").Wanted[]} wanted
-   * @param {(outcome: Checked, judgement: Judgement, aside: Aside) => Kept} keep
+   * @param {import("../../lib/run/outcome.mjs").WantedRun[]} wanted
+   * @param {(outcome: CheckedOutcome, judgement: Judgement, aside: Aside) => Kept} keep
    * @returns {Promise<Kept[]>}
    */
   async made(wanted, keep) {

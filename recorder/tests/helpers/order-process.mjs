@@ -3,7 +3,7 @@
 
 import { writeSync } from "node:fs";
 import { defaultsOf } from "../../lib/options/table.mjs";
-import { ProgramGroup } from "../../lib/program/group.mjs";
+import { ProgramGroup } from "../../lib/program/program-group.mjs";
 
 const [seeds, own, ...urls] = process.argv.slice(2);
 

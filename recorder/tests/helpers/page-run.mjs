@@ -1,6 +1,6 @@
 // What the tests of pages share: a run by hand.
 
-import { pageData } from "../../lib/keeping/page.mjs";
+import { pageData } from "../../lib/keeping/kept-page.mjs";
 import { Run } from "../../page/model.mjs";
 
 // Agent 0 puts a byte into a slot and hands on a word; agent 1 waits for it, and takes the byte. Then agent 1 waits

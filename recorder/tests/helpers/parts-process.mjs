@@ -2,10 +2,10 @@
 // loop is simple: a task, else an immediate, else a timer, else the clock goes on. Prints each run's lines as JSON.
 
 import util from "node:util";
-import { putAllTwins } from "../../lib/program/all-twins.mjs";
+import { putAllSyncVersions } from "../../lib/program/all-sync-versions.mjs";
 import { ProgramModules } from "../../lib/program/program-modules.mjs";
 import { turnLater } from "../../lib/program/real-loop.mjs";
-import { refuseRest } from "../../lib/program/surface.mjs";
+import { refuseRest } from "../../lib/program/node-api-policy.mjs";
 import { Timers } from "../../lib/program/timers.mjs";
 
 const [url, runs] = process.argv.slice(2);
@@ -20,7 +20,7 @@ const refuse = (name) => { throw new Error(`refused: ${name}`); };
 const own = new Timers({ now: () => now });
 const graph = new ProgramModules({ refuse: () => {} });
 refuseRest({ refuse, isPlaying });
-putAllTwins({ isPlaying, later: (name, act) => tasks.push(act) });
+putAllSyncVersions({ isPlaying, later: (name, act) => tasks.push(act) });
 
 /** @returns {boolean} whether there was anything to do */
 function step() {

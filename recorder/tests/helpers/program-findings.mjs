@@ -3,7 +3,7 @@
 
 import { checkedBy } from "../../lib/check/check.mjs";
 import { defaultsOf } from "../../lib/options/table.mjs";
-import { ProgramGroup } from "../../lib/program/group.mjs";
+import { ProgramGroup } from "../../lib/program/program-group.mjs";
 import { simulatorAt } from "../../lib/simulator/chosen.mjs";
 import { placesOf, urlOf } from "../programs/table.mjs";
 import { CHECKER } from "./needs.mjs";

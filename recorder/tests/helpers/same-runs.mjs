@@ -1,7 +1,7 @@
 // All that is known of runs of the table's programs: the programs are run one after the other, in the same threads.
 
 import { defaultsOf } from "../../lib/options/table.mjs";
-import { ProgramGroup } from "../../lib/program/group.mjs";
+import { ProgramGroup } from "../../lib/program/program-group.mjs";
 import { PROGRAMS, urlOf } from "../programs/table.mjs";
 
 /** Places in the code are named from here, whichever program comes first. */

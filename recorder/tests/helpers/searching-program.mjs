@@ -4,7 +4,7 @@
 
 import { readFileSync } from "node:fs";
 import { statusOf } from "../../lib/every/search/lines.mjs";
-import { searched } from "../../lib/every/search/second.mjs";
+import { searched } from "../../lib/every/search/searched-file.mjs";
 import { linesOf } from "./search-lines.mjs";
 
 const [command, , timeouts, , limit] = process.argv.slice(2);

@@ -1,6 +1,11 @@
 // A slow judge of a trace, written from the definitions alone (crates/sab_judge/specs; ECMA-262, Memory Model): all
 // pairs of events, each looked at by itself. It shares nothing with the recorder's detector, nor with sabsim's judge.
 
+/** The members of each event of a trace, in their order. */
+export const MEMBERS = [
+  "event", "agent", "call", "does", "block", "byte", "size", "read", "write", "atomic", "waiters", "source",
+];
+
 /**
  * @typedef {object} Event a line of a trace (docs/FORMATS.md, A trace of the recorder)
  * @property {number} agent

@@ -1,6 +1,8 @@
 // The files of tests: which of them a command line asks for, and in which order they begin.
 
-import { readdirSync } from "node:fs";
+import { mkdirSync, readFileSync, readdirSync, writeFileSync } from "node:fs";
+import { homedir } from "node:os";
+import { dirname, isAbsolute, join } from "node:path";
 import { fileURLToPath } from "node:url";
 import { parseArgs } from "node:util";
 import { nearest } from "../../lib/options/nearest.mjs";
@@ -8,26 +10,42 @@ import { nearest } from "../../lib/options/nearest.mjs";
 const FOLDER = fileURLToPath(new URL("../", import.meta.url));
 const ENDING = ".test.mjs";
 
-// The files that take the most processor time begin first, so that none of them is left alone at the end.
-const SLOWEST = [
-  "programs-known", "known", "page-schedule", "program", "realm", "jobs", "explore", "seeds", "race-programs",
-  "programs-in-node", "timed", "program-real", "pilots", "examples", "program-threads", "program-web", "shards",
-  "wrong", "runs", "program-replay", "program-same", "rows", "checks", "first-again", "program-beyond", "judge",
-  "bench", "program-windows", "catches-all", "shorter", "library", "program-library", "program-exact",
-  "program-helpers", "judged", "program-pilots", "written", "testing", "program-again", "program-wasm",
-  "referee-thread", "unseen", "conversions", "engine", "spins", "unrecorded", "program-output", "replay",
-  "program-strategy", "simulator", "races", "schedule",
-].map((name) => `${name}${ENDING}`);
+/** The folders that have the files. docs/ARCHITECTURE.md says which tests are in which one. */
+const LAYERS = ["unit", "runs", "programs", "pages", "documents"];
+
+/** The file of the user's cache that has how many seconds each file of tests took the last time. */
+const { XDG_CACHE_HOME: CACHE = "" } = process.env;
+const SECONDS = join(isAbsolute(CACHE) ? CACHE : join(homedir(), ".cache"), "sabsim/test-seconds.json");
+
+/** @returns {Record<string, number>} how many seconds files took the last time, as far as that is known */
+function secondsKept() {
+  try {
+    return JSON.parse(readFileSync(SECONDS, "utf8"));
+  } catch {
+    return {};
+  }
+}
+
+/** What counts while this process runs. */
+const LAST = secondsKept();
+
+/** Keeps how many seconds files took. @param {{ name: string, seconds: number }[]} results */
+export function keepSeconds(results) {
+  const took = Object.fromEntries(results.map(({ name, seconds }) => [name, seconds]));
+  try {
+    mkdirSync(dirname(SECONDS), { recursive: true });
+    writeFileSync(SECONDS, JSON.stringify({ ...secondsKept(), ...took }));
+  } catch {
+    // The next time they begin in another order, and nothing else is different.
+  }
+}
 
 /**
- * The files that start no thread and no process, if they aren't given the built program. Without it each is run so that
+ * Whether a file starts no thread and no process, if it isn't given the built program. Without it each is run so that
  * node itself refuses both.
+ * @param {string} name
  */
-export const UNIT = new Set([
-  "changed-traces", "copied-runs", "deadlines", "final-state", "known-calls", "layers", "nearest", "options",
-  "outbox", "page-changed", "page-model", "patience", "questions", "races", "remote-job", "schedule",
-  "simulator", "sizes", "strategy", "summary", "values",
-].map((name) => `${name}${ENDING}`));
+export const isUnitTest = (name) => name.startsWith("unit/");
 
 /** By these options node refuses threads and processes, and nothing else that tests do. */
 const PERMISSION = ["--permission", "--experimental-permission"]
@@ -43,11 +61,13 @@ export class Mistaken extends Error {}
 /** The options, by their names, in the form that node takes. */
 const OPTIONS = /** @type {const} */ ({ unit: { type: "boolean" }, "require-all": { type: "boolean" } });
 
-/** The names of all files, in the order in which they begin. */
-export function namesOfAll() {
-  const names = readdirSync(FOLDER).filter((name) => name.endsWith(ENDING)).sort();
-  return [...SLOWEST, ...names.filter((name) => !SLOWEST.includes(name))];
-}
+/** What a file took the last time; one that wasn't run yet may take long. @param {string} name */
+const lastOf = (name) => LAST[name] ?? Number.MAX_VALUE;
+
+/** The names of all files, with their folders. Those that took longest begin first, so that none is left alone. */
+export const namesOfAll = () => LAYERS.flatMap((layer) => {
+  return readdirSync(join(FOLDER, layer)).filter((name) => name.endsWith(ENDING)).map((name) => `${layer}/${name}`);
+}).sort().sort((a, b) => lastOf(b) - lastOf(a));
 
 /** @param {string} word an option that there isn't */
 function mistakenOption(word) {
@@ -74,7 +94,7 @@ export function askedBy(args) {
     given.add(token.name);
   }
   const isUnit = given.has("unit");
-  if (isUnit) names = names.filter((name) => UNIT.has(name));
+  if (isUnit) names = names.filter(isUnitTest);
   const among = isUnit ? "name of a file that starts no thread and no process" : "name of a file";
   for (const word of words) {
     if (names.some((name) => name.includes(word))) continue;

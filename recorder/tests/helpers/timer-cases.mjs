@@ -134,12 +134,13 @@ cases["a stuck program names what keeps each thread alive, with its place"] = ()
   own.setImmediate(() => {});
   own.setImmediate(() => {}).unref();
   const where = "main.mjs:1:2";
-  assert.deepEqual(timers2.keepers(), [
+  assert.deepEqual(timers2.liveHandles(), [
     { text: "an interval of 3 ms", where }, { text: "a timer of 7 ms", where }, { text: "an immediate", where },
   ]);
   assert.equal(timers2.alive, true);
   timers2.clear();
-  assert.deepEqual([timers2.alive, timers2.keepers(), timers2.deadline, timers2.immediates], [false, [], Infinity, 0]);
+  const { alive, deadline, immediates } = timers2;
+  assert.deepEqual([alive, timers2.liveHandles(), deadline, immediates], [false, [], Infinity, 0]);
 };
 
 cases["nothing keeps a thread alive once its timers have run, were cleared, or are unref'd"] = () => {

@@ -1,6 +1,7 @@
 // Runs of whole programs that tests write. Each outcome has all its parts, and the simulator checks it. The programs of
 // a test's process are run in the same threads, one after the other, from files of the same folder.
 
+import assert from "node:assert/strict";
 import { mkdirSync, mkdtempSync, rmSync, writeFileSync } from "node:fs";
 import { tmpdir } from "node:os";
 import { dirname, join } from "node:path";
@@ -8,7 +9,7 @@ import { after } from "node:test";
 import { pathToFileURL } from "node:url";
 import { checkedBy } from "../../lib/check/check.mjs";
 import { defaultsOf } from "../../lib/options/table.mjs";
-import { ProgramGroup } from "../../lib/program/group.mjs";
+import { ProgramGroup } from "../../lib/program/program-group.mjs";
 import { keepsGlobals } from "../../lib/seeds/first-again.mjs";
 import { simulatorAt } from "../../lib/simulator/chosen.mjs";
 import { temporaryFolder } from "./common.mjs";
@@ -111,4 +112,22 @@ export function runsOf(_context, files, { seeds = [1], args = [], options = {} }
   const threads = all.get(key) ?? new Threads(options);
   all.set(key, threads);
   return threads.runs(files, { seeds, args });
+}
+
+/** Runs a program that finishes with each seed. @type {typeof runsOf} */
+export async function finishing(context, files, how) {
+  const outcomes = await runsOf(context, files, how);
+  assert.deepEqual(endingsOf(outcomes), ["finished: "]);
+  return outcomes;
+}
+
+/**
+ * Runs a program that races with each seed.
+ * @param {Parameters<typeof runsOf>} given
+ * @returns {Promise<string[][][]>} the lines of each run's races
+ */
+export async function racing(...given) {
+  const outcomes = await runsOf(...given);
+  assert.deepEqual([...new Set(outcomes.map(({ ending }) => ending))], ["race"]);
+  return outcomes.map(({ races }) => races.map(({ lines }) => lines));
 }

@@ -2,9 +2,9 @@
 // receiver's species makes another one.
 
 import { TypedArray, uncurried } from "../../primordials.mjs";
-import { elementOf, needsComparator, needsFunction, positionOf, wholeOf } from "./numbers.mjs";
+import { elementOf, needsComparator, needsFunction, positionOf, wholeOf } from "./argument-conversions.mjs";
 import { answered, partOf } from "./species.mjs";
-import { copied, read, setElements, written } from "./stretches.mjs";
+import { copiedElements, readElement, setElements, writtenElements } from "./element-ranges.mjs";
 import { ENGINE } from "./watched.mjs";
 
 const { RangeError: EngineRangeError } = globalThis;
@@ -31,7 +31,7 @@ export const ANSWERING = {
     const { length } = watched;
     const made = answered(watched, self, length);
     for (let index = 0; index < length; index += 1) {
-      made[index] = call(callback, thisArgument, read(watched, index), index, self);
+      made[index] = call(callback, thisArgument, readElement(watched, index), index, self);
     }
     return made;
   },
@@ -41,7 +41,7 @@ export const ANSWERING = {
     const chosen = new ENGINE[watched.kind](length);
     let count = 0;
     for (let index = 0; index < length; index += 1) {
-      const value = read(watched, index);
+      const value = readElement(watched, index);
       if (!call(callback, thisArgument, value, index, self)) continue;
       chosen[count] = value;
       count += 1;
@@ -54,7 +54,7 @@ export const ANSWERING = {
     const to = positionOf(end, length, length);
     const count = from < to ? to - from : 0;
     const made = answered(watched, self, count);
-    if (count > 0) written(made, copied(watched, from, to));
+    if (count > 0) writtenElements(made, copiedElements(watched, from, to));
     return made;
   },
   subarray(watched, self, begin, end) {
@@ -63,10 +63,10 @@ export const ANSWERING = {
     const to = positionOf(end, length, length);
     return partOf(watched, self, [buffer, offset + from * size, from < to ? to - from : 0]);
   },
-  toReversed: (watched) => reverseElements(copied(watched, 0, watched.length)),
+  toReversed: (watched) => reverseElements(copiedElements(watched, 0, watched.length)),
   toSorted(watched, _self, comparator) {
     needsComparator(comparator);
-    return sortElements(copied(watched, 0, watched.length), comparator);
+    return sortElements(copiedElements(watched, 0, watched.length), comparator);
   },
   with(watched, _self, position, value) {
     const { length, kind, big } = watched;
@@ -75,9 +75,9 @@ export const ANSWERING = {
     const element = elementOf(big, value);
     if (!(index >= 0 && index < length)) throw new EngineRangeError("Invalid typed array index");
     const made = new ENGINE[kind](length);
-    setElements(made, copied(watched, 0, index), 0);
+    setElements(made, copiedElements(watched, 0, index), 0);
     made[index] = element;
-    setElements(made, copied(watched, index + 1, length), index + 1);
+    setElements(made, copiedElements(watched, index + 1, length), index + 1);
     return made;
   },
 };

@@ -7,9 +7,9 @@ import {
 } from "../../primordials.mjs";
 import { ANSWERING } from "./answering.mjs";
 import { blockNumber, memoryNumber, refused } from "./context.mjs";
-import { lastAsked, wrapped } from "./elements.mjs";
+import { lastAsked, wrapped } from "./watched-elements.mjs";
 import { constructing, madePrivate } from "./guards.mjs";
-import { needsFunction } from "./numbers.mjs";
+import { needsFunction } from "./argument-conversions.mjs";
 import { forWatched, methodOf, replace, replaceGetter } from "./patch.mjs";
 import { READING } from "./reading.mjs";
 import { arrayBy, standIns } from "./species.mjs";
@@ -110,11 +110,11 @@ function replaceStatics() {
     if (typeof self !== "function") return apply(engine, self, given);
     if (mapper !== undefined) needsFunction(mapper);
     return filledBy(self, call(arrayFrom, EngineArray, given[0]), mapper, given[2]);
-  }));
+  }, engine));
   replace(TypedArray, "of", (engine) => methodOf((self, values) => {
     if (isStandIn(self) || typeof self !== "function") return apply(engine, self, values);
     return filledBy(self, values, undefined, undefined);
-  }));
+  }, engine));
 }
 
 /**
@@ -222,7 +222,7 @@ function replaceSeal() {
     const value = given[0];
     engine(watchedOf(value)?.real ?? value);
     return value;
-  }));
+  }, engine));
 }
 
 /** Patches the typed arrays of this realm. */

@@ -4,9 +4,9 @@
 import { KINDS } from "../../../script/kinds.mjs";
 import { apply, bufferOf, lengthOf, offsetOf, put, setPrototypeOf, tagOf, uncurried } from "../../primordials.mjs";
 import { blockNumber, refused, watching } from "./context.mjs";
-import { wrappedArray } from "./elements.mjs";
+import { wrappedArray } from "./watched-elements.mjs";
 import { constructing, copying, looking, madePrivate } from "./guards.mjs";
-import { wholeOf } from "./numbers.mjs";
+import { wholeOf } from "./argument-conversions.mjs";
 import { methodOf, replace, replaceEach } from "./patch.mjs";
 import { privateView } from "./reach.mjs";
 import { standIns } from "./species.mjs";
@@ -20,7 +20,7 @@ const { trunc } = Math;
 const custom = Symbol.for("nodejs.util.inspect.custom");
 const setBytes = uncurried(EngineBytes.prototype.set);
 
-/** @typedef {import("./patch.mjs").Standing} Standing */
+/** @typedef {import("./patch.mjs").StandInMaker} StandInMaker */
 /** @typedef {import("./watched.mjs").Watched} Watched */
 
 const WORDS = ["ascii", "base64", "base64url", "latin1", "hex", "ucs2", "utf8"];
@@ -73,7 +73,7 @@ const forBytes = (engine, method, otherwise = engine) => methodOf((self, given) 
   if (watched === undefined) return apply(otherwise, self, given);
   if (watched.size > 1) refused(`Buffer's ${engine.name} was called for an array of larger elements`);
   return method(engine, watched, given, self);
-});
+}, engine);
 
 /**
  * Writes a stretch of a private Buffer into a watched one, at the same place; reported as written.
@@ -169,7 +169,7 @@ function copiedTo(engine, source, target, targetStart, sourceStart, sourceEnd) {
   return apply(engine, unwrapped(source), [unwrapped(target), to, from, end]);
 }
 
-/** @type {Standing} a method that only reads, of its receiver and of what it is given */
+/** @type {StandInMaker} a method that only reads, of its receiver and of what it is given */
 const reading = (engine) => methodOf((self, given) => {
   if (watchedOf(self) === undefined) return apply(engine, self, madePrivate(given));
   /** @type {unknown[]} */
@@ -178,9 +178,9 @@ const reading = (engine) => methodOf((self, given) => {
   const made = madePrivate(all);
   for (let at = 0; at < given.length; at += 1) given[at] = made[at + 1];
   return apply(engine, made[0], given);
-});
+}, engine);
 
-/** @type {Standing} a method that returns another Buffer on the same memory */
+/** @type {StandInMaker} a method that returns another Buffer on the same memory */
 const sharingSlice = (engine) => methodOf((self, given) => {
   const watched = watchedOf(self);
   if (watched === undefined) return apply(engine, self, given);
@@ -189,7 +189,7 @@ const sharingSlice = (engine) => methodOf((self, given) => {
   const part = watchedOf(made);
   if (part !== undefined) part.buffer = watched.buffer;
   return made;
-});
+}, engine);
 
 /** @type {(size: number) => (engine: Function) => Function} */
 const swapping = (size) => (engine) => forBytes(engine, (_engine, watched, _given, self) => {
@@ -203,13 +203,13 @@ const swapping = (size) => (engine) => forBytes(engine, (_engine, watched, _give
 /** @type {BytesMethod} how node shows a Buffer: that of a private copy */
 const shown = (engine, watched, given) => apply(engine, privateView(watched), given);
 
-/** @type {Standing} */
+/** @type {StandInMaker} */
 const copyingTo = (engine) => methodOf((self, given) => {
   if (watchedOf(self) === undefined && watchedOf(given[0]) === undefined) return apply(engine, self, given);
   return copiedTo(engine, self, given[0], given[1], given[2], given[3]);
-});
+}, engine);
 
-/** @type {Standing} `fill` of a private Buffer may be given a watched one */
+/** @type {StandInMaker} `fill` of a private Buffer may be given a watched one */
 const filling = (engine) => forBytes(engine, filled, copying(engine));
 
 function replaceMethods() {
@@ -234,7 +234,7 @@ function replaceMethods() {
 function replaceStatics(module) {
   replace(EngineBuffer, "from", (engine) => methodOf((self, given) => {
     return wrappedArray(apply(engine, self, blockNumber(given[0]) < 0 ? madePrivate(given) : given));
-  }));
+  }, engine));
   replaceEach(EngineBuffer, ["alloc", "compare", "concat", "copyBytesFrom"], copying);
   replace(EngineBuffer, "byteLength", looking);
   replaceEach(module, ["transcode", "isUtf8", "isAscii"], copying);

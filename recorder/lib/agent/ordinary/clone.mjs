@@ -4,11 +4,11 @@
 import { apply, tagOf } from "../../primordials.mjs";
 import { learn, memoryNumber, originalOf, refused } from "./context.mjs";
 import { wrappedView } from "./data-view.mjs";
-import { wrapped } from "./elements.mjs";
+import { wrapped } from "./watched-elements.mjs";
 import { revealed } from "./guards.mjs";
 import { methodOf, replaceNeeded } from "./patch.mjs";
 import { WHOLLY, isRecorded, isWatched, reaches } from "./reach.mjs";
-import { recordedIn } from "./threads.mjs";
+import { recordedIn } from "./given-to-threads.mjs";
 import { anyWatchedOf } from "./watched.mjs";
 
 /**
@@ -36,7 +36,7 @@ export function watchCloning() {
       refused("structuredClone was given an object that holds recorded memory");
     }
     return apply(engine, undefined, revealed(given));
-  }));
+  }, engine));
 }
 
 /** Patches what clones values in a realm whose arrays are the engine's own. */
@@ -49,5 +49,5 @@ export function learnClones() {
     const clones = engine(together, given[1]);
     for (let at = 0; at < buffers.length; at += 1) learn(clones[1 + at], buffers[at]);
     return clones[0];
-  }));
+  }, engine));
 }

@@ -6,7 +6,7 @@ import { weakGet, weakSet } from "../../primordials.mjs";
 export const OTHER = 2 ** 30 - 1;
 
 /**
- * @typedef {object} Place what memory a watched array is on; one object for each watched array, made once
+ * @typedef {object} WatchedPlace what memory a watched array is on; one object for each watched array, made once
  * @property {number} block position of the recorded buffer
  * @property {number} kind its number in KINDS, KINDS.length for a DataView, KINDS.length + 1 for a whole buffer
  * @property {number} offset byteOffset of the view
@@ -17,11 +17,13 @@ export const OTHER = 2 ** 30 - 1;
 /**
  * @typedef {object} Watching
  * @property {(buffer: unknown) => number} blockOf position among the recorded buffers, or -1
- * @property {(place: Place, from: number, to: number, writes: boolean) => void} seen gets bytes of the block before
+ * @property {(place: WatchedPlace, from: number, to: number, writes: boolean) => void} seen gets bytes of the block
+ * before
  *   they are read or written; it may throw, and then nothing was done
- * @property {(place: Place) => void} [lengthAsked] gets an array on a buffer that grows before its length is asked for
- * @property {(buffer: unknown) => boolean} [isOther] whether a buffer is shared memory that isn't recorded
- * @property {(memory: object) => void} [seenOther] gets such memory before it is read or written
+ * @property {(place: WatchedPlace) => void} [lengthAsked] gets an array on a buffer that grows before its length is
+ * asked for
+ * @property {(buffer: unknown) => boolean} [isUnrecorded] whether a buffer is shared memory that isn't recorded
+ * @property {(memory: object) => void} [seenUnrecorded] gets such memory before it is read or written
  * @property {(memory: object) => void} [copied] gets new memory with a copy of bytes, which is no memory of the
  * program's
  * @property {(called: Function) => boolean} [isCalledByAgents] whether their code has called a function, and not node
@@ -34,8 +36,8 @@ export const watching = {
   blockOf: () => -1,
   seen: () => {},
   lengthAsked: () => {},
-  isOther: () => false,
-  seenOther: () => {},
+  isUnrecorded: () => false,
+  seenUnrecorded: () => {},
   copied: () => {},
   isCalledByAgents: () => true,
   given: () => {},
@@ -79,7 +81,7 @@ export function blockNumber(buffer) {
  */
 export function memoryNumber(buffer) {
   const block = blockNumber(buffer);
-  return block < 0 && watching.isOther(originalOf(/** @type {object} */ (buffer))) ? OTHER : block;
+  return block < 0 && watching.isUnrecorded(originalOf(/** @type {object} */ (buffer))) ? OTHER : block;
 }
 
 let hasOthers = false;
@@ -94,7 +96,7 @@ export function reportOthers() {
   const { seen } = watching;
   watching.seen = (place, from, to, writes) => {
     if (place.memory === undefined) seen(place, from, to, writes);
-    else watching.seenOther(place.memory);
+    else watching.seenUnrecorded(place.memory);
   };
 }
 

@@ -6,7 +6,7 @@ import {
   uncurried, viewBufferOf, viewLengthOf, viewOffsetOf,
 } from "../../primordials.mjs";
 import { memoryNumber, refused } from "./context.mjs";
-import { byteIndexOf, elementOf } from "./numbers.mjs";
+import { byteIndexOf, elementOf } from "./argument-conversions.mjs";
 import { methodOf, replace, replaceGetter } from "./patch.mjs";
 import { askedLength, registerView, report, viewOn, watchedView } from "./watched.mjs";
 
@@ -111,7 +111,7 @@ function refuseOthers() {
     replace(views, name, (engine) => methodOf((self, given) => {
       if (watchedView(self) !== undefined) refused(`${engine.name} of a DataView was called`);
       return apply(engine, self, given);
-    }));
+    }, engine));
   }
 }
 

@@ -7,7 +7,7 @@ import { methodOf } from "./patch.mjs";
 import { REVEALING, SHALLOW, WHOLLY, isRecorded, mirrored, reaches } from "./reach.mjs";
 import { anyWatchedOf, reportAll, unwrapped } from "./watched.mjs";
 
-/** @typedef {import("./patch.mjs").Standing} Standing */
+/** @typedef {import("./patch.mjs").StandInMaker} StandInMaker */
 
 const EngineMap = Map;
 
@@ -50,11 +50,11 @@ export function madePrivate(given, depth = WHOLLY) {
   return given;
 }
 
-/** @type {Standing} private copies are given, which are reported as reads */
-export const copying = (engine) => methodOf((self, given) => apply(engine, self, madePrivate(given)));
+/** @type {StandInMaker} private copies are given, which are reported as reads */
+export const copying = (engine) => methodOf((self, given) => apply(engine, self, madePrivate(given)), engine);
 
-/** @type {Standing} the same for what is given itself, if that may be any object */
-export const copyingGiven = (engine) => methodOf((self, given) => apply(engine, self, madePrivate(given, 0)));
+/** @type {StandInMaker} the same for what is given itself, if that may be any object */
+export const copyingGiven = (engine) => methodOf((self, given) => apply(engine, self, madePrivate(given, 0)), engine);
 
 /**
  * What a function writes: the engine's own array, reported as written. A list has several.
@@ -74,7 +74,7 @@ function eachWritable(list) {
   return made;
 }
 
-/** @type {Standing} the engine's own array is given, which is reported as written, or a list of such */
+/** @type {StandInMaker} the engine's own array is given, which is reported as written, or a list of such */
 export const writing = (engine) => methodOf((self, given) => {
   if (!anyReaches(given, SHALLOW)) return apply(engine, self, given);
   const reals = [];
@@ -87,25 +87,25 @@ export const writing = (engine) => methodOf((self, given) => {
     if (answer === reals[at]) return given[at];
   }
   return answer;
-});
+}, engine);
 
-/** @type {Standing} the engine's own arrays are given, and nothing of them is read */
+/** @type {StandInMaker} the engine's own arrays are given, and nothing of them is read */
 export const looking = (engine) => methodOf((self, given) => {
   for (let at = 0; at < given.length; at += 1) given[at] = unwrapped(given[at]);
   return apply(engine, self, given);
-});
+}, engine);
 
 /**
  * Ends the run if recorded memory is given.
  * @param {string} what the function is called
  * @param {number} [depth]
  * @param {boolean} [suspicious]
- * @returns {Standing}
+ * @returns {StandInMaker}
  */
 export const refusing = (what, depth = SHALLOW, suspicious = false) => (engine) => methodOf((self, given) => {
   if (anyReaches(given, depth, suspicious, isRecorded)) refused(`${what} was given recorded memory`);
   return apply(engine, self, revealed(given));
-});
+}, engine);
 
 /**
  * A class whose constructor is given something else, or nothing.

@@ -48,10 +48,10 @@ function looksThrough(given, place, format) {
   return typeof given[format] === "string" && includes(given[format], "%o");
 }
 
-/** @type {(place: number, format: number) => import("./patch.mjs").Standing} */
+/** @type {(place: number, format: number) => import("./patch.mjs").StandInMaker} */
 const showing = (place, format) => (engine) => methodOf((self, given) => {
   return apply(engine, self, looksThrough(given, place, format) ? madePrivate(given) : given);
-});
+}, engine);
 
 const PRINTING = ["log", "info", "debug", "warn", "error", "trace", "group", "groupCollapsed"];
 

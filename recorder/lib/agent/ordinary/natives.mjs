@@ -21,7 +21,7 @@ import { methodOf, replace, replaceEach, replaceNeeded } from "./patch.mjs";
 import { WHOLLY } from "./reach.mjs";
 import { report, unwrapped, watchedOf } from "./watched.mjs";
 
-/** @typedef {import("./patch.mjs").Standing} Standing */
+/** @typedef {import("./patch.mjs").StandInMaker} StandInMaker */
 
 const startsWith = uncurried(String.prototype.startsWith);
 const EngineBytes = Uint8Array;
@@ -131,7 +131,7 @@ function watchAssertions() {
   }
 }
 
-/** @type {Standing} a try in a private array shows how many bytes a text takes, so that those alone are reported */
+/** @type {StandInMaker} a try in a private array shows how many bytes a text takes, so that those alone are reported */
 const encodingInto = (engine) => methodOf((self, given) => {
   const text = given[0];
   const target = given[1];
@@ -144,7 +144,7 @@ const encodingInto = (engine) => methodOf((self, given) => {
   report(watched, 0, written, true);
   setBytes(watched.real, subarray(bytes, 0, written), 0);
   return answer;
-});
+}, engine);
 
 function watchTexts() {
   replaceNeeded(TextDecoder.prototype, "decode", copying);

@@ -1,11 +1,25 @@
-// Puts functions in the place of the engine's own.
+// Puts functions and other members in the place of the engine's own, and of node's. Nothing else does.
 
 import {
-  apply, copyProperty, defineProperty, getOwnPropertyDescriptor, likeEngine, ownKeys, put,
+  apply, copyProperty, defineProperty, getOwnPropertyDescriptor, is, likeEngine, ownKeys, put,
 } from "../../primordials.mjs";
 import { watchedOf } from "./watched.mjs";
 
 const { Error: EngineError } = globalThis;
+
+/**
+ * @param {Function} stand
+ * @param {Function} engine
+ * @param {string | symbol} key
+ * @returns {boolean} whether both have the same value there, as functions have their names and lengths
+ */
+function isAlike(stand, engine, key) {
+  const has = getOwnPropertyDescriptor(stand, key);
+  const wanted = getOwnPropertyDescriptor(engine, key);
+  return has !== undefined && wanted !== undefined && is(has.value, wanted.value) && wanted.get === undefined
+    && has.writable === wanted.writable && has.enumerable === wanted.enumerable
+    && has.configurable === wanted.configurable;
+}
 
 /**
  * Gives a function all that the function has for which it stands: name, length, and what node keeps there.
@@ -15,7 +29,8 @@ const { Error: EngineError } = globalThis;
 function dressed(stand, engine) {
   const keys = ownKeys(engine);
   for (let at = 0; at < keys.length; at += 1) {
-    if (keys[at] !== "prototype") copyProperty(stand, engine, keys[at]);
+    const key = keys[at];
+    if (key !== "prototype" && !isAlike(stand, engine, key)) copyProperty(stand, engine, key);
   }
   return stand;
 }
@@ -72,19 +87,61 @@ export function replaceGetter(owner, name, make) {
   defineProperty(owner, name, found);
 }
 
-/** @typedef {(engine: Function) => Function} Standing what stands for a function of the engine */
+/**
+ * Gives an owner another member. It is listed as before; a new one is listed, as node's are.
+ * @param {object} owner
+ * @param {string | symbol} name
+ * @param {unknown} value
+ */
+export function member(owner, name, value) {
+  const enumerable = getOwnPropertyDescriptor(owner, name)?.enumerable ?? true;
+  defineProperty(owner, name, { value, writable: true, enumerable, configurable: true });
+}
+
+/**
+ * Remembers which members some objects list. ES modules have what a module of node's lists.
+ * @param {any[]} owners
+ * @returns {() => void} lists them again, if they were replaced by others that aren't
+ */
+export function listingOf(owners) {
+  const names = owners.map((owner) => Object.keys(owner));
+  return () => owners.forEach((owner, at) => {
+    for (const name of names[at]) {
+      const found = getOwnPropertyDescriptor(owner, name);
+      if (found !== undefined && !found.enumerable) defineProperty(owner, name, { ...found, enumerable: true });
+    }
+  });
+}
+
+/** @typedef {(engine: Function) => Function} StandInMaker what stands for a function of the engine */
+
+/** @typedef {(self: any, given: any) => unknown} Body of a method: it gets the arguments as a list */
+
+/**
+ * What makes a method, by how many parameters it has. The engine gives it its name and length as it makes it: giving it
+ * others later takes several times as long, for hundreds of functions in each thread.
+ * @type {((name: string, body: Body) => Record<string, (...given: any[]) => unknown>)[]}
+ */
+const MAKING = [
+  (name, body) => ({ [name]() { return body(this, arguments); } }),
+  (name, body) => ({ [name](_first) { return body(this, arguments); } }),
+  (name, body) => ({ [name](_first, _second) { return body(this, arguments); } }),
+  (name, body) => ({ [name](_first, _second, _third) { return body(this, arguments); } }),
+  (name, body) => ({ [name](_first, _second, _third, _fourth) { return body(this, arguments); } }),
+  (name, body) => ({ [name](_first, _second, _third, _fourth, _fifth) { return body(this, arguments); } }),
+  (name, body) => ({ [name](_first, _second, _third, _fourth, _fifth, _sixth) { return body(this, arguments); } }),
+];
 
 /**
  * A method, which can't be constructed, as the engine's own can't.
- * @param {(self: any, given: any[]) => unknown} body
+ * @param {Body} body
+ * @param {Function} engine the function for which it stands, whose name and length it gets
  * @returns {Function}
  */
-export const methodOf = (body) => ({
-  /** @param {any[]} given */
-  method(...given) {
-    return body(this, given);
-  },
-}).method;
+export function methodOf(body, engine) {
+  const { length, name } = engine;
+  return (MAKING[length] ?? MAKING[0])(name, body)[name];
+}
 
 /**
  * @callback WatchedMethod a method of typed arrays, for a watched one

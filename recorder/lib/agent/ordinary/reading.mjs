@@ -2,9 +2,9 @@
 // agents' code can come between is reported by itself; else those of a stretch are reported together.
 
 import { TypedArray, uncurried } from "../../primordials.mjs";
-import { listed } from "./elements.mjs";
-import { needsFunction, positionOf, wholeOf } from "./numbers.mjs";
-import { copied, read } from "./stretches.mjs";
+import { arrayLikeOf } from "./watched-elements.mjs";
+import { needsFunction, positionOf, wholeOf } from "./argument-conversions.mjs";
+import { copiedElements, readElement } from "./element-ranges.mjs";
 
 /** @typedef {import("./watched.mjs").WatchedArray} WatchedArray */
 
@@ -31,7 +31,7 @@ function sought(watched, self, callback, thisArgument, wanted) {
   needsFunction(callback);
   const { length } = watched;
   for (let index = 0; index < length; index += 1) {
-    if (!!call(callback, thisArgument, read(watched, index), index, self) === wanted) return index;
+    if (!!call(callback, thisArgument, readElement(watched, index), index, self) === wanted) return index;
   }
   return -1;
 }
@@ -49,7 +49,7 @@ function found(watched, self, callback, thisArgument, step) {
   needsFunction(callback);
   const { length } = watched;
   for (let index = step > 0 ? 0 : length - 1; index >= 0 && index < length; index += step) {
-    const value = read(watched, index);
+    const value = readElement(watched, index);
     if (call(callback, thisArgument, value, index, self)) return { index, value };
   }
   return { index: -1, value: undefined };
@@ -71,11 +71,11 @@ function reduced(watched, self, callback, first, count, step) {
   let value = first;
   if (count < 2) {
     if (length === 0) throw new EngineTypeError("Reduce of empty array with no initial value");
-    value = read(watched, index);
+    value = readElement(watched, index);
     index += step;
   }
   for (; index >= 0 && index < length; index += step) {
-    value = call(callback, undefined, value, read(watched, index), index, self);
+    value = call(callback, undefined, value, readElement(watched, index), index, self);
   }
   return value;
 }
@@ -98,7 +98,7 @@ function firstEqual(watched, value, position, equals) {
   const { length } = watched;
   if (length === 0) return -1;
   for (let index = positionOf(position, length, 0); index < length; index += 1) {
-    if (equals(read(watched, index), value)) return index;
+    if (equals(readElement(watched, index), value)) return index;
   }
   return -1;
 }
@@ -108,7 +108,7 @@ export const READING = {
   at(watched, _self, position) {
     const whole = wholeOf(position);
     const index = whole < 0 ? watched.length + whole : whole;
-    return index >= 0 && index < watched.length ? read(watched, index) : undefined;
+    return index >= 0 && index < watched.length ? readElement(watched, index) : undefined;
   },
   every: (watched, self, callback, thisArgument) => sought(watched, self, callback, thisArgument, false) < 0,
   some: (watched, self, callback, thisArgument) => sought(watched, self, callback, thisArgument, true) >= 0,
@@ -119,7 +119,9 @@ export const READING = {
   forEach(watched, self, callback, thisArgument) {
     needsFunction(callback);
     const { length } = watched;
-    for (let index = 0; index < length; index += 1) call(callback, thisArgument, read(watched, index), index, self);
+    for (let index = 0; index < length; index += 1) {
+      call(callback, thisArgument, readElement(watched, index), index, self);
+    }
   },
   includes: (watched, _self, value, position) => firstEqual(watched, value, position, sameOrNaN) >= 0,
   indexOf: (watched, _self, value, position) => firstEqual(watched, value, position, same),
@@ -128,18 +130,18 @@ export const READING = {
     if (length === 0) return -1;
     const from = count > 1 ? wholeOf(position) : length - 1;
     for (let index = from < 0 ? length + from : min(from, length - 1); index >= 0; index -= 1) {
-      if (read(watched, index) === value) return index;
+      if (readElement(watched, index) === value) return index;
     }
     return -1;
   },
   reduce: (watched, self, callback, first, _third, count) => reduced(watched, self, callback, first, count, 1),
   reduceRight: (watched, self, callback, first, _third, count) => reduced(watched, self, callback, first, count, -1),
-  keys: (watched) => keysOf(listed(watched)),
-  values: (watched) => valuesOf(listed(watched)),
-  entries: (watched) => entriesOf(listed(watched)),
+  keys: (watched) => keysOf(arrayLikeOf(watched)),
+  values: (watched) => valuesOf(arrayLikeOf(watched)),
+  entries: (watched) => entriesOf(arrayLikeOf(watched)),
   join(watched, _self, separator) {
     const between = separator === undefined ? "," : `${separator}`;
-    return joinElements(copied(watched, 0, watched.length), between);
+    return joinElements(copiedElements(watched, 0, watched.length), between);
   },
   /** @type {import("./patch.mjs").WatchedMethod} */
   toLocaleString(watched, _self, locales, options) {
@@ -147,7 +149,7 @@ export const READING = {
     let joined = "";
     for (let index = 0; index < length; index += 1) {
       if (index > 0) joined += ",";
-      joined += `${read(watched, index).toLocaleString(locales, options)}`;
+      joined += `${readElement(watched, index).toLocaleString(locales, options)}`;
     }
     return joined;
   },

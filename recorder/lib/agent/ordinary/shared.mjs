@@ -2,7 +2,7 @@
 
 import { construct, sharedLengthOf, uncurried } from "../../primordials.mjs";
 import { blockNumber, watching } from "./context.mjs";
-import { positionOf } from "./numbers.mjs";
+import { positionOf } from "./argument-conversions.mjs";
 import { methodOf, replaceNeeded } from "./patch.mjs";
 import { WHOLE_BUFFER, unwrapped } from "./watched.mjs";
 
@@ -53,7 +53,7 @@ function reportBytes(buffer, from, to, writes) {
 
 /** Patches what there is of shared buffers in this realm. */
 export function watchBuffers() {
-  replaceNeeded(EngineShared.prototype, "slice", () => methodOf((self, given) => {
+  replaceNeeded(EngineShared.prototype, "slice", (engine) => methodOf((self, given) => {
     const length = sharedLengthOf(self);
     const from = positionOf(given[0], length, 0);
     const to = positionOf(given[1], length, length);
@@ -64,6 +64,6 @@ export function watchBuffers() {
     reportBytes(made, 0, count, true);
     setElements(new EngineBytes(made), new EngineBytes(self, from, count));
     return made;
-  }));
+  }, engine));
   replaceNeeded(ArrayBuffer, "isView", (engine) => (/** @type {unknown} */ value) => engine(unwrapped(value)));
 }

@@ -12,7 +12,7 @@ import { watchDataView } from "./data-view.mjs";
 import { watchInspection } from "./inspect.mjs";
 import { watchNatives } from "./natives.mjs";
 import { watchBuffers } from "./shared.mjs";
-import { watchThreads } from "./threads.mjs";
+import { watchThreads } from "./given-to-threads.mjs";
 
 /**
  * Patches this realm's globals and node's modules. It is called once, before any of the agents' code is loaded.

@@ -55,7 +55,7 @@ class Marked extends Same {
 export class Watched {
   /**
    * @param {any} real the engine's own; the kind says what type its elements have
-   * @param {import("./context.mjs").Place} place
+   * @param {import("./context.mjs").WatchedPlace} place
    * @param {number} size bytes of an element
    */
   constructor(real, place, size) {
@@ -117,7 +117,7 @@ export function askedLength(watched) {
 
 /**
  * What memory an array is on.
- * @param {import("./context.mjs").Place} place
+ * @param {import("./context.mjs").WatchedPlace} place
  * @param {object} buffer
  */
 function placed(place, buffer) {
@@ -130,7 +130,7 @@ function placed(place, buffer) {
  * @template {Watched} Kept
  * @param {object} real one of the typed arrays
  * @param {number} block
- * @param {{ new (real: any, place: import("./context.mjs").Place, size: number): Kept }} Kind what is made of it
+ * @param {{ new (real: any, place: import("./context.mjs").WatchedPlace, size: number): Kept }} Kind what is made of it
  */
 export function arrayOn(real, block, Kind) {
   const kind = kindNumbers[tagOf(real)];

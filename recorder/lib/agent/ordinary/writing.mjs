@@ -2,9 +2,9 @@
 // what is accessed is reported first.
 
 import { lengthOf, tagOf, TypedArray, uncurried } from "../../primordials.mjs";
-import { elementOf, lengthFrom, needsComparator, needsObject, positionOf, wholeOf } from "./numbers.mjs";
+import { elementOf, lengthFrom, needsComparator, needsObject, positionOf, wholeOf } from "./argument-conversions.mjs";
 import { hasBigs } from "./species.mjs";
-import { copied, setElements } from "./stretches.mjs";
+import { copiedElements, setElements } from "./element-ranges.mjs";
 import { report, reportAll, unwrapped, watchedOf } from "./watched.mjs";
 
 const { TypeError: EngineTypeError, RangeError: EngineRangeError, Object: toObject } = globalThis;
@@ -53,7 +53,7 @@ export const WRITING = {
   },
   sort(watched, self, comparator) {
     needsComparator(comparator);
-    const sorted = sortElements(copied(watched, 0, watched.length), comparator);
+    const sorted = sortElements(copiedElements(watched, 0, watched.length), comparator);
     reportAll(watched, true);
     setElements(watched.real, sorted, 0);
     return self;

@@ -1,10 +1,10 @@
 // What a strategy is: a class that is made of parts and a likelihood, and draws who moves next.
 
 /**
- * @typedef {object} Parts what a strategy may draw by
+ * @typedef {object} StrategyInputs what a strategy may draw by
  * @property {Int32Array} words of the board
  * @property {import("../../memory/random.mjs").Random} random
- * @property {import("./asked.mjs").Asked} asked what agents ask for, and which of it conflicts
+ * @property {import("./pending-accesses.mjs").PendingAccesses} asked what agents ask for, and which of it conflicts
  * @property {number} agents how many
  */
 
@@ -15,6 +15,9 @@
  * there is one at least. The agent `last` moved last, or it is -1
  */
 
-/** @typedef {{ Kind: new (parts: Parts, likelihood: number) => Drawing, hasLikelihood: boolean }} Strategy a row */
+/**
+ * @typedef {{ Kind: new (parts: StrategyInputs, likelihood: number) => Drawing, hasLikelihood: boolean }} StrategyRow a
+ * row
+ */
 
 export {};

@@ -29,7 +29,7 @@ export class Late {
   /**
    * @param {Int32Array} words of the board
    * @param {import("../../memory/random.mjs").Random} random
-   * @param {import("./asked.mjs").Asked} asked
+   * @param {import("./pending-accesses.mjs").PendingAccesses} asked
    * @param {number} agents how many
    */
   constructor(words, random, asked, agents) {

@@ -12,7 +12,7 @@ const NONE = 0;
 const RENEWAL = 64;
 
 export class PartialOrder {
-  /** @param {import("./drawing.mjs").Parts} parts */
+  /** @param {import("./drawing.mjs").StrategyInputs} parts */
   constructor({ words, random, asked, agents }) {
     this.words = words;
     this.random = random;

@@ -1,7 +1,7 @@
 // The agent that moved last goes on as a rule; how likely it is that another one moves next is given.
 
 export class Switching {
-  /** @param {import("./drawing.mjs").Parts} parts @param {number} likelihood from 0 to 1 */
+  /** @param {import("./drawing.mjs").StrategyInputs} parts @param {number} likelihood from 0 to 1 */
   constructor({ random }, likelihood) {
     this.random = random;
     this.likelihood = likelihood;

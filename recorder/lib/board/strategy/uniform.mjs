@@ -1,7 +1,7 @@
 // All agents that can move are equally likely.
 
 export class Uniform {
-  /** @param {import("./drawing.mjs").Parts} parts */
+  /** @param {import("./drawing.mjs").StrategyInputs} parts */
   constructor({ random }) {
     this.random = random;
   }

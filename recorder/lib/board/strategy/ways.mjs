@@ -1,7 +1,7 @@
 // What `--strategy` can say: one of the strategies, or `mixed`, by which a run's seed says which it takes. And what
 // `--timeouts` can say besides a number.
 
-import { STRATEGIES } from "./table.mjs";
+import { STRATEGIES } from "./strategies.mjs";
 
 /** In place of a share of the draws: timed waits don't end by themselves. */
 export const NEVER = "never";

@@ -3,21 +3,21 @@
 
 import { workerData } from "node:worker_threads";
 import { basesOf } from "../search/file.mjs";
-import { nodeText } from "../search/text.mjs";
-import { CantLearn, isSame } from "./asked.mjs";
+import { nodeText } from "../search/node-texts.mjs";
+import { CantLearn, isSame } from "./asked-nodes.mjs";
 import { Asker } from "./asking.mjs";
-import { Graph } from "./graph.mjs";
+import { AgentModules } from "./agent-modules.mjs";
 import { Learner } from "./learner.mjs";
-import { showing } from "./progress.mjs";
+import { showing } from "./learning-progress.mjs";
 import { installRealm } from "./realm.mjs";
 
-/** @typedef {import("./report.mjs").EdgeData} EdgeData */
-/** @typedef {import("./report.mjs").From} From */
-/** @typedef {import("./report.mjs").NodeData} NodeData */
-/** @typedef {import("./asked.mjs").Asked} Asked */
+/** @typedef {import("./learning-report.mjs").EdgeData} EdgeData */
+/** @typedef {import("./learning-report.mjs").From} From */
+/** @typedef {import("./learning-report.mjs").NodeData} NodeData */
+/** @typedef {import("./asked-nodes.mjs").AskedNode} AskedNode */
 
 /**
- * @typedef {object} Given
+ * @typedef {object} AgainWorkerData
  * @property {string} module
  * @property {string[]} args
  * @property {import("../../options/plan.mjs").Plan} plan
@@ -29,7 +29,7 @@ import { installRealm } from "./realm.mjs";
  */
 
 class Again {
-  /** @param {Learner} learner @param {Given} given */
+  /** @param {Learner} learner @param {AgainWorkerData} given */
   constructor(learner, { nodes, edges }) {
     this.learner = learner;
     this.edges = edges;
@@ -71,9 +71,9 @@ class Again {
     const wanted = this.#node(to);
     const path = [...this.#historyOf(edge), { node: to, answer: undefined }];
     let at = 0;
-    /** @type {Asked | undefined} */
+    /** @type {AskedNode | undefined} */
     let last;
-    /** @param {Asked} asked */
+    /** @param {AskedNode} asked */
     const answer = (asked) => {
       last = asked;
       const { node, answer: given } = path[at];
@@ -89,12 +89,12 @@ class Again {
   }
 }
 
-/** @param {Asked} asked */
+/** @param {AskedNode} asked */
 const said = (asked) => nodeText(/** @type {any} */ (asked));
 
 /** @param {(url: string) => Promise<any>} load imports a module */
 export async function main(load) {
-  const given = /** @type {Given & { port: import("node:worker_threads").MessagePort }} */ (workerData);
+  const given = /** @type {AgainWorkerData & { port: import("node:worker_threads").MessagePort }} */ (workerData);
   const { port } = given;
   try {
     port.postMessage({ differs: await differing(given, load) });
@@ -105,7 +105,7 @@ export async function main(load) {
   port.close();
 }
 
-/** @param {Given} given @param {(url: string) => Promise<any>} load */
+/** @param {AgainWorkerData} given @param {(url: string) => Promise<any>} load */
 async function differing(given, load) {
   const { module, args, isShared, plan } = given;
   const asker = new Asker();
@@ -131,7 +131,7 @@ async function asItIs(module, load) {
 
 /** @param {string} module @returns {() => Function} its agent's function, each time of modules that begin anew */
 function madeAnew(module) {
-  const graph = new Graph(true);
+  const graph = new AgentModules(true);
   graph.take(module, true);
   return () => graph.made({}).get(module)?.default;
 }

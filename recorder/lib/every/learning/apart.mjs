@@ -3,12 +3,12 @@
 import { begunThread } from "../../processes/thread.mjs";
 import { GRAPH_FLAGS } from "../../program/graph-flags.cjs";
 import { Refused } from "../../options/refused.mjs";
-import { PART, PROGRESS } from "./progress.mjs";
+import { PART, PROGRESS } from "./learning-progress.mjs";
 
 /** @typedef {import("../../processes/thread.mjs").Thread} Thread */
-/** @typedef {import("./report.mjs").Report} Report */
+/** @typedef {import("./learning-report.mjs").LearningReport} LearningReport */
 
-const LEARNING = new URL("./worker.mjs", import.meta.url);
+const LEARNING = new URL("./learning-worker.mjs", import.meta.url);
 const AGAIN = new URL("./again-worker.mjs", import.meta.url);
 
 /** What a thread needs that uses node's parser. */
@@ -29,15 +29,15 @@ export class Unlearned extends Error {}
 export class DoesOtherwise extends Error {}
 
 /**
- * @typedef {Omit<import("./worker.mjs").Given, "progress">} Wanted
+ * @typedef {Omit<import("./learning-worker.mjs").LearningWorkerData, "progress">} ApartLearning
  */
 
 /**
  * Learns the agents of a module, and searches all their schedules.
- * @param {Wanted} wanted
+ * @param {ApartLearning} wanted
  * @param {{ seconds: number, onProgress?: (states: number) => void, signal?: AbortSignal }} how for how long an agent
  * may make no call; what ends it
- * @returns {Promise<Report>}
+ * @returns {Promise<LearningReport>}
  * @throws {Refused | Unlearned | DoesOtherwise}
  */
 export async function learnApart(wanted, { seconds, onProgress = () => {}, signal }) {
@@ -94,7 +94,7 @@ class Watch {
   }
 }
 
-/** @param {any} message of the thread @returns {Report} */
+/** @param {any} message of the thread @returns {LearningReport} */
 function reportIn({ report, refused, unlearned, differs, failed }) {
   if (refused !== undefined) throw new Refused(refused);
   if (unlearned !== undefined) throw new Unlearned(unlearned);
@@ -119,7 +119,7 @@ export function beginAgain() {
 
 /**
  * Learns each edge once more, in the code as it is written.
- * @param {Omit<import("./again-worker.mjs").Given, "progress">} given
+ * @param {Omit<import("./again-worker.mjs").AgainWorkerData, "progress">} given
  * @param {{ seconds?: number, thread?: Thread }} how for how long an agent may make no call; one that was begun for it
  * @returns {Promise<string | undefined>} how it differs
  */

@@ -1,20 +1,20 @@
 // Answers what an agent asks for while its function is called alone: by its history, as far as that goes. What it asks
 // for next is handed on, and then it is broken off, or gets a further answer.
 
-import { answerOfRead, bytesOfRead } from "../search/elements.mjs";
+import { answerOfRead, bytesOfRead } from "../search/raw-elements.mjs";
 import { DOES, DONE } from "../search/nodes.mjs";
-import { CantLearn, askedAccess, askedCall, returned } from "./asked.mjs";
+import { CantLearn, askedAccess, askedCall, returned } from "./asked-nodes.mjs";
 import { hadOtherNext } from "./iterators.mjs";
-import { PART } from "./progress.mjs";
+import { PART } from "./learning-progress.mjs";
 
 /** @typedef {import("../search/nodes.mjs").Node} Node */
 /** @typedef {import("../search/nodes.mjs").Answer} Answer */
-/** @typedef {import("./asked.mjs").Asked} Asked */
+/** @typedef {import("./asked-nodes.mjs").AskedNode} AskedNode */
 
 /**
  * One call of an agent's function.
- * @typedef {object} Run
- * @property {(asked: Asked) => Answer | undefined} answer what the agent is answered; undefined: it is broken off
+ * @typedef {object} AgentAnswers
+ * @property {(asked: AskedNode) => Answer | undefined} answer what the agent is answered; undefined: it is broken off
  */
 
 // These are watched when the agents' code is there.
@@ -58,7 +58,7 @@ export class Asker {
     this.views = [];
     /** @type {Uint8Array[]} */
     this.bytes = [];
-    /** @type {Run | undefined} */
+    /** @type {AgentAnswers | undefined} */
     this.run = undefined;
     this.isBroken = false;
     this.caught = 0;
@@ -104,7 +104,7 @@ export class Asker {
 
   /**
    * Calls a function.
-   * @param {Run} run
+   * @param {AgentAnswers} run
    * @param {() => unknown} body
    * @returns {{ isBroken: boolean, result?: unknown, thrown?: unknown, hasThrown: boolean }}
    * @throws {CantLearn}
@@ -159,10 +159,14 @@ export class Asker {
     throw BROKEN;
   }
 
-  /** @param {Asked} asked @param {string} [line] where it is, if the agent isn't there any more @returns {Answer} */
+  /**
+   * @param {AskedNode} asked
+   * @param {string} [line] where it is, if the agent isn't there any more
+   * @returns {Answer}
+   */
   #ask(asked, line) {
     this.askedAt = line;
-    const answer = /** @type {Run} */ (this.run).answer(asked);
+    const answer = /** @type {AgentAnswers} */ (this.run).answer(asked);
     return answer ?? this.#breakOff();
   }
 
@@ -214,7 +218,7 @@ export class Asker {
 
 /**
  * What an ordinary access finds in some bytes, which it may change.
- * @param {Asked} asked
+ * @param {AskedNode} asked
  * @param {Uint8Array} bytes of all blocks
  * @returns {Answer}
  */

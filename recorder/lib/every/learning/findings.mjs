@@ -4,7 +4,7 @@
 import { DOES } from "../search/nodes.mjs";
 import { endingHere } from "../search/result.mjs";
 import { shortestTo } from "../search/shortest.mjs";
-import { PART } from "./progress.mjs";
+import { PART } from "./learning-progress.mjs";
 import { problemOf } from "./thrown.mjs";
 
 /** @typedef {import("../search/nodes.mjs").Node} Node */
@@ -27,8 +27,8 @@ import { problemOf } from "./thrown.mjs";
  */
 
 /**
- * @typedef {{ key: string, kind: FindingKind, text: string, next?: number[] }} Here something in a state; who acts next
- * to show it
+ * @typedef {{ key: string, kind: FindingKind, text: string, next?: number[] }} StateFinding something in a state; who
+ * acts next to show it
  */
 
 const MOST_LINES = 400;
@@ -61,7 +61,7 @@ export class Findings {
     this.#check();
     this.#findLines();
     const { search } = this;
-    /** @type {Map<string, Here & { states: number }>} */
+    /** @type {Map<string, StateFinding & { states: number }>} */
     const found = new Map();
     const depth = search.isClosed ? Infinity : search.depths.items[search.expanded];
     if (!this.#hasAny()) return [];
@@ -107,12 +107,12 @@ export class Findings {
     for (const node of [...nodes].slice(0, MOST_LINES)) this.lines.set(node, this.learned.learner.lineOf(node));
   }
 
-  /** @param {number} state @returns {Here[]} what it has, each once */
+  /** @param {number} state @returns {StateFinding[]} what it has, each once */
   #at(state) {
     const { kinds, search, search: { world } } = this;
     world.load(state);
     const { texts, isDeadlock, isFinal } = endingHere(search);
-    /** @type {Here[]} */
+    /** @type {StateFinding[]} */
     const here = [...texts].map((text) => ({ key: `threw ${plain(text)}`, kind: "threw", text }));
     if (isDeadlock) here.push(this.#deadlock());
     const problem = isFinal ? this.problems.get(world.memory) : undefined;
@@ -122,7 +122,7 @@ export class Findings {
     return here;
   }
 
-  /** @returns {Here} */
+  /** @returns {StateFinding} */
   #deadlock() {
     const { world } = this.search;
     const waits = world.nodes.filter(({ does }) => does === DOES.WAIT);
@@ -130,9 +130,9 @@ export class Findings {
     return { key: `deadlock ${places.join(" ")}`, kind: "deadlock", text: "" };
   }
 
-  /** @returns {Here[]} */
+  /** @returns {StateFinding[]} */
   #races() {
-    /** @type {Map<string, Here>} */
+    /** @type {Map<string, StateFinding>} */
     const found = new Map();
     const { nodes } = this.search.world;
     for (const { one, other, agents } of this.kinds.pairsHere().values()) {
@@ -145,13 +145,13 @@ export class Findings {
   }
 
   /**
-   * @param {Here & { states: number }} here
+   * @param {StateFinding & { states: number }} here
    * @param {import("../search/shortest.mjs").Schedule} way
    * @returns {Finding}
    */
-  #finding({ key, kind, text, states }, { state, agents, changes, isEarly }) {
+  #finding({ key, kind, text, states }, { state, agents, names, changes, isEarly }) {
     const { row, spins } = this.#wayOf(agents);
-    const next = this.#at(state).find((one) => one.key === key)?.next ?? [];
+    const next = (this.#at(state).find((one) => one.key === key)?.next ?? []).map((agent) => names[agent]);
     const goesOn = kind === "race" || kind === "no way out";
     return { kind, text, states, row: [...row, ...next], changes, acts: agents.length, isEarly, goesOn, spins };
   }
@@ -162,13 +162,12 @@ export class Findings {
    */
   #wayOf(agents) {
     const { world } = this.search;
-    world.load(0);
+    world.restart();
     const stands = () => world.nodes.some(({ isAlone }) => isAlone);
     let spins = stands();
     const row = agents.filter((agent) => {
       const isOfCall = world.nodes[agent].does < DOES.READ;
-      if (world.waits(agent)) world.timeOut(agent);
-      else world.act(agent);
+      world.step(agent);
       spins ||= stands();
       return isOfCall;
     });

@@ -4,16 +4,16 @@
 import { planOf } from "../../options/plan.mjs";
 import { basesOf } from "../search/file.mjs";
 import { Search } from "../search/search.mjs";
-import { CantLearn } from "./asked.mjs";
+import { CantLearn } from "./asked-nodes.mjs";
 import { Learner, LooksAtNumber } from "./learner.mjs";
-import { PART } from "./progress.mjs";
+import { PART } from "./learning-progress.mjs";
 import { problemOf } from "./thrown.mjs";
 
 /** @typedef {import("../search/world.mjs").Program} Program */
-/** @typedef {import("./code.mjs").Code} Code */
+/** @typedef {import("./learned-code.mjs").LearnedCode} LearnedCode */
 
 /**
- * @typedef {object} Wanted
+ * @typedef {object} LearningOptions
  * @property {string[]} args
  * @property {{ agents?: number, buffers?: number[], noBlock?: number[] }} place what the options say of the agents
  * @property {import("../search/search.mjs").Choice} timeouts
@@ -22,7 +22,7 @@ import { problemOf } from "./thrown.mjs";
  */
 
 export class Learned {
-  /** @param {Code} code @param {import("./asking.mjs").Asker} asker @param {Wanted} wanted */
+  /** @param {LearnedCode} code @param {import("./asking.mjs").Asker} asker @param {LearningOptions} wanted */
   constructor(code, asker, wanted) {
     this.code = code;
     this.asker = asker;

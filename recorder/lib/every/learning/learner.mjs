@@ -5,15 +5,15 @@ import { leftOpen } from "../../agent/answer.mjs";
 import { defineProperty } from "../../primordials.mjs";
 import { CantShow } from "../state/walk.mjs";
 import { DONE, DOES, isCall, nodeOf } from "../search/nodes.mjs";
-import { nodeText } from "../search/text.mjs";
-import { CantLearn, askedEnd, isSame, keyOf } from "./asked.mjs";
+import { nodeText } from "../search/node-texts.mjs";
+import { CantLearn, askedEnd, isSame, keyOf } from "./asked-nodes.mjs";
 import { accessed, cantText } from "./asking.mjs";
-import { PART } from "./progress.mjs";
+import { PART } from "./learning-progress.mjs";
 import { namesRewritten, thrownText } from "./thrown.mjs";
 
 /** @typedef {import("../search/nodes.mjs").Node} Node */
 /** @typedef {import("../search/nodes.mjs").Answer} Answer */
-/** @typedef {import("./asked.mjs").Asked} Asked */
+/** @typedef {import("./asked-nodes.mjs").AskedNode} AskedNode */
 /** @typedef {[Node, Answer][]} History nodes on a way, and what each was answered */
 
 /** The agents look at their numbers, so each has an automaton of its own. */
@@ -38,11 +38,11 @@ const NAMES_REWRITTEN = "it throws an error whose message names code that was re
  * @property {() => Function} agentNow the agent's function, from modules that keep what they keep at first
  * @property {() => string} line where the agent that runs now asks for something
  * @property {(error: Error) => string} [lineOfError] where an error of agents was made
- * @property {(asked: Asked) => string} [key] shows the state of the agent that asks, and throws CantShow if it can't;
- * without, no two histories are one node
+ * @property {(asked: AskedNode) => string} [key] shows the state of the agent that asks, and throws CantShow if it
+ * can't; without, no two histories are one node
  */
 
-/** @typedef {{ node: Node, answer: Answer } | undefined} Origin of a node: the first edge that has led there */
+/** @typedef {{ node: Node, answer: Answer } | undefined} NodeOrigin of a node: the first edge that has led there */
 
 export class Learner {
   /**
@@ -59,7 +59,7 @@ export class Learner {
     this.key = key;
     /** @type {Node[]} of all automata */
     this.nodes = [];
-    /** @type {Map<Node, Origin>} */
+    /** @type {Map<Node, NodeOrigin>} */
     this.origins = new Map();
     /** @type {Map<string, Node>} by what is asked for and the agent's state */
     this.states = new Map();
@@ -132,7 +132,7 @@ export class Learner {
 
   /**
    * @param {number} agent
-   * @param {Origin} origin the edge, or undefined for the agent's beginning
+   * @param {NodeOrigin} origin the edge, or undefined for the agent's beginning
    * @param {Uint8Array} bytes
    * @returns {Node}
    */
@@ -149,8 +149,8 @@ export class Learner {
   /**
    * Calls the agent's function.
    * @param {number} agent
-   * @param {import("./asking.mjs").Run} run
-   * @returns {Asked | undefined} how it ended, unless it was broken off
+   * @param {import("./asking.mjs").AgentAnswers} run
+   * @returns {AskedNode | undefined} how it ended, unless it was broken off
    */
   call(agent, run) {
     const { agents, asker } = this;
@@ -163,9 +163,9 @@ export class Learner {
   }
 
   /**
-   * @param {import("./asking.mjs").Run} run
+   * @param {import("./asking.mjs").AgentAnswers} run
    * @param {() => unknown} body calls the agent's function
-   * @returns {Asked | undefined} as above
+   * @returns {AskedNode | undefined} as above
    */
   #ended(run, body) {
     const { isBroken, result, hasThrown, thrown } = this.asker.call(run, body);
@@ -187,9 +187,9 @@ export class Learner {
   /**
    * A node, which may be a known one.
    * @param {number} automaton
-   * @param {Asked} asked
+   * @param {AskedNode} asked
    * @param {string | undefined} key
-   * @param {Origin} origin
+   * @param {NodeOrigin} origin
    * @returns {{ node: Node, isNew: boolean }}
    */
   node(automaton, asked, key, origin) {
@@ -204,7 +204,7 @@ export class Learner {
 
   /**
    * @param {number} automaton
-   * @param {Asked} asked by the agent that runs now
+   * @param {AskedNode} asked by the agent that runs now
    * @returns {string | undefined} what is the same only for the same state; undefined if that can't be shown
    */
   keyOf(automaton, asked) {
@@ -225,7 +225,7 @@ class Growing {
    * @param {Learner} learner
    * @param {History} history
    * @param {number} agent
-   * @param {Origin} origin
+   * @param {NodeOrigin} origin
    * @param {Uint8Array} bytes
    */
   constructor(learner, history, agent, origin, bytes) {
@@ -247,7 +247,7 @@ class Growing {
     this.differs = undefined;
   }
 
-  /** @param {Asked} asked @returns {Answer | undefined} */
+  /** @param {AskedNode} asked @returns {Answer | undefined} */
   answer(asked) {
     if (this.at === this.history.length) return this.#grow(asked);
     const [node, answer] = this.history[this.at];
@@ -257,7 +257,7 @@ class Growing {
     return undefined;
   }
 
-  /** @param {Asked} asked */
+  /** @param {AskedNode} asked */
   #grow(asked) {
     const isOfCall = isCall(/** @type {Node} */ (asked));
     this.accesses = isOfCall ? 0 : this.accesses + 1;
@@ -275,7 +275,7 @@ class Growing {
   }
 
   /**
-   * @param {Asked} asked
+   * @param {AskedNode} asked
    * @param {boolean} isInLoop whether it is a read behind others, which may only come back to one of this call's, or to
    * one that is an act of its own
    */
@@ -310,7 +310,7 @@ class Growing {
     this.origin?.node.edges.set(this.origin.answer, node);
   }
 
-  /** @param {Asked} asked the agent's end */
+  /** @param {AskedNode} asked the agent's end */
   end(asked) {
     const { automaton, learner } = this;
     const key = `${automaton} ${keyOf(asked)}`;
@@ -337,6 +337,6 @@ class Growing {
 /** An agent that did something else with the same answers. */
 export class NotTheSame extends Error {}
 
-/** @param {number} at @param {Node} node @param {Asked} asked */
+/** @param {number} at @param {Node} node @param {AskedNode} asked */
 const differenceText = (at, node, asked) =>
   `at step ${at} ${nodeText(node)} was learned, and now it is ${nodeText(/** @type {Node} */ (asked))}`;

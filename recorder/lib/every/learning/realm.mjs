@@ -26,8 +26,8 @@ export function installRealm(asker) {
     seen: (place, from, to, writes) => {
       if (isRecording()) asker.seen(place.block, from, to, writes);
     },
-    isOther: () => false,
-    seenOther: () => {},
+    isUnrecorded: () => false,
+    seenUnrecorded: () => {},
     copied: () => {},
     isCalledByAgents: () => true,
     given: (what) => refuse(what),
@@ -67,7 +67,7 @@ class Others {
   lasting = [];
 
   /** @param {unknown} buffer */
-  isTheirs(buffer) {
+  isProgramMemory(buffer) {
     return types.isSharedArrayBuffer(buffer);
   }
 

@@ -1,7 +1,7 @@
 // What agents may use of the engine if all that they keep is to be shown: nothing that keeps something out of sight.
 
 /** @type {ReadonlySet<string>} */
-export const GLOBALS = new Set([
+export const SAFE_GLOBALS = new Set([
   "Atomics", "Int8Array", "Uint8Array", "Uint8ClampedArray", "Int16Array", "Uint16Array", "Int32Array", "Uint32Array",
   "Float16Array", "Float32Array", "Float64Array", "BigInt64Array", "BigUint64Array", "ArrayBuffer", "SharedArrayBuffer",
   "DataView", "Math", "Number", "String", "Array", "Object", "Boolean", "BigInt", "Symbol", "Map", "Set", "WeakMap",

@@ -2,7 +2,7 @@
 // something can't be shown is refused, with its line.
 
 import { Refused } from "../../options/refused.mjs";
-import { GLOBALS, NOT_CALLED, HIDDEN_MEMBERS, isAllowedUse } from "./allowed.mjs";
+import { SAFE_GLOBALS, NOT_CALLED, HIDDEN_MEMBERS, isAllowedUse } from "./allowed.mjs";
 import { Info, Scope, newId } from "./scopes.mjs";
 import { childrenOf, functionIn, isClass, isFunction, isLoop, namesIn, runsCode } from "./tree.mjs";
 import { VISITS } from "./visits.mjs";
@@ -10,7 +10,7 @@ import { VISITS } from "./visits.mjs";
 /** @typedef {import("./tree.mjs").Tree} Tree */
 /** @typedef {import("./scopes.mjs").Reference} Reference */
 
-/** @typedef {{ scope: Scope, within: Info | null }} Here where something is */
+/** @typedef {{ scope: Scope, within: Info | null }} EnclosingScope where something is */
 
 export class Analysis {
   /** @param {Tree} tree of the module @param {string} source @param {string} file as messages name it */
@@ -81,7 +81,7 @@ export class Analysis {
     return scope;
   }
 
-  /** @param {string} name @param {Tree} tree @param {Here} here @param {boolean} reads */
+  /** @param {string} name @param {Tree} tree @param {EnclosingScope} here @param {boolean} reads */
   refer(name, tree, { scope, within }, reads) {
     const reference = { name, scope, start: tree.start, end: tree.end, within, reads };
     this.references.push(reference);
@@ -96,12 +96,12 @@ export class Analysis {
     return this.byPlace.get(`${tree.start}.${tree.end}`)?.binding;
   }
 
-  /** @param {(Tree | null)[]} trees @param {Here} here */
+  /** @param {(Tree | null)[]} trees @param {EnclosingScope} here */
   visitAll(trees, here) {
     for (const tree of trees) this.visit(tree, here);
   }
 
-  /** @param {Tree | null | undefined} tree @param {Here} here */
+  /** @param {Tree | null | undefined} tree @param {EnclosingScope} here */
   visit(tree, here) {
     if (tree === null || tree === undefined) return;
     if (isFunction(tree)) this.visitFunction(tree, here);
@@ -114,7 +114,7 @@ export class Analysis {
   /**
    * A method with `super` depends on the object to which it belongs. At the top level there is one.
    * @param {Tree} tree
-   * @param {Here} here
+   * @param {EnclosingScope} here
    */
   visitSuper(tree, here) {
     this.refer("this", tree, here, true);
@@ -126,7 +126,7 @@ export class Analysis {
     for (const info of [...around, at]) info.usesSuper = true;
   }
 
-  /** @param {Tree} tree @param {Here} here */
+  /** @param {Tree} tree @param {EnclosingScope} here */
   visitFunction(tree, { scope, within }) {
     const info = new Info(newId(), tree, within);
     const own = this.newScope(tree, scope, info, "function");
@@ -147,7 +147,7 @@ export class Analysis {
     } else this.visit(tree.body, here);
   }
 
-  /** @param {Tree} tree @param {Here} here */
+  /** @param {Tree} tree @param {EnclosingScope} here */
   visitClass(tree, here) {
     this.visit(tree.superClass, here);
     if (tree.type === "ClassExpression" && tree.id) this.refuse(tree, "a class expression with a name of its own");
@@ -161,7 +161,7 @@ export class Analysis {
     for (const member of tree.body.body) this.#visitMemberOfClass(tree, member, here, { scope: own, within: info });
   }
 
-  /** @param {Tree} tree @param {Tree} member @param {Here} here @param {Here} inside */
+  /** @param {Tree} tree @param {Tree} member @param {EnclosingScope} here @param {EnclosingScope} inside */
   #visitMemberOfClass(tree, member, here, inside) {
     if (member.computed) this.visit(member.key, here);
     if (member.type === "StaticBlock") this.refuse(member, "a static block");
@@ -197,7 +197,7 @@ export class Analysis {
     if (isDerived) this.hide(info);
   }
 
-  /** @param {Tree} tree @param {Here} here */
+  /** @param {Tree} tree @param {EnclosingScope} here */
   visitLoop(tree, here) {
     if (tree.await) this.refuse(tree, "`for await`");
     const head = tree.init ?? tree.left;
@@ -221,7 +221,7 @@ export class Analysis {
     if (tree.type === "ForInStatement") this.hidden.push([tree.right.end, tree.end]);
   }
 
-  /** @param {Tree} tree @param {Here} here */
+  /** @param {Tree} tree @param {EnclosingScope} here */
   visitMember(tree, here) {
     const { object, property, computed } = tree;
     const name = computed ? property.value : property.name;
@@ -230,14 +230,14 @@ export class Analysis {
     if (computed) this.visit(property, here);
   }
 
-  /** @param {Tree} tree @param {Here} here */
+  /** @param {Tree} tree @param {EnclosingScope} here */
   visitExport(tree, here) {
     if (tree.source) this.imports.push(tree);
     else for (const { local } of tree.specifiers) this.refer(local.name, local, here, true);
     this.visit(tree.declaration, here);
   }
 
-  /** @param {Tree} tree @param {Here} here */
+  /** @param {Tree} tree @param {EnclosingScope} here */
   visitBlock(tree, { scope, within }) {
     const own = this.newScope(tree, scope, within, "block");
     own.declareLexical(tree.body);
@@ -245,7 +245,7 @@ export class Analysis {
     this.visitAll(tree.body, { scope: own, within });
   }
 
-  /** @param {Tree} tree @param {Here} here */
+  /** @param {Tree} tree @param {EnclosingScope} here */
   visitCatch(tree, { scope, within }) {
     const own = this.newScope(tree, scope, within, "catch");
     own.declareAll(tree.param, "catch");
@@ -258,7 +258,7 @@ export class Analysis {
     this.visitAll(tree.body.body, here);
   }
 
-  /** @param {Tree} tree @param {Here} here */
+  /** @param {Tree} tree @param {EnclosingScope} here */
   visitSwitch(tree, here) {
     for (const { consequent } of tree.cases) {
       for (const statement of consequent) {
@@ -270,14 +270,14 @@ export class Analysis {
     this.visitAll(childrenOf(tree), here);
   }
 
-  /** @param {Tree} tree @param {Here} here */
+  /** @param {Tree} tree @param {EnclosingScope} here */
   visitDeclarator(tree, here) {
     this.visitPattern(tree.id, here, true);
     if (tree.id.type !== "Identifier" && runsCode(tree.id)) this.hidden.push([tree.id.start, tree.id.end]);
     this.visit(tree.init, here);
   }
 
-  /** @param {Tree} tree @param {Here} here */
+  /** @param {Tree} tree @param {EnclosingScope} here */
   visitAssignment(tree, here) {
     const { left, right, operator } = tree;
     if (left.type === "Identifier") this.refer(left.name, left, here, operator !== "=");
@@ -289,7 +289,7 @@ export class Analysis {
     this.visit(right, here);
   }
 
-  /** @param {Tree} tree @param {Here} here */
+  /** @param {Tree} tree @param {EnclosingScope} here */
   visitUpdate(tree, here) {
     this.visit(tree.argument, here);
     if (tree.argument.type !== "Identifier") return;
@@ -299,7 +299,7 @@ export class Analysis {
 
   /**
    * @param {Tree | null} pattern
-   * @param {Here} here
+   * @param {EnclosingScope} here
    * @param {boolean} isDeclared whether its names are declared by it
    */
   visitPattern(pattern, here, isDeclared) {
@@ -356,7 +356,7 @@ export class Analysis {
 
   /** @param {Reference} reference to what the module doesn't bind */
   #needsAllowed({ name, start, end }) {
-    if (!GLOBALS.has(name)) this.refuse({ start }, `\`${name}\`, which isn't among the names that agents may use`);
+    if (!SAFE_GLOBALS.has(name)) this.refuse({ start }, `\`${name}\`, which isn't among the names that agents may use`);
     if (!NOT_CALLED.has(name) || isAllowedUse(this.source, name, start, end)) return;
     this.refuse({ start }, `\`${name}\` used in this way`);
   }

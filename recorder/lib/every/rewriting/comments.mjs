@@ -6,7 +6,7 @@
  * @param {number} from
  * @returns {number}
  */
-export function placeOf(source, text, from) {
+export function positionOutsideComments(source, text, from) {
   const escaped = text.replace(/[$()*+.?[\\\]^{|}]/g, "\\$&");
   const token = new RegExp(`/\\*[^]*?\\*/|//.*|${escaped}`, "g");
   token.lastIndex = from;

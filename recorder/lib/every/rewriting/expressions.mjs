@@ -1,12 +1,12 @@
 // How expressions are rewritten: what is evaluated first is kept in the frame while the rest is evaluated.
 
-import { placeOf } from "./comments.mjs";
+import { positionOutsideComments } from "./comments.mjs";
 import { engineName } from "./naming.mjs";
 import { isConstant, isMethod, isPattern, runsCode } from "./tree.mjs";
 
 /** @typedef {import("./tree.mjs").Tree} Tree */
 /** @typedef {import("./scopes.mjs").Info} Info */
-/** @typedef {import("./writer.mjs").Writer} Writer */
+/** @typedef {import("./writer.mjs").CodeWriter} CodeWriter */
 /** @typedef {import("./writer.mjs").Write} Write */
 
 /** @param {(tree: Tree) => (Tree | null)[]} operandsOf in the order of evaluation @returns {Write} */
@@ -16,7 +16,7 @@ const operands = (operandsOf) => (writer, tree, info) => {
   writer.writeAll(trees, info);
 };
 
-/** @param {Writer} writer @param {number} from @param {number} to a place with values that aren't shown */
+/** @param {CodeWriter} writer @param {number} from @param {number} to a place with values that aren't shown */
 const hide = ({ analysis }, from, to) => void analysis.hidden.push([from, to]);
 
 /** @type {Record<string, Write>} by the types of trees */
@@ -63,7 +63,7 @@ export const EXPRESSIONS = {
 
 /**
  * What goes through a spread argument would be called at the place of the whole call: it is gone through before that.
- * @param {Writer} writer
+ * @param {CodeWriter} writer
  * @param {Tree} tree a call, or its like
  */
 function spreadFirst({ edits }, { arguments: given }) {
@@ -135,7 +135,7 @@ function writeCall(writer, tree, info) {
 
 /**
  * Keeps what is called while its arguments are evaluated.
- * @param {Writer} writer
+ * @param {CodeWriter} writer
  * @param {Tree} tree
  * @param {Info} info
  * @param {"callable" | "constructible"} needed what it must be
@@ -147,7 +147,7 @@ function keepCallee(writer, { callee, end }, info, needed) {
   writer.edits.after(callee.end, `), ${JSON.stringify(engineName(callee))}))`);
 }
 
-/** @param {Writer} writer @param {Tree} callee */
+/** @param {CodeWriter} writer @param {Tree} callee */
 const isPrivateMethod = ({ analysis: { privateMethods, privateOthers } }, { property: { name, type } }) =>
   type === "PrivateIdentifier" && privateMethods.has(name) && !privateOthers.has(name);
 
@@ -159,7 +159,7 @@ function writeCallOfMember(writer, tree, info) {
   const { callee, arguments: given } = tree;
   const { edits, source } = writer;
   // The engine says that the call itself is at its parenthesis: nothing of these is needed any more there.
-  const at = placeOf(source, "(", callee.end);
+  const at = positionOutsideComments(source, "(", callee.end);
   const object = writer.room(info, at + 1, tree.end, [callee.object.end, at]);
   const method = writer.room(info, at + 1, tree.end);
   edits.before(callee.start, `$R.method(${method} = (${object} = (`);
@@ -196,18 +196,18 @@ function writeAssignment(writer, tree, info) {
 }
 
 /**
- * @param {Writer} writer
+ * @param {CodeWriter} writer
  * @param {Tree} tree an assignment
  * @param {string} text up to the value; a parenthesis closes it
  */
 function replaceOperator({ edits, source }, { left, operator, end }, text) {
-  edits.replace(placeOf(source, operator, left.end), operator.length, text);
+  edits.replace(positionOutsideComments(source, operator, left.end), operator.length, text);
   edits.after(end, ")");
 }
 
 /**
  * `o[k] += v`: its parts are evaluated in the order that they had.
- * @param {Writer} writer
+ * @param {CodeWriter} writer
  * @param {Tree} tree
  * @param {Info} info
  * @param {string} binary
@@ -224,7 +224,7 @@ function writeChange(writer, tree, info, binary) {
 
 /**
  * Keeps the object and the key of a member.
- * @param {Writer} writer
+ * @param {CodeWriter} writer
  * @param {Tree} member
  * @param {Info} info
  * @param {number} end where they have been used

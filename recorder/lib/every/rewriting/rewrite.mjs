@@ -1,10 +1,10 @@
 // One module, rewritten.
 
 import { Analysis } from "./analysis.mjs";
-import { DEFAULT, linked } from "./modules.mjs";
+import { DEFAULT, linked } from "./linked-modules.mjs";
 import { OWN_NAMES } from "./naming.mjs";
-import { Places } from "./places.mjs";
-import { Writer } from "./writer.mjs";
+import { CallSites } from "./call-sites.mjs";
+import { CodeWriter } from "./writer.mjs";
 
 /** @typedef {import("./tree.mjs").Tree} Tree */
 
@@ -13,7 +13,7 @@ import { Writer } from "./writer.mjs";
  * @property {string} code an expression: the function of `$R`, what shows, and `$m`, what is imported and exported
  * @property {string[]} imports the specifiers of what it imports
  * @property {boolean} hasTags whether it has templates with tags
- * @property {(place: number) => import("./places.mjs").Place} at what can be read at a place of the code
+ * @property {(place: number) => import("./call-sites.mjs").CallSite} at what can be read at a place of the code
  * @property {(place: number) => string} lineOf the line and the column, in the module's text, of a place of the code
  */
 
@@ -30,7 +30,7 @@ export function rewritten(tree, source, { file, isAlone, isPlain = false }) {
   const analysis = new Analysis(tree, source, file);
   const start = source.search(OWN_NAMES);
   if (start >= 0) analysis.refuse({ start }, "a name that the recorder uses here");
-  const writer = new Writer(analysis);
+  const writer = new CodeWriter(analysis);
   const { edits } = writer;
   if (source.startsWith("#!")) edits.replace(0, 2, "//");
   const { imports, begins, exported } = linked(analysis, edits);
@@ -41,7 +41,7 @@ export function rewritten(tree, source, { file, isAlone, isPlain = false }) {
     writer.writeAll(tree.body, null);
   }
   const { code, original } = edits.made();
-  const places = new Places(analysis);
+  const places = new CallSites(analysis);
   return {
     code: `${code}\n})`, imports, hasTags: analysis.hasTags, at: (place) => places.at(original(place)),
     lineOf: (place) => lineAt(source, original(place)),

@@ -1,12 +1,12 @@
 // How statements are rewritten.
 
-import { placeOf } from "./comments.mjs";
+import { positionOutsideComments } from "./comments.mjs";
 import { childrenOf, functionIn, isConstant, isFunction, runsCode } from "./tree.mjs";
 
 /** @typedef {import("./tree.mjs").Tree} Tree */
 /** @typedef {import("./scopes.mjs").Info} Info */
 /** @typedef {import("./scopes.mjs").Scope} Scope */
-/** @typedef {import("./writer.mjs").Writer} Writer */
+/** @typedef {import("./writer.mjs").CodeWriter} CodeWriter */
 /** @typedef {import("./writer.mjs").Write} Write */
 
 /** @type {Record<string, Write>} by the types of trees */
@@ -39,7 +39,7 @@ export const STATEMENTS = {
   TryStatement: writeTry,
 };
 
-/** @param {Writer} writer @param {Tree} tree that has a scope @param {number} at where its names are there */
+/** @param {CodeWriter} writer @param {Tree} tree that has a scope @param {number} at where its names are there */
 function showNames(writer, tree, at) {
   const own = writer.analysis.own.get(tree);
   if (own === undefined || own.shown().length === 0) return;
@@ -59,7 +59,7 @@ function writeFor(writer, tree, info) {
     if (tree.test) {
       edits.before(tree.test.start, `(${shows}, (`);
       edits.after(tree.test.end, "))");
-    } else edits.before(placeOf(source, ";", tree.init.end) + 1, ` (${shows}, true)`);
+    } else edits.before(positionOutsideComments(source, ";", tree.init.end) + 1, ` (${shows}, true)`);
     if (tree.update) edits.before(tree.update.start, `${shows}, `);
   }
   writer.writeAll([tree.init, tree.test, tree.update, tree.body], info);
@@ -107,7 +107,7 @@ function keepLeaving(writer, tree, info) {
 }
 
 /**
- * @param {Writer} writer
+ * @param {CodeWriter} writer
  * @param {Tree} tree in which the block of a `try` is left
  * @param {Tree} whole that `try`
  * @param {string} how

@@ -7,29 +7,29 @@
 /**
  * @typedef {object} Visitor what goes over the module
  * @property {{ (tree: Tree, what: string): never }} refuse
- * @property {{ (name: string, tree: Tree, here: Here, reads: boolean): void }} refer
+ * @property {{ (name: string, tree: Tree, here: EnclosingScope, reads: boolean): void }} refer
  * @property {{ (within: Info | null): void }} hide
  * @property {{ (member: Tree): void }} noteAccessor
- * @property {{ (tree: Tree | null | undefined, here: Here): void }} visit
- * @property {{ (trees: (Tree | null)[], here: Here): void }} visitAll
- * @property {{ (tree: Tree, here: Here): void }} visitSuper as those below
- * @property {{ (tree: Tree, here: Here): void }} visitAssignment
- * @property {{ (tree: Tree, here: Here): void }} visitBlock
- * @property {{ (tree: Tree, here: Here): void }} visitCatch
- * @property {{ (tree: Tree, here: Here): void }} visitDeclarator
- * @property {{ (tree: Tree, here: Here): void }} visitExport
- * @property {{ (tree: Tree, here: Here): void }} visitMember
- * @property {{ (tree: Tree, here: Here): void }} visitSwitch
- * @property {{ (tree: Tree, here: Here): void }} visitUpdate
+ * @property {{ (tree: Tree | null | undefined, here: EnclosingScope): void }} visit
+ * @property {{ (trees: (Tree | null)[], here: EnclosingScope): void }} visitAll
+ * @property {{ (tree: Tree, here: EnclosingScope): void }} visitSuper as those below
+ * @property {{ (tree: Tree, here: EnclosingScope): void }} visitAssignment
+ * @property {{ (tree: Tree, here: EnclosingScope): void }} visitBlock
+ * @property {{ (tree: Tree, here: EnclosingScope): void }} visitCatch
+ * @property {{ (tree: Tree, here: EnclosingScope): void }} visitDeclarator
+ * @property {{ (tree: Tree, here: EnclosingScope): void }} visitExport
+ * @property {{ (tree: Tree, here: EnclosingScope): void }} visitMember
+ * @property {{ (tree: Tree, here: EnclosingScope): void }} visitSwitch
+ * @property {{ (tree: Tree, here: EnclosingScope): void }} visitUpdate
  * @property {boolean} hasTags
  * @property {Tree[]} imports
  * @property {Set<number>} shorthand
  * @property {Set<Tree>} unused
  */
 
-/** @typedef {{ scope: Scope, within: Info | null }} Here where something is */
+/** @typedef {import("./analysis.mjs").EnclosingScope} EnclosingScope where something is */
 
-/** @type {Record<string, (one: Visitor, tree: Tree, here: Here) => void>} by the types */
+/** @type {Record<string, (one: Visitor, tree: Tree, here: EnclosingScope) => void>} by the types */
 export const VISITS = {
   Identifier: (one, tree, here) => one.refer(tree.name, tree, here, true),
   ThisExpression: (one, tree, here) => one.refer("this", tree, here, true),

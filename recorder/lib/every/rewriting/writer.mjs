@@ -2,8 +2,8 @@
 // frame with the cells of its names, and what the engine would keep on its stack is kept in the frame. The order in
 // which things are evaluated stays.
 
-import { placeOf } from "./comments.mjs";
-import { Edits } from "./edits.mjs";
+import { positionOutsideComments } from "./comments.mjs";
+import { Edits } from "./source-edits.mjs";
 import { EXPRESSIONS } from "./expressions.mjs";
 import { newId } from "./scopes.mjs";
 import { STATEMENTS } from "./statements.mjs";
@@ -13,11 +13,11 @@ import { childrenOf, functionIn, isClass, isConstant, isFunction, isMethod, runs
 /** @typedef {import("./scopes.mjs").Info} Info */
 /** @typedef {import("./scopes.mjs").Scope} Scope */
 
-/** @typedef {(writer: Writer, tree: Tree, info: Info) => void} Write writes a tree, with all that is in it */
+/** @typedef {(writer: CodeWriter, tree: Tree, info: Info) => void} Write writes a tree, with all that is in it */
 
 const LEAVES = "} finally { $R.leave($f); }";
 
-export class Writer {
+export class CodeWriter {
   /** @param {import("./analysis.mjs").Analysis} analysis */
   constructor(analysis) {
     this.analysis = analysis;
@@ -199,7 +199,7 @@ export class Writer {
       this.atEnd(tree.body, LEAVES);
       this.writeAll(tree.body.body, info);
     } else {
-      const arrow = placeOf(this.source, "=>", tree.params.at(-1)?.end ?? tree.start) + 2;
+      const arrow = positionOutsideComments(this.source, "=>", tree.params.at(-1)?.end ?? tree.start) + 2;
       edits.before(arrow, `{ ${enters} return (`);
       edits.after(tree.end, `); ${LEAVES} }`);
       this.write(tree.body, info);

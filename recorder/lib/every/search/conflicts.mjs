@@ -1,7 +1,7 @@
 // Conflicts: accesses of different agents that are open in one state, touch a byte, and aren't both atomic on the same
 // bytes. What two agents may have is found once for each pair of nodes with their recent accesses.
 
-import { rawAt } from "./elements.mjs";
+import { rawAt } from "./raw-elements.mjs";
 import { DOES, isCall, isEnd } from "./nodes.mjs";
 
 /** @typedef {import("./nodes.mjs").Node} Node */

@@ -1,9 +1,9 @@
 // Files of automata (tests/search/FORMAT.md): written of what was learned, and read back.
 
 import { CALL_NUMBERS, CALLS, SCRIPT_KINDS, SIZES, isBigKind } from "../../../script/kinds.mjs";
-import { hexOf, rawAt, rawOf } from "./elements.mjs";
+import { hexOf, rawAt, rawOf } from "./raw-elements.mjs";
 import { DONE, DOES, NOT_EQUAL, OK, TIMED_OUT, isCall, nodeOf } from "./nodes.mjs";
-import { Views, answerText, callData } from "./text.mjs";
+import { AutomatonViews, nodeAnswerText, callData } from "./node-texts.mjs";
 
 /** @typedef {import("./nodes.mjs").Node} Node */
 /** @typedef {import("./nodes.mjs").Answer} Answer */
@@ -13,7 +13,7 @@ import { Views, answerText, callData } from "./text.mjs";
  * @typedef {object} FileData what a file has
  * @property {number[]} blocks
  * @property {string[]} [initial]
- * @property {import("./text.mjs").ViewData[]} views
+ * @property {import("./node-texts.mjs").ViewData[]} views
  * @property {{ name: string, nodes: any[] }[]} automata
  * @property {{ automaton: string, block: boolean }[]} agents
  */
@@ -71,7 +71,7 @@ function reachable(root) {
  */
 export function fileOf(program, positions) {
   const { lengths, bases, initial, agents } = program;
-  const views = new Views();
+  const views = new AutomatonViews();
   const automata = positions.nodes.map((nodes, automaton) =>
     ({ name: `automaton_${automaton}`, nodes: nodes.map((node) => nodeData(node, views, positions)) }));
   return {
@@ -84,11 +84,11 @@ export function fileOf(program, positions) {
   };
 }
 
-/** @param {Node} node @param {Views} views @param {Positions} positions */
+/** @param {Node} node @param {AutomatonViews} views @param {Positions} positions */
 function nodeData(node, views, positions) {
   if (node.does === DOES.FINISHED) return { finished: true };
   if (node.does === DOES.THREW) return { threw: node.text };
-  const edges = [...node.edges].map(([answer, next]) => [answerText(node, answer), positions.of(next)[1]]);
+  const edges = [...node.edges].map(([answer, next]) => [nodeAnswerText(node, answer), positions.of(next)[1]]);
   if (isCall(node)) return { call: callData(node, views), edges };
   const { block, byte, size, written, isAlone } = node;
   const isRead = written === undefined;
@@ -131,7 +131,7 @@ export function programOf({ blocks: lengths, initial, views, automata, agents })
 
 /**
  * @param {any} data
- * @param {Map<string, import("./text.mjs").ViewData>} views
+ * @param {Map<string, import("./node-texts.mjs").ViewData>} views
  * @param {number[]} bases
  * @param {number[]} lengths
  */
@@ -149,12 +149,13 @@ function readNode(data, views, bases, lengths) {
 
 /**
  * @param {any[]} call
- * @param {Map<string, import("./text.mjs").ViewData>} views
+ * @param {Map<string, import("./node-texts.mjs").ViewData>} views
  * @param {number[]} bases
  * @param {number[]} lengths
  */
 function readCall([name, view, index, ...rest], views, bases, lengths) {
-  const { kind: kindName, block, offset, length } = /** @type {import("./text.mjs").ViewData} */ (views.get(view));
+  const { kind: kindName, block, offset, length } =
+    /** @type {import("./node-texts.mjs").ViewData} */ (views.get(view));
   const kind = SCRIPT_KINDS.indexOf(kindName);
   const size = SIZES[kind];
   const does = CALL_NUMBERS[name];

@@ -8,19 +8,19 @@ export class BadLines extends Error {}
 /** What lines are about, in the order in which they come. */
 const KINDS = /** @type {const} */ (["deadlock", "failed", "no way out", "unknown", "conflict", "final"]);
 
-/** @typedef {(typeof KINDS)[number]} Kind */
+/** @typedef {(typeof KINDS)[number]} LineKind */
 
 /** The members of the first line, and of a line of each kind besides those that all have. */
 const WHOLE = [
   "timeouts", "limit", "closed", "states", "acts", "expanded", "depth", "conflicts", "finals", "final_states",
 ];
-const OWN = /** @type {Record<Kind, string[]>} */ ({
+const OWN = /** @type {Record<LineKind, string[]>} */ ({
   deadlock: [], failed: ["text"], "no way out": [], unknown: ["automaton", "node", "answer"], conflict: ["pair"],
   final: ["blocks"],
 });
 
 /** So many are listed at most. */
-const MOST = /** @type {Record<Kind, number>} */ ({
+const MOST = /** @type {Record<LineKind, number>} */ ({
   deadlock: 1, failed: Infinity, "no way out": 1, unknown: Infinity, conflict: 100, final: 1_000,
 });
 
@@ -54,7 +54,7 @@ export function resultIn(text) {
   const [first, ...lines] = text.slice(0, -1).split("\n");
   const whole = parsed(first, 0);
   needMembers(whole, WHOLE, 0);
-  /** @type {Record<Kind, any[]>} */
+  /** @type {Record<LineKind, any[]>} */
   const found = { deadlock: [], failed: [], "no way out": [], unknown: [], conflict: [], final: [] };
   let last = 0;
   lines.forEach((line, at) => {
@@ -62,11 +62,11 @@ export function resultIn(text) {
     const rank = KINDS.indexOf(kind);
     need(rank >= last, `line ${at + 2} is of the kind ${kind}, which isn't known or comes too late`);
     last = rank;
-    needMembers(row, [...OWN[/** @type {Kind} */ (kind)], "states", "schedule"], at + 1);
-    found[/** @type {Kind} */ (kind)].push(row);
+    needMembers(row, [...OWN[/** @type {LineKind} */ (kind)], "states", "schedule"], at + 1);
+    found[/** @type {LineKind} */ (kind)].push(row);
   });
   for (const kind of KINDS) need(found[kind].length <= MOST[kind], `there are ${found[kind].length} lines of ${kind}`);
-  const counts = /** @type {[Kind, number][]} */ ([["conflict", whole.conflicts], ["final", whole.finals]]);
+  const counts = /** @type {[LineKind, number][]} */ ([["conflict", whole.conflicts], ["final", whole.finals]]);
   for (const [kind, count] of counts) {
     const listed = Math.min(count, MOST[kind]);
     need(found[kind].length === listed, `there are ${found[kind].length} lines of ${kind}, and not ${listed}`);
@@ -74,7 +74,7 @@ export function resultIn(text) {
   return resultOf(whole, found);
 }
 
-/** @param {any} whole the first line @param {Record<Kind, any[]>} found @returns {Result} */
+/** @param {any} whole the first line @param {Record<LineKind, any[]>} found @returns {Result} */
 function resultOf({ conflicts, finals, final_states: finalStates, ...whole }, found) {
   return {
     ...whole, deadlock: found.deadlock[0] ?? null, failed: found.failed, no_way_out: found["no way out"][0] ?? null,

@@ -1,20 +1,20 @@
 // What a search has found, in the form in which the proved search reports it.
 
 import { Conflicts } from "./conflicts.mjs";
-import { hexOf } from "./elements.mjs";
+import { hexOf } from "./raw-elements.mjs";
 import { DOES } from "./nodes.mjs";
-import { answerText } from "./text.mjs";
+import { nodeAnswerText } from "./node-texts.mjs";
 
 /** @typedef {import("./search.mjs").Search} Search */
 /** @typedef {import("./nodes.mjs").Node} Node */
 /** @typedef {import("./conflicts.mjs").Conflict} Conflict */
 
 /** @typedef {[number, string]} ActData an agent, and what it did */
-/** @typedef {{ states: number, first: number }} Found how many states have something, and the first one */
-/** @typedef {Found & { text: string }} FoundText */
-/** @typedef {Found & { one: Node, other: Node }} FoundPair */
-/** @typedef {Found & { memory: number }} FoundFinal */
-/** @typedef {Found & { unknown: import("./world.mjs").Unknown }} FoundUnknown */
+/** @typedef {{ states: number, first: number }} FoundStates how many states have something, and the first one */
+/** @typedef {FoundStates & { text: string }} FoundText */
+/** @typedef {FoundStates & { one: Node, other: Node }} FoundPair */
+/** @typedef {FoundStates & { memory: number }} FoundFinal */
+/** @typedef {FoundStates & { unknown: import("./world.mjs").Unknown }} FoundUnknown */
 
 /** Finds the kinds of the states of a search that has run. */
 export class Kinds {
@@ -24,9 +24,9 @@ export class Kinds {
     this.conflictsHere = new Conflicts(search.world);
     /** @type {Map<string, FoundText>} */
     this.failed = new Map();
-    /** @type {Found | undefined} */
+    /** @type {FoundStates | undefined} */
     this.deadlock = undefined;
-    /** @type {Found | undefined} */
+    /** @type {FoundStates | undefined} */
     this.noWayOut = undefined;
     /** @type {Map<string, FoundPair>} */
     this.conflicts = new Map();
@@ -143,7 +143,7 @@ function inBytes(one, other) {
 }
 
 /** @param {import("./world.mjs").Unknown} unknown */
-const textOf = ({ node, answer }) => answerText(node, answer);
+const textOf = ({ node, answer }) => nodeAnswerText(node, answer);
 
 /** @param {import("./world.mjs").Unknown} unknown */
 const unknownName = (unknown) => `${unknown.node.id} ${textOf(unknown)}`;
@@ -151,7 +151,7 @@ const unknownName = (unknown) => `${unknown.node.id} ${textOf(unknown)}`;
 /**
  * @template {string | number} Name
  * @template {object} More
- * @param {Map<Name, Found & More>} found
+ * @param {Map<Name, FoundStates & More>} found
  * @param {Name} name
  * @param {number} state
  * @param {More} besides
@@ -162,7 +162,7 @@ function count(found, name, state, besides) {
   else known.states += 1;
 }
 
-/** @param {Found | undefined} found @param {number} state @returns {Found} */
+/** @param {FoundStates | undefined} found @param {number} state @returns {FoundStates} */
 const more = (found, state) => ({ states: (found?.states ?? 0) + 1, first: found?.first ?? state });
 
 /** @param {Search} search that is closed @returns {Uint8Array} of each state whether one without an act is reached */
@@ -212,22 +212,24 @@ export function didText(world, agent) {
 /** @param {Node} node @param {import("./nodes.mjs").Answer} answer */
 function doneText(node, answer) {
   if (node.does === DOES.WRITE) return "write";
-  return `${node.does === DOES.READ ? "read" : "act"} ${answerText(node, answer)}`;
+  return `${node.does === DOES.READ ? "read" : "act"} ${nodeAnswerText(node, answer)}`;
 }
 
-/** @param {Search} search @param {number} state @returns {number[]} the agents whose acts lead there */
-export function agentsTo({ parents, by }, state) {
+/** @param {Search} search @param {number} state @returns {number[]} the agents of a run whose acts lead there */
+function agentsTo(search, state) {
+  const { parents, by } = search;
   /** @type {number[]} */
-  const agents = [];
-  for (let at = state; parents.items[at] >= 0; at = parents.items[at]) agents.unshift(by.items[at]);
-  return agents;
+  const actors = [];
+  for (let at = state; parents.items[at] >= 0; at = parents.items[at]) actors.unshift(by.items[at]);
+  return search.named(actors).agents;
 }
 
 /** @param {Search} search @param {number} state @returns {ActData[]} the acts that lead there */
 export function scheduleTo(search, state) {
   const { world } = search;
-  world.load(0);
-  return agentsTo(search, state).map((agent) => [agent, didText(world, agent)]);
+  const agents = agentsTo(search, state);
+  world.restart();
+  return agents.map((agent) => [agent, didText(world, agent)]);
 }
 
 const MOST_CONFLICTS = 100;
@@ -242,15 +244,15 @@ const MOST_FINALS = 1_000;
  */
 export function resultOf(search, kinds, { position, blocksOf }) {
   const { isClosed, expanded, depths, lost } = search;
-  /** @param {Found} found */
+  /** @param {FoundStates} found */
   const row = ({ states, first }) => ({ states, schedule: scheduleTo(search, first) });
-  /** @param {Found | undefined} found */
+  /** @param {FoundStates | undefined} found */
   const kind = (found) => (found === undefined ? null : row(found));
   const { failed, deadlock, noWayOut, conflicts, finals, finalStates } = kinds;
   /** @param {import("./world.mjs").Unknown} unknown */
   const edge = ({ node, answer }) => {
     const [automaton, at] = position(node);
-    return { automaton, node: at, answer: answerText(node, answer) };
+    return { automaton, node: at, answer: nodeAnswerText(node, answer) };
   };
   const unknown = [...kinds.unknown.values()].map(({ unknown: one, ...found }) => ({ ...edge(one), ...row(found) }));
   return {

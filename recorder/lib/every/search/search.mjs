@@ -1,13 +1,15 @@
-// All states that agents can reach, nearest first, and numbered in the order in which they are found.
+// All states that agents can reach, nearest first, and numbered in the order in which they are found. Of states that
+// differ only by an exchange of like agents there is one, with sorted agents.
 
+import { sortAgents } from "./likes.mjs";
 import { DOES } from "./nodes.mjs";
-import { Numbers } from "./rows.mjs";
+import { NumberList } from "./state-rows.mjs";
 import { World } from "./world.mjs";
 
 /** @typedef {"early" | "last" | "never"} Choice when a wait's time may be over */
 
 /**
- * @typedef {object} Bounds
+ * @typedef {object} SearchLimits
  * @property {Choice} timeouts
  * @property {number} limit how many states at most
  * @property {(states: number) => boolean} [isLate] whether the search is to stop now; it is asked now and then
@@ -16,23 +18,29 @@ import { World } from "./world.mjs";
 const ASKS_EVERY = 256;
 
 export class Search {
-  /** @param {import("./world.mjs").Program} program @param {Bounds} bounds */
+  /** @param {import("./world.mjs").Program} program @param {SearchLimits} bounds */
   constructor(program, { timeouts, limit, isLate = () => false }) {
     this.world = new World(program);
     this.timeouts = timeouts;
     this.limit = limit;
     this.isLate = isLate;
     /** Of each state the number of the one from which it was found. */
-    this.parents = new Numbers();
-    /** Of each state by whose act. */
-    this.by = new Numbers();
-    this.depths = new Numbers();
+    this.parents = new NumberList();
+    /** Of each state by whose act, as that state has the agents. */
+    this.by = new NumberList();
+    this.depths = new NumberList();
     /** Of the states before `expanded`, one after another: to which state each act leads. */
-    this.targets = new Numbers();
+    this.targets = new NumberList();
     /** By whose act. */
-    this.actors = new Numbers();
+    this.actors = new NumberList();
+    /** Where the agent that acts is in the state to which it leads. */
+    this.ends = new NumberList();
+    /** Of each agent of the first state which one of a run it is. */
+    this.names = program.agents.map((_, agent) => agent);
+    /** Of each agent of a state to which an act leads, which one it was before it was sorted. */
+    this.moved = [...this.names];
     /** Where each state's acts begin, and behind the last one. */
-    this.starts = new Numbers();
+    this.starts = new NumberList();
     /** @type {import("./world.mjs").Unknown | undefined} why there is no first state */
     this.lost = undefined;
     this.isClosed = false;
@@ -60,6 +68,7 @@ export class Search {
       this.isClosed = true;
       return;
     }
+    sortAgents(world, this.names);
     world.save();
     this.#found(-1, -1, 0);
     for (let state = 0; state < this.count; state += 1) {
@@ -78,7 +87,7 @@ export class Search {
   #expand(state) {
     const { world } = this;
     world.load(state);
-    if (hasThrown(world)) return true;
+    if (hasThrownAt(world)) return true;
     const times = this.#hasTimes(state);
     for (let agent = 0; agent < world.count; agent += 1) {
       if (world.canAct(agent)) {
@@ -104,7 +113,7 @@ export class Search {
   unknownAt(state) {
     const { world } = this;
     world.load(state);
-    if (hasThrown(world)) return [];
+    if (hasThrownAt(world)) return [];
     const times = this.#hasTimes(state);
     /** @type {import("./world.mjs").Unknown[]} */
     const found = [];
@@ -140,6 +149,7 @@ export class Search {
     const { world } = this;
     if (!leads) return true;
     const before = world.states.count;
+    const end = this.#sorted(agent);
     const next = world.save(this.limit);
     if (next < 0) {
       this.bound = "states";
@@ -148,7 +158,40 @@ export class Search {
     if (next === before) this.#found(state, agent, this.depths.items[state] + 1);
     this.targets.push(next);
     this.actors.push(agent);
+    this.ends.push(end);
     return true;
+  }
+
+  /**
+   * Sorts the agents.
+   * @param {number} agent
+   * @returns {number} where it is then
+   */
+  #sorted(agent) {
+    const { moved, world } = this;
+    if (!world.hasLikes) return agent;
+    for (let each = 0; each < moved.length; each += 1) moved[each] = each;
+    sortAgents(world, moved);
+    return moved.indexOf(agent);
+  }
+
+  /**
+   * Goes a way from the first state.
+   * @param {number[]} actors by whose acts, as each state has the agents
+   * @returns {{ agents: number[], names: number[] }} who they are in a run; who the agents of the last state are in it
+   */
+  named(actors) {
+    const { world } = this;
+    const names = [...this.names];
+    if (!world.hasLikes) return { agents: actors, names };
+    world.load(0);
+    const agents = actors.map((actor) => {
+      const agent = names[actor];
+      world.step(actor);
+      sortAgents(world, names);
+      return agent;
+    });
+    return { agents, names };
   }
 
   /** @param {number} parent @param {number} agent @param {number} depth */
@@ -160,7 +203,7 @@ export class Search {
 }
 
 /** @param {World} world @returns {boolean} whether some agent has thrown */
-export function hasThrown(world) {
+export function hasThrownAt(world) {
   for (let agent = 0; agent < world.count; agent += 1) if (world.nodes[agent].does === DOES.THREW) return true;
   return false;
 }

@@ -6,7 +6,8 @@
 /**
  * @typedef {object} Schedule
  * @property {number} state to which it leads
- * @property {number[]} agents who act, in their order
+ * @property {number[]} agents who act, in their order, as a run has the agents
+ * @property {number[]} names which agents of the run those of the state are
  * @property {boolean} isEarly whether a timed wait ends while something else can move
  * @property {number} changes of agents
  */
@@ -73,6 +74,8 @@ class Ways {
     this.costs = new Float64Array(size).fill(Infinity);
     /** Where that way comes from. */
     this.from = new Int32Array(size).fill(-1);
+    /** By whose act, as the state before has the agents. */
+    this.by = new Uint8Array(size);
     this.done = new Uint8Array(size);
     this.queue = new Queue();
   }
@@ -105,7 +108,7 @@ class Ways {
 
   /** @param {number} place @param {number} state @param {number} last */
   #leave(place, state, last) {
-    const { actors, starts, targets, world } = this.search;
+    const { actors, ends, starts, targets, world } = this.search;
     world.load(state);
     const others = this.#othersCan();
     for (let at = starts.items[state]; at < starts.items[state + 1]; at += 1) {
@@ -113,10 +116,11 @@ class Ways {
       const isEarly = others && world.waits(agent);
       const isChange = last !== agent && last !== this.agents;
       const cost = this.costs[place] + 1 + (isChange ? CHANGE : 0) + (isEarly ? EARLY : 0);
-      const next = this.#place(targets.items[at], agent);
+      const next = this.#place(targets.items[at], ends.items[at]);
       if (cost >= this.costs[next]) continue;
       this.costs[next] = cost;
       this.from[next] = place;
+      this.by[next] = agent;
       this.queue.push(cost, next);
     }
   }
@@ -132,9 +136,10 @@ class Ways {
     const state = Math.floor(place / (this.agents + 1));
     const cost = this.costs[place];
     /** @type {number[]} */
-    const agents = [];
-    for (let at = place; this.from[at] >= 0; at = this.from[at]) agents.push(at % (this.agents + 1));
-    return { state, agents: agents.reverse(), isEarly: cost >= EARLY, changes: Math.floor((cost % EARLY) / CHANGE) };
+    const actors = [];
+    for (let at = place; this.from[at] >= 0; at = this.from[at]) actors.push(this.by[at]);
+    const { agents, names } = this.search.named(actors.reverse());
+    return { state, agents, names, isEarly: cost >= EARLY, changes: Math.floor((cost % EARLY) / CHANGE) };
   }
 }
 

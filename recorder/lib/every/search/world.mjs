@@ -1,8 +1,9 @@
 // A state to work on, and the acts that lead from it to others (tests/search/FORMAT.md has the definitions).
 
-import { answerOfRead, changed, putRaw, rawAt } from "./elements.mjs";
+import { answerOfRead, changed, putRaw, rawAt } from "./raw-elements.mjs";
 import { DONE, DOES, NOT_EQUAL, OK, TIMED_OUT, isCall, isEnd, isTimed, isWithinAct } from "./nodes.mjs";
-import { Lists, Rows } from "./rows.mjs";
+import { likesOf } from "./likes.mjs";
+import { Lists, StateRows } from "./state-rows.mjs";
 
 /** @typedef {import("./nodes.mjs").Node} Node */
 /** @typedef {import("./nodes.mjs").Answer} Answer */
@@ -51,8 +52,8 @@ export class World {
     /** The agents that were woken and haven't left, a bit for each. */
     this.woken = 0;
     this.lists = new Lists();
-    this.memories = new Rows(Uint8Array, initial.length);
-    this.states = new Rows(Int32Array, FIRST + 2 * agents.length);
+    this.memories = new StateRows(Uint8Array, initial.length);
+    this.states = new StateRows(Int32Array, FIRST + 2 * agents.length);
     this.row = new Int32Array(FIRST + 2 * agents.length);
     this.hasWritten = true;
     /** The number of the bytes that were loaded. */
@@ -61,12 +62,38 @@ export class World {
     this.unknown = undefined;
     /** @type {Answer} of the last act */
     this.answered = DONE;
+    /** Of each agent the first one that is like it. */
+    this.likes = likesOf(program);
+    this.hasLikes = this.likes.some((first, agent) => first !== agent);
+    /** Where agents are once they have begun. */
+    this.begun = { bytes: initial, nodes: this.nodes, recent: this.recent };
   }
 
   /** Begins: each agent in turn makes its accesses before its first call. @returns {boolean} whether all could */
   begin() {
     for (let agent = 0; agent < this.count; agent += 1) if (!this.#segment(agent, this.nodes[agent])) return false;
+    this.begun = { bytes: this.bytes.slice(), nodes: [...this.nodes], recent: [...this.recent] };
     return true;
+  }
+
+  /** Goes back to where `begin` has led. */
+  restart() {
+    const { bytes, nodes, recent } = this.begun;
+    this.bytes.set(bytes);
+    this.hasWritten = true;
+    this.nodes = [...nodes];
+    this.recent = [...recent];
+    this.line = 0;
+    this.woken = 0;
+  }
+
+  /**
+   * An agent makes the act that it has: what it does next, or if it waits, the end of its time.
+   * @param {number} agent
+   * @returns {boolean} as `act`
+   */
+  step(agent) {
+    return this.waits(agent) ? this.timeOut(agent) : this.act(agent);
   }
 
   /** @param {number} [most] states @returns {number} the state's number, or -1 if it is new and there is no room */

@@ -13,7 +13,7 @@ const CALLED_BY_ENGINE = new Set(["next", "return", "throw", "valueOf", "toStrin
 
 const NOT_KNOWN = "a place that isn't known";
 const LIBRARY = new URL("../../", import.meta.url).href;
-const ELEMENTS = new URL("../../agent/ordinary/elements.mjs", import.meta.url).href;
+const ELEMENTS = new URL("../../agent/ordinary/watched-elements.mjs", import.meta.url).href;
 const ATOMICS = new URL("../../agent/atomics.mjs", import.meta.url).href;
 const LEARNING = new URL("../learning/", import.meta.url).href;
 const STATE = new URL("./", import.meta.url).href;
@@ -21,7 +21,7 @@ const STATE = new URL("./", import.meta.url).href;
 export class Capture {
   /**
    * @param {import("./runtime.mjs").Runtime} runtime
-   * @param {import("./builtins.mjs").Builtins} builtins
+   * @param {import("./named-builtins.mjs").NamedBuiltins} builtins
    * @param {Map<string, Rewritten>} texts the rewritten modules, by the names of their scripts
    * @param {{ hides?: string }} [flaw] what is left out on purpose, so that tests see that they notice it
    */
@@ -102,7 +102,7 @@ export class Capture {
   /**
    * @param {Walk} walk
    * @param {NodeJS.CallSite | undefined} site
-   * @param {import("./runtime.mjs").Frame} frame
+   * @param {import("./runtime.mjs").RewrittenFrame} frame
    * @param {Called | undefined} called the agents' own function that it has called
    * @returns {Called} its own function
    */
@@ -133,7 +133,7 @@ export class Capture {
   /**
    * There must be one way only in which a function can have been called at a place: what the engine still does
    * afterwards isn't shown.
-   * @param {import("../rewriting/places.mjs").Place} place
+   * @param {import("../rewriting/call-sites.mjs").CallSite} place
    * @param {Called} called
    */
   #needsOneWay({ isAccess, isKeyed }, { name, id, isAccessor }) {

@@ -66,7 +66,7 @@ const takesOne = (engine) => methodOf((self, given) => {
   if (isObject(key)) current.takeAny();
   else current.take(object, [key]);
   return made;
-});
+}, engine);
 
 /** @param {Function} engine what defines many properties */
 const takesMany = (engine) => methodOf((self, given) => {
@@ -75,13 +75,13 @@ const takesMany = (engine) => methodOf((self, given) => {
   if (types.isProxy(properties)) current.takeAny();
   else if (isObject(properties)) current.take(made, ownKeys(properties));
   return made;
-});
+}, engine);
 
 /** @param {Function} engine what makes a proxy, whose traps can change at any time */
 const takesProxy = (engine) => methodOf((self, given) => {
   current.takeAny();
   return apply(engine, self, given);
-});
+}, engine);
 
 /** Sees what agents make so. It is called once, before any of their code is loaded. */
 export function watchInstalled() {

@@ -6,12 +6,12 @@ import { types } from "node:util";
 import { watchedOf } from "../../agent/ordinary/watched.mjs";
 import { Installed, numberOf } from "./installed.mjs";
 
-/** @typedef {[Environment, number]} Cell a name: what it is among, and its position there */
+/** @typedef {[Environment, number]} CapturedCell a name: what it is among, and its position there */
 
 /**
- * @typedef {object} Made a function of the modules
+ * @typedef {object} RewrittenFunction a function of the modules
  * @property {string} id which one it is
- * @property {Cell[] | null} cells what it captures
+ * @property {CapturedCell[] | null} cells what it captures
  * @property {object} [home] the object whose method it is, if its code uses `super`
  * @property {boolean} [isHidden] whether it keeps something that can't be shown
  */
@@ -21,7 +21,7 @@ import { Installed, numberOf } from "./installed.mjs";
  * @property {boolean} [isStatic]
  * @property {"value" | "get" | "set"} kind
  * @property {string | symbol} key
- * @property {Cell[] | null} cells
+ * @property {CapturedCell[] | null} cells
  * @property {boolean} usesSuper
  * @property {number} [enters] the number of its function, if another member may have put another one there
  */
@@ -35,9 +35,9 @@ export class Environment {
 }
 
 /**
- * @typedef {object} Frame of a function that runs
+ * @typedef {object} RewrittenFrame of a function that runs
  * @property {number} id the function's number
- * @property {Cell[] | null} cells what the function captures
+ * @property {CapturedCell[] | null} cells what the function captures
  * @property {Record<number, Environment>} e the names of its scopes, by the scopes' numbers
  * @property {Record<number, unknown>} t what is kept while something else is evaluated, by its number
  */
@@ -69,15 +69,15 @@ export class ShownIterator {
 }
 
 /** What stands in a frame for a value that can't be shown. */
-export const UNKNOWN = Object.freeze({ isUnknown: true });
+export const UNKNOWN_VALUE = Object.freeze({ isUnknown: true });
 
 const iteratorOfArrays = Array.prototype[Symbol.iterator];
 
 export class Runtime {
   constructor() {
-    /** @type {Frame[]} */
+    /** @type {RewrittenFrame[]} */
     this.stack = [];
-    /** @type {WeakMap<Function, Made>} */
+    /** @type {WeakMap<Function, RewrittenFunction>} */
     this.functions = new WeakMap();
     /** @type {{ environment: Environment, indexes: number[] }[]} the names of the modules */
     this.modules = [];
@@ -112,13 +112,13 @@ export class Runtime {
     this.readers.length = this.lasting;
   }
 
-  /** @param {Frame} frame that is left, with those above it */
+  /** @param {RewrittenFrame} frame that is left, with those above it */
   #leave(frame) {
     const at = this.stack.lastIndexOf(frame);
     if (at >= 0) this.stack.length = at;
   }
 
-  /** @param {Function} fn @param {Made} made */
+  /** @param {Function} fn @param {RewrittenFunction} made */
   #register(fn, made) {
     if (!this.functions.has(fn)) this.functions.set(fn, made);
   }
@@ -139,14 +139,14 @@ export class Runtime {
 
   #calls() {
     return {
-      unknown: UNKNOWN,
-      /** @param {number} id @param {Cell[] | null} cells @returns {Frame} */
+      unknown: UNKNOWN_VALUE,
+      /** @param {number} id @param {CapturedCell[] | null} cells @returns {RewrittenFrame} */
       enter: (id, cells) => {
         const frame = { id, cells, e: {}, t: {} };
         this.stack.push(frame);
         return frame;
       },
-      /** @param {Frame} frame */
+      /** @param {RewrittenFrame} frame */
       leave: (frame) => this.#leave(frame),
       /** @param {(index: number) => unknown} read */
       environment: (read) => new Environment(read),
@@ -165,7 +165,7 @@ export class Runtime {
   /** What is called where functions, classes and objects are made. */
   #makers() {
     return {
-      /** @param {number} id @param {Cell[] | null} cells @param {Function} fn @param {boolean} [isHidden] */
+      /** @param {number} id @param {CapturedCell[] | null} cells @param {Function} fn @param {boolean} [isHidden] */
       fn: (id, cells, fn, isHidden) => {
         this.#register(fn, { id: `f${id}`, cells, isHidden });
         return fn;
@@ -175,7 +175,7 @@ export class Runtime {
        * @param {any} cls
        * @param {((object: object) => unknown[] | null) | null} read
        * @param {Method[]} methods
-       * @param {Cell[] | null} cells of what its constructor and its fields capture
+       * @param {CapturedCell[] | null} cells of what its constructor and its fields capture
        */
       cls: (id, cls, read, methods, cells) => {
         this.#registerMethods(cls, `c${id}`, methods.filter(({ isStatic }) => isStatic));
@@ -239,12 +239,12 @@ const key = (value) => Reflect.ownKeys({ [value]: 0 })[0];
 
 /**
  * What a loop goes through: its iterator is kept in the frame, where it can be shown.
- * @param {Frame} frame
+ * @param {RewrittenFrame} frame
  * @param {number} id
  * @param {any} given
  */
 function iterable(frame, id, given) {
-  frame.t[id] = UNKNOWN;
+  frame.t[id] = UNKNOWN_VALUE;
   const isOwn = isArray(given) && given[Symbol.iterator] === iteratorOfArrays;
   const isTyped = watchedOf(given) !== undefined || types.isTypedArray(given);
   let shown;

@@ -3,10 +3,10 @@
 import { types } from "node:util";
 import { anyWatchedOf } from "../../agent/ordinary/watched.mjs";
 import { blockNumber } from "../../agent/ordinary/context.mjs";
-import { hexOf } from "../search/elements.mjs";
-import { ShownIterator, UNKNOWN } from "./runtime.mjs";
+import { hexOf } from "../search/raw-elements.mjs";
+import { ShownIterator, UNKNOWN_VALUE } from "./runtime.mjs";
 
-/** @typedef {import("./runtime.mjs").Cell} Cell */
+/** @typedef {import("./runtime.mjs").CapturedCell} CapturedCell */
 /**
  * @typedef {{ object: any, seen: Set<unknown>, hasValues: boolean }} Weak a WeakMap or a WeakSet, and which keys were
  * found
@@ -48,7 +48,7 @@ const valuesOf = Set.prototype.values;
 export class Walk {
   /**
    * @param {import("./runtime.mjs").Runtime} runtime
-   * @param {import("./builtins.mjs").Builtins} builtins
+   * @param {import("./named-builtins.mjs").NamedBuiltins} builtins
    * @param {{ hides?: string, hasTags?: boolean }} how what is left out on purpose, so that tests see that they notice
    * it; and whether the modules have templates with tags
    */
@@ -138,7 +138,7 @@ export class Walk {
     return this.seen.size - 1;
   }
 
-  /** @param {Cell} cell */
+  /** @param {CapturedCell} cell */
   cell([environment, index]) {
     if (environment === undefined) {
       this.out.push("none");
@@ -185,7 +185,7 @@ export class Walk {
   /** @param {any} object */
   #object(object) {
     this.out.push("{");
-    if (object === UNKNOWN) throw new CantShow("how a `try` was left, or how far a loop is");
+    if (object === UNKNOWN_VALUE) throw new CantShow("how a `try` was left, or how far a loop is");
     const watched = anyWatchedOf(object);
     const isMemory = watched === undefined && (types.isAnyArrayBuffer(object) || ArrayBuffer.isView(object));
     if (watched !== undefined) this.#watched(watched);

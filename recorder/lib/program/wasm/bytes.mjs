@@ -5,7 +5,7 @@ const { Uint8Array: Bytes } = globalThis;
 const { from: bufferFrom } = Buffer;
 
 /** Reads bytes from a position on. */
-export class Reader {
+export class ByteReader {
   /** @param {Uint8Array} bytes @param {number} [at] the next byte's position @param {number} [end] behind the last */
   constructor(bytes, at = 0, end = bytes.length) {
     this.bytes = bytes;
@@ -87,7 +87,7 @@ export function name(text) {
 export const vector = (items) => [...number(items.length), ...items.flat()];
 
 /** Collects bytes, however many. */
-export class Writer {
+export class ByteWriter {
   #bytes = new Bytes(1024);
 
   length = 0;

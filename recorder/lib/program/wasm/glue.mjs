@@ -1,7 +1,7 @@
 // The module between translated code and the recorder: it fills the table of functions. Those that give back what is on
 // the stack are made here, since the recorder would need a list for more than one result.
 
-import { Writer, name, number, vector } from "./bytes.mjs";
+import { ByteWriter, name, number, vector } from "./bytes.mjs";
 import { SLOTS, typeBytes } from "./slots.mjs";
 
 const { Set: EngineSet, Uint8Array: Bytes } = globalThis;
@@ -62,7 +62,7 @@ export function glueBytes(isRelaxed) {
   ];
   const bodies = codes.flatMap((code) => (code === undefined ? [] : [[...number(code.length + 2), 0, ...code, END]]));
   const elements = vector([[0, 0x41, 0, END, ...vector(SLOTS.map((each) => number(all.indexOf(each))))]]);
-  const writer = new Writer();
+  const writer = new ByteWriter();
   writer.add([0x00, 0x61, 0x73, 0x6d, 0x01, 0x00, 0x00, 0x00]);
   const sections = [
     [1, vector(types.map(typeBytes))], [2, vector(imports)], [3, vector(made.map(typeOf))], [9, elements],

@@ -1,7 +1,7 @@
 // The instructions of WebAssembly, as far as a reader has to know them: what follows each one's number, and which of
 // them use the memory.
 
-/** @typedef {import("./bytes.mjs").Reader} Reader */
+/** @typedef {import("./bytes.mjs").ByteReader} ByteReader */
 
 /** What follows an instruction: numbers in LEB128 as many as the digit says, or what a letter says. */
 const FOLLOWS = new Map([
@@ -56,14 +56,14 @@ function followsOf(prefix, code) {
   throw new SyntaxError(`instruction ${prefix === 0 ? "" : "0xfc "}0x${code.toString(16)}`);
 }
 
-/** @param {Reader} reader @returns {number} the offset of an access to the memory */
+/** @param {ByteReader} reader @returns {number} the offset of an access to the memory */
 function offsetOf(reader) {
   // The sixth bit says that a memory's number follows.
   if ((reader.number() & 64) !== 0) reader.skipNumber();
   return reader.number();
 }
 
-/** @type {Record<string, (reader: Reader) => void>} */
+/** @type {Record<string, (reader: ByteReader) => void>} */
 const SKIPS = {
   1: (reader) => reader.skipNumber(),
   2: (reader) => {
@@ -84,7 +84,7 @@ const SKIPS = {
 
 /**
  * Reads an instruction, with what follows it.
- * @param {Reader} reader
+ * @param {ByteReader} reader
  * @returns {Instruction}
  * @throws {SyntaxError} for one that isn't known, with its number
  */

@@ -1,7 +1,7 @@
 // Translates a module that uses shared memory: before each of its accesses a function of the recorder is called, or in
 // its place if it is atomic. All else stays as it is, and so do the numbers and names of its functions.
 
-import { Reader, Writer, name, number, signed, vector } from "./bytes.mjs";
+import { ByteReader, ByteWriter, name, number, signed, vector } from "./bytes.mjs";
 import { instruction } from "./instructions.mjs";
 import { SLOTS, SLOT_TYPES, slotNamed, slotOfAtomic, typeBytes } from "./slots.mjs";
 
@@ -34,14 +34,17 @@ const VECTOR_READS = Object.freeze([16, 8, 8, 8, 8, 8, 8, 1, 2, 4, 8]);
 
 /** @typedef {{ content: Uint8Array, at: number }} Section its bytes, and where they are in the module */
 
-/** @typedef {{ name: string, operands: number[], stays: boolean }} Step what is called, and whether its access stays */
+/**
+ * @typedef {{ name: string, operands: number[], stays: boolean }} TranslatedCall what is called, and whether its access
+ * stays
+ */
 
 /**
  * @param {Uint8Array} bytes of a module
  * @returns {{ sections: Map<number, Section>, custom: Uint8Array[] }}
  */
 function sectionsOf(bytes) {
-  const reader = new Reader(bytes, HEAD.length);
+  const reader = new ByteReader(bytes, HEAD.length);
   const sections = new EngineMap();
   const custom = [];
   while (reader.at < bytes.length) {
@@ -53,15 +56,18 @@ function sectionsOf(bytes) {
   return { sections, custom };
 }
 
-/** @param {Reader} reader @returns {{ isShared: boolean, most: number }} limits of a memory or table, which it reads */
+/**
+ * @param {ByteReader} reader
+ * @returns {{ isShared: boolean, most: number }} limits of a memory or table, which it reads
+ */
 function limits(reader) {
   const flags = reader.number();
   const least = reader.number();
   return { isShared: (flags & SHARED) !== 0, most: (flags & 1) === 0 ? least : reader.number() };
 }
 
-/** @param {Section | undefined} section @returns {Reader} */
-const readerOf = (section) => new Reader(section?.content ?? new Bytes([0]));
+/** @param {Section | undefined} section @returns {ByteReader} */
+const readerOf = (section) => new ByteReader(section?.content ?? new Bytes([0]));
 
 /** @param {Map<number, Section>} sections what the module has of each */
 function counted(sections) {
@@ -88,7 +94,7 @@ function counted(sections) {
   return found;
 }
 
-/** @param {number} code @param {number} offset @returns {Step | undefined} of an instruction with one byte */
+/** @param {number} code @param {number} offset @returns {TranslatedCall | undefined} of an instruction with one byte */
 function plainStep(code, offset) {
   const read = READS[code - 0x28];
   if (read !== undefined) return { name: "read", operands: [offset, read], stays: true };
@@ -98,7 +104,7 @@ function plainStep(code, offset) {
   return code === 0x40 ? { name: "grow", operands: [], stays: false } : undefined;
 }
 
-/** @param {number} code @param {number} offset @returns {Step | undefined} of an instruction on vectors */
+/** @param {number} code @param {number} offset @returns {TranslatedCall | undefined} of an instruction on vectors */
 function vectorStep(code, offset) {
   const read = VECTOR_READS[code] ?? { 92: 4, 93: 8 }[code];
   if (read !== undefined) return { name: "read", operands: [offset, read], stays: true };
@@ -108,7 +114,10 @@ function vectorStep(code, offset) {
   return code >= 88 && code <= 91 ? { name: "write v", operands: [offset, lane], stays: true } : undefined;
 }
 
-/** @param {import("./instructions.mjs").Instruction} read @returns {Step | undefined} none: it uses no memory */
+/**
+ * @param {import("./instructions.mjs").Instruction} read
+ * @returns {TranslatedCall | undefined} none: it uses no memory
+ */
 function stepOf({ prefix, code, offset }) {
   if (prefix === 0) return plainStep(code, offset);
   if (prefix === 0xfd) return vectorStep(code, offset);
@@ -128,7 +137,11 @@ class Code {
     this.types = types;
   }
 
-  /** @param {Step} step @param {number} where its instruction is @returns {number[]} the call of its function */
+  /**
+   * @param {TranslatedCall} step
+   * @param {number} where its instruction is
+   * @returns {number[]} the call of its function
+   */
   #call({ name: called, operands }, where) {
     const position = slotNamed(called);
     const type = this.types + SLOT_TYPES.indexOf(SLOTS[position].type);
@@ -136,10 +149,14 @@ class Code {
     return [...given, CALL_INDIRECT, ...number(type), ...number(this.table)];
   }
 
-  /** @param {Reader} reader at a function's variables @param {number} end of its instructions @returns {Uint8Array} */
+  /**
+   * @param {ByteReader} reader at a function's variables
+   * @param {number} end of its instructions
+   * @returns {Uint8Array}
+   */
   #body(reader, end) {
     const { bytes } = reader;
-    const writer = new Writer();
+    const writer = new ByteWriter();
     let from = reader.at;
     for (let left = reader.number(); left > 0; left -= 1) {
       reader.skipNumber();
@@ -159,8 +176,8 @@ class Code {
 
   /** @param {Uint8Array} content @returns {Uint8Array} */
   translated(content) {
-    const reader = new Reader(content);
-    const writer = new Writer();
+    const reader = new ByteReader(content);
+    const writer = new ByteWriter();
     const functions = reader.number();
     writer.add(number(functions));
     for (let left = functions; left > 0; left -= 1) {
@@ -174,7 +191,7 @@ class Code {
 /** @param {Section | undefined} section @param {number[][]} items @returns {Uint8Array} with items added to its list */
 function extended(section, items) {
   const reader = readerOf(section);
-  const writer = new Writer();
+  const writer = new ByteWriter();
   writer.add(number(reader.number() + items.length));
   writer.add(reader.bytes.subarray(reader.at));
   writer.add(items.flat());
@@ -237,7 +254,7 @@ export function translated(bytes) {
   made.set(ID.EXPORT, extended(sections.get(ID.EXPORT), exported(sections, tables)));
   made.delete(ID.START);
   if (code !== undefined) made.set(ID.CODE, new Code(code.at, tables, types).translated(code.content));
-  const writer = new Writer();
+  const writer = new ByteWriter();
   writer.add([...HEAD]);
   for (const id of ORDER) {
     const content = made.get(id);

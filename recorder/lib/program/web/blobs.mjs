@@ -3,7 +3,7 @@
 
 import { defineProperty } from "../../primordials.mjs";
 import { isBlob } from "../internals.mjs";
-import { bytesOf } from "../twin-blobs.mjs";
+import { bytesOf } from "../sync-blobs.mjs";
 
 const { TypeError: EngineTypeError, URL: EngineURL } = globalThis;
 
@@ -20,19 +20,19 @@ export class Blobs {
   /**
    * One for each thread.
    * @param {object} parts
-   * @param {import("../mesh.mjs").Mesh} parts.mesh
+   * @param {import("../control-channels.mjs").ControlChannels} parts.control
    * @param {import("../moves.mjs").Moves} parts.moves
    * @param {import("../threads.mjs").Threads} parts.threads
    */
-  constructor({ mesh, moves, threads }) {
-    this.mesh = mesh;
+  constructor({ control, moves, threads }) {
+    this.control = control;
     this.moves = moves;
     this.threads = threads;
-    mesh.onItem("blob", ({ url, content }) => {
+    control.onItem("blob", ({ url, content }) => {
       // Another thread may have revoked it since.
       if (!this.#known.has(url)) this.#known.set(url, content);
     });
-    mesh.onItem("revoked", ({ url }) => void this.#known.set(url, undefined));
+    control.onItem("revoked", ({ url }) => void this.#known.set(url, undefined));
   }
 
   /** Puts the functions that make and revoke URLs in the place of node's. */
@@ -52,12 +52,12 @@ export class Blobs {
 
   /** @param {number} agent that begins, and has to know the URLs that there are */
   handTo(agent) {
-    for (const [url, content] of this.#known) this.mesh.hand(agent, { kind: "blob", url, content });
+    for (const [url, content] of this.#known) this.control.hand(agent, { kind: "blob", url, content });
   }
 
   /** @param {string} url @returns {Content | undefined} undefined: no thread has made it, or it was revoked */
   at(url) {
-    this.mesh.take();
+    this.control.take();
     const content = this.#known.get(url);
     return content !== undefined && this.threads.isAlive(content.agent) ? content : undefined;
   }
@@ -72,7 +72,7 @@ export class Blobs {
     this.#made += 1;
     const content = { bytes: bytesOf(blob), type: blob.type, agent };
     this.#known.set(url, content);
-    this.mesh.handAll({ kind: "blob", url, content });
+    this.control.handAll({ kind: "blob", url, content });
     return url;
   }
 
@@ -81,6 +81,6 @@ export class Blobs {
     // What other threads do with the URL comes before or after.
     this.moves.yield();
     this.#known.set(url, undefined);
-    this.mesh.handAll({ kind: "revoked", url });
+    this.control.handAll({ kind: "revoked", url });
   }
 }

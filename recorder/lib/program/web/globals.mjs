@@ -71,7 +71,10 @@ class IdleDeadline {
 }
 put(IdleDeadline.prototype, Symbol.toStringTag, "IdleDeadline");
 
-/** @param {import("../worker.mjs").Parts} parts of a page: what it does when it is idle is a task of its own */
+/**
+ * @param {import("../program-worker.mjs").ThreadServices} parts of a page: what it does when it is idle is a task of
+ * its own
+ */
 function putIdle({ later, moves: { board: { clock } } }) {
   const cancelled = new Set();
   let made = 0;
@@ -105,7 +108,7 @@ function scriptUrl(given) {
 
 /**
  * What a worker's scope has, and a page doesn't.
- * @param {import("../worker.mjs").Parts & { ends: import("./ends.mjs").WebEnds }} parts
+ * @param {import("../program-worker.mjs").ThreadServices & { ends: import("./web-ends.mjs").WebEnds }} parts
  * @param {import("./targets.mjs").Targets} targets
  * @param {(url: string) => void} run runs a script in the global scope
  */
@@ -128,7 +131,7 @@ let type = "module";
 
 /**
  * Makes the global object that of a browser: once in a thread.
- * @param {import("../worker.mjs").Parts & { ends: import("./ends.mjs").WebEnds }} parts
+ * @param {import("../program-worker.mjs").ThreadServices & { ends: import("./web-ends.mjs").WebEnds }} parts
  * @param {import("./targets.mjs").Targets} targets
  * @param {(url: string) => void} run runs a script in the global scope
  */

@@ -45,7 +45,7 @@ const shown = (url) => (url.startsWith("file:") ? fileURLToPath(url) : url);
  * @param {string} parent URL of the module that imports it
  * @returns {string} the URL as import.meta.resolve returns it, also if there is no such file
  */
-export function urlOf(specifier, parent) {
+export function importedUrlOf(specifier, parent) {
   try {
     const found = resolveModule(`${specifier}`, parent);
     return IS_URL.test(specifier) ? new EngineURL(specifier, parent).href : found;
@@ -62,7 +62,7 @@ export function urlOf(specifier, parent) {
  * @returns {string} the URL of a module that is there
  */
 export function resolved(specifier, parent) {
-  const url = urlOf(specifier, parent);
+  const url = importedUrlOf(specifier, parent);
   if (!url.startsWith("file:")) return url;
   const file = fileURLToPath(url);
   const found = statSync(file, { throwIfNoEntry: false });
@@ -78,7 +78,7 @@ export function resolved(specifier, parent) {
 }
 
 /** @param {string} url of a file, or with its text in it @returns {string} */
-export function textOf(url) {
+export function moduleText(url) {
   if (url.startsWith("file:")) return readFileSync(fileURLToPath(url), "utf8");
   const [, base64, body] = /** @type {RegExpExecArray} */ (DATA.exec(url.split("#")[0]));
   return bytesFrom(decodeURIComponent(body), base64 ? "base64" : "utf8").toString("utf8");
@@ -116,7 +116,7 @@ const found = new Map();
 
 /** @param {string} url @returns {Format} of a file whose package has no type */
 function detected(url) {
-  const text = textOf(url);
+  const text = moduleText(url);
   const known = found.get(url);
   if (known !== undefined && known.text === text) return known.format;
   const format = isCommonJS(text) ? "commonjs" : "module";

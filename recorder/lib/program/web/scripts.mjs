@@ -7,8 +7,8 @@ import { parseScript } from "../internals.mjs";
 
 const { Script } = /** @type {any} */ (vm);
 
-/** @typedef {{ names: Set<string>, text: string, script: any }} Known a script, and what it declares */
-/** @typedef {{ from: number, to: number, text: string }} Edit */
+/** @typedef {{ names: Set<string>, text: string, script: any }} KnownScript a script, and what it declares */
+/** @typedef {{ from: number, to: number, text: string }} ScriptEdit */
 
 /** As what a variable is declared here. */
 const VARIABLE = Object.freeze({ value: undefined, writable: true, enumerable: true, configurable: true });
@@ -38,7 +38,7 @@ function variablesOf(node) {
   return [...own.flatMap((/** @type {any} */ { id }) => namesIn(id)), ...Object.values(node).flatMap(variablesOf)];
 }
 
-/** @param {any} node a statement of the script itself @returns {{ names: string[], edits: Edit[] }} */
+/** @param {any} node a statement of the script itself @returns {{ names: string[], edits: ScriptEdit[] }} */
 function lexical({ type, kind, declarations, id, start, end }) {
   if (type === "ClassDeclaration") {
     const edits = [{ from: start, to: start, text: `var ${id.name}=` }, { from: end, to: end, text: ";" }];
@@ -63,14 +63,14 @@ export function asVariables(text) {
   }
   const found = body.map(lexical);
   const edits = found.flatMap((/** @type {any} */ { edits: own }) => own);
-  const edited = edits.reduceRight((/** @type {string} */ all, /** @type {Edit} */ { from, to, text: own }) =>
+  const edited = edits.reduceRight((/** @type {string} */ all, /** @type {ScriptEdit} */ { from, to, text: own }) =>
     `${all.slice(0, from)}${own}${all.slice(to)}`, text);
   const names = found.flatMap((/** @type {any} */ { names: own }) => own);
   return { text: edited, names: new Set([...names, ...variablesOf(body)]) };
 }
 
 export class Scripts {
-  /** @type {Map<string, Known>} by URL */
+  /** @type {Map<string, KnownScript>} by URL */
   #known = new Map();
   /** @type {Map<string, PropertyDescriptor | undefined>} what the global object had before the run, by names */
   #before = new Map();
@@ -117,7 +117,7 @@ export class Scripts {
     }
   }
 
-  /** @param {string} url @param {string} text @returns {Known} */
+  /** @param {string} url @param {string} text @returns {KnownScript} */
   #compiled(url, text) {
     const { names, text: edited } = asVariables(text);
     const script = new Script(edited, {

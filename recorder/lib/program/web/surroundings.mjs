@@ -2,22 +2,22 @@
 // is a dedicated worker.
 
 import { apply } from "../../primordials.mjs";
-import { member } from "../member.mjs";
+import { member } from "../../agent/ordinary/patch.mjs";
 import { KIND, channelClass } from "../ports.mjs";
 import { Blobs } from "./blobs.mjs";
-import { WebEnds } from "./ends.mjs";
+import { WebEnds } from "./web-ends.mjs";
 import { fetchOf } from "./fetch.mjs";
 import { beginGlobals, installGlobals } from "./globals.mjs";
-import { Graph } from "./graph.mjs";
-import { WebPortEvents, messageOf, serveWebPorts, webBroadcastClass } from "./ports.mjs";
-import { serveWorkers, workerClass } from "./worker-object.mjs";
+import { WebModuleGraph } from "./web-graph.mjs";
+import { WebPortEvents, eventOfMessage, serveWebPorts, webBroadcastClass } from "./web-ports.mjs";
+import { serveWorkers, webWorkerClass } from "./worker-object.mjs";
 
 const { TypeError: EngineTypeError } = globalThis;
 const { wait: engineWait } = Atomics;
 
 /** @typedef {import("./worker-object.mjs").WebStart} WebStart */
-/** @typedef {{ ends: WebEnds, events: WebPortEvents, blobs: Blobs }} OfWeb */
-/** @typedef {import("../worker.mjs").Parts & OfWeb} WebParts */
+/** @typedef {{ ends: WebEnds, events: WebPortEvents, blobs: Blobs }} WebServices */
+/** @typedef {import("../program-worker.mjs").ThreadServices & WebServices} WebParts */
 
 /** @param {number} agent @returns {typeof Atomics} the engine's own; in a page `wait` throws, as the engine's does */
 function atomicsOf(agent) {
@@ -31,7 +31,7 @@ function atomicsOf(agent) {
   return /** @type {any} */ (Object.assign(own, { wait }));
 }
 
-/** @param {WebParts} parts @param {Graph} graph */
+/** @param {WebParts} parts @param {WebModuleGraph} graph */
 function install(parts, graph) {
   const { events: { targets }, ends, later } = parts;
   const blobs = new Blobs(parts);
@@ -51,16 +51,16 @@ function install(parts, graph) {
  * @param {any} parentPort null in the first thread
  */
 function begin(parts, start, parentPort) {
-  const { ports, moves, mesh, buffers, ends, events: { targets } } = parts;
+  const { ports, moves, control, buffers, ends, events: { targets } } = parts;
   ends.where = start.where;
   if (parentPort !== null) {
     ports.known(parentPort).taker = (envelope) => {
-      if (envelope.kind === KIND.MESSAGE) targets.dispatch(globalThis, messageOf(envelope));
+      if (envelope.kind === KIND.MESSAGE) targets.dispatch(globalThis, eventOfMessage(envelope));
     };
   }
-  const casting = { ports, moves, mesh, buffers };
+  const casting = { ports, moves, control, buffers };
   beginGlobals(start, {
-    Worker: workerClass({ ...parts, targets, base: start.url }), MessageChannel: channelClass(ports),
+    Worker: webWorkerClass({ ...parts, targets, base: start.url }), MessageChannel: channelClass(ports),
     BroadcastChannel: webBroadcastClass(casting, targets),
   });
 }
@@ -68,7 +68,7 @@ function begin(parts, start, parentPort) {
 /**
  * Evaluates the thread's script or module. Its messages come from then on, also if it still awaits something.
  * @param {WebStart} start
- * @param {Graph} graph
+ * @param {WebModuleGraph} graph
  * @param {WebParts} parts
  */
 async function evaluated({ url, type, content }, graph, { ports, ends }) {
@@ -92,7 +92,7 @@ async function evaluated({ url, type, content }, graph, { ports, ends }) {
 
 /** @type {import("../node-surroundings.mjs").Surroundings} */
 export const WEB = {
-  Graph,
+  Graph: WebModuleGraph,
   hasPhases: false,
   Ends: WebEnds,
   PortEvents: WebPortEvents,

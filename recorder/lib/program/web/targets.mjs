@@ -17,7 +17,7 @@ const EngineEvent = /** @type {any} */ (Event);
  */
 
 /**
- * @typedef {object} Around
+ * @typedef {object} TargetContext
  * @property {(thrown: unknown) => void} uncaught takes what a listener has thrown
  * @property {() => void} drain runs microtasks until there are none
  * @property {() => number} now the run's time
@@ -51,7 +51,7 @@ export class Targets {
   /** @type {WeakMap<object, Listener[]>} */
   #lists = new EngineWeakMap();
 
-  /** @param {Around} around */
+  /** @param {TargetContext} around */
   constructor(around) {
     this.around = around;
   }

@@ -7,13 +7,13 @@ import { fileURLToPath } from "node:url";
 import { decorateErrorStack, freshLoader, withoutWarning } from "../internals.mjs";
 import { nodeError } from "../node-error.mjs";
 import { SourceTextModule, SyntheticModule, compiledOnce } from "./compiled-once.mjs";
-import { formatOf, resolved, textOf, urlOf } from "./module-urls.mjs";
+import { formatOf, importedUrlOf, moduleText, resolved } from "./module-urls.mjs";
 
 const { parse } = JSON;
 
 const NOT_DEFINED = /^(?:require|exports|module|__filename|__dirname) is not defined$/;
 
-export class Graph {
+export class ModuleGraph {
   /** @type {Map<string, any>} the run's modules, by URL */
   #modules = new Map();
   /** @type {Promise<unknown>} modules are linked one by one, since one that is being linked isn't waited for */
@@ -44,7 +44,7 @@ export class Graph {
 
   /** @param {string} url of a module that is there @returns {string} */
   textOf(url) {
-    return textOf(url);
+    return moduleText(url);
   }
 
   /** @param {string} url of a module that is there @returns {import("./module-urls.mjs").Format} */
@@ -59,7 +59,7 @@ export class Graph {
       meta.dirname = path.dirname(filename);
       meta.filename = filename;
     }
-    meta.resolve = (/** @type {string} */ specifier) => urlOf(specifier, url);
+    meta.resolve = (/** @type {string} */ specifier) => importedUrlOf(specifier, url);
     meta.url = url;
   }
 
@@ -185,7 +185,7 @@ function explain(error) {
 
 /** @param {string} url of JSON */
 function jsonOf(url) {
-  const value = parsed(url.startsWith("file:") ? fileURLToPath(url) : url, textOf(url));
+  const value = parsed(url.startsWith("file:") ? fileURLToPath(url) : url, moduleText(url));
   const module = new SyntheticModule(["default"], () => module.setExport("default", value), { identifier: url });
   return module;
 }

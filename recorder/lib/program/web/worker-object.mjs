@@ -5,7 +5,7 @@
 import { put } from "../../primordials.mjs";
 import { KIND } from "../ports.mjs";
 import { startThread } from "../thread-start.mjs";
-import { messageOf } from "./ports.mjs";
+import { eventOfMessage } from "./web-ports.mjs";
 import { ErrorEvent, putHandler, putMethods } from "./targets.mjs";
 
 const { TypeError: EngineTypeError, URL: EngineURL } = globalThis;
@@ -24,14 +24,14 @@ const TYPES = Object.freeze(["classic", "module"]);
  */
 
 /**
- * @typedef {object} OfWeb what else workers of browsers need of their thread
- * @property {import("./ends.mjs").WebEnds} ends
+ * @typedef {object} WebWorkerContext what else workers of browsers need of their thread
+ * @property {import("./web-ends.mjs").WebEnds} ends
  * @property {import("./targets.mjs").Targets} targets
  * @property {import("./blobs.mjs").Blobs} blobs
  * @property {string} base the URL from which others are taken
  */
 
-/** @typedef {import("../thread-start.mjs").Starting & OfWeb} WebStarting */
+/** @typedef {import("../thread-start.mjs").StartContext & WebWorkerContext} WebStarting */
 
 /** @type {WebStarting | undefined} a thread has one part in a run */
 let starting;
@@ -97,12 +97,12 @@ class Worker extends EngineTarget {
   /** @param {import("../ports.mjs").Envelope} envelope */
   #take(envelope) {
     if (!this.#isAlive) return;
-    if (envelope.kind === KIND.MESSAGE) world().targets.dispatch(this, messageOf(envelope));
+    if (envelope.kind === KIND.MESSAGE) world().targets.dispatch(this, eventOfMessage(envelope));
     else if (envelope.kind === KIND.ERROR) this.#fails(envelope.value);
     else if (envelope.kind === KIND.EXIT) this.#isAlive = false;
   }
 
-  /** @param {import("./ends.mjs").Problem} problem that nobody has caught in the thread */
+  /** @param {import("./web-ends.mjs").Problem} problem that nobody has caught in the thread */
   #fails(problem) {
     const { targets, ends } = world();
     const isListenedTo = problem.isListenedTo || targets.isListenedTo(this, "error");
@@ -118,7 +118,7 @@ class Worker extends EngineTarget {
 put(Worker.prototype, Symbol.toStringTag, "Worker");
 
 /** @param {WebStarting} given @returns {Function} the class by which the program starts workers */
-export function workerClass(given) {
+export function webWorkerClass(given) {
   starting = given;
   return Worker;
 }

@@ -1,0 +1,336 @@
+// The worker of one agent. It replaces what shows an agent the world: Atomics, typed arrays, clocks, random numbers. It
+// imports the agents' module, and then carries out orders, one after the other: the agent's part in a run, or the
+// module's `init` or `check`. It never gets back to its event loop.
+//
+// All of this runs beside the agents' code, which may change what it finds. So it uses functions that it has kept from
+// before that code is loaded, and loops in place of the methods of arrays.
+
+import fs from "node:fs";
+import { syncBuiltinESMExports } from "node:module";
+import { Writable } from "node:stream";
+import threads from "node:worker_threads";
+import { Board } from "../board/board.mjs";
+import { ORDER, WORD } from "../memory/layout.mjs";
+import { Log } from "../memory/log.mjs";
+import { RecordedMemory } from "../memory/recorded-memory.mjs";
+import { Notes } from "../memory/notes.mjs";
+import { Records } from "../memory/records.mjs";
+import { Sources } from "../memory/sources.mjs";
+import { Stores } from "../memory/stores.mjs";
+import { ownKeys, put } from "../primordials.mjs";
+import { onceMore } from "../processes/garbage.mjs";
+import { recordedAtomics } from "./atomics.mjs";
+import { shareWithContexts } from "./contexts.mjs";
+import { described } from "./described.mjs";
+import { isCalledByAgents, sourceHere } from "./frames.mjs";
+import { PendingWork } from "./pending-work.mjs";
+import { Messages } from "./messages.mjs";
+import { blockNumber } from "./ordinary/context.mjs";
+import { watchOrdinary, watchOthers } from "./ordinary/watch.mjs";
+import { isWatchable, watchMaking } from "./other-memory.mjs";
+import { Player } from "./player.mjs";
+import { Chance, simulateChance, simulateTime } from "./time.mjs";
+import { Unseen } from "./unseen.mjs";
+
+const { Error: EngineError, String: text, structuredClone: cloned } = globalThis;
+
+// A worker's own streams are written by its event loop, which never runs again. What agents print goes to
+// standard error at once: standard output is the recorder's.
+function printAtOnce() {
+  /** @param {string | Uint8Array} chunk */
+  const printed = (chunk) => {
+    if (self.player?.isSilent() === true) return true;
+    try {
+      fs.writeSync(2, chunk);
+    } catch {
+      // Nobody reads it, or not fast enough: what an agent prints isn't worth its end.
+    }
+    return true;
+  };
+  for (const name of /** @type {const} */ (["stdout", "stderr"])) {
+    const stream = new Writable({ write: (chunk, _encoding, done) => done(printed(chunk) ? null : undefined) });
+    // The stream's own way of writing goes on later, for a callback.
+    put(stream, "write", printed);
+    /** @type {any} node's messages for it may still come, and are taken by a method that a symbol names */
+    const former = process[name];
+    for (const symbol of Object.getOwnPropertySymbols(Object.getPrototypeOf(former))) {
+      put(stream, symbol, former[symbol].bind(former));
+    }
+    Object.defineProperty(process, name, { value: stream, configurable: true });
+  }
+}
+
+const NO_AGENT = "it has no function as its default export, as `export default function agent({ buffers }) { .. }`";
+
+/**
+ * @typedef {object} AgentWorkerData what a worker is started with
+ * @property {import("node:worker_threads").MessagePort} port
+ * @property {string[]} args
+ * @property {"watch" | "store" | "refuse"} ordinary
+ * @property {"run" | "real"} clock
+ * @property {"fail" | "allow"} unrecorded
+ * @property {string} module the URL of the agents' module
+ */
+
+/**
+ * @typedef {object} AgentGroupData what it gets when all workers have loaded that module
+ * @property {ReturnType<typeof import("../board/group-memory.mjs").memoryOf>} memory
+ * @property {import("../options/plan.mjs").Plan} plan
+ * @property {import("../board/strategy.mjs").Rules} rules
+ */
+
+const { port, args, ordinary, clock, unrecorded, module: file } = /** @type {AgentWorkerData} */ (threads.workerData);
+// Agents and their worker get another `postMessage`, which looks at what it is given.
+const post = port.postMessage.bind(port);
+
+/**
+ * Which agent it is, and how its calls are made; none can be while its module is being loaded.
+ * @type {{ agent: number, player: Player | undefined, buffers: unknown[] }}
+ */
+const self = { agent: 0, player: undefined, buffers: [] };
+const chance = new Chance();
+const unseen = new Unseen(unrecorded === "allow");
+
+/** @param {unknown} buffer */
+const blockOf = (buffer) => {
+  for (let block = 0; block < self.buffers.length; block += 1) {
+    if (self.buffers[block] === buffer) return block;
+  }
+  return -1;
+};
+
+const isRecording = () => self.player !== undefined && self.player.isPlaying;
+
+/** @returns {Player} who is there before the agent's code runs */
+function playing() {
+  const { player } = self;
+  if (player === undefined) throw new EngineError("the agent has no part in a run yet");
+  return player;
+}
+
+/**
+ * Ends the run, and says where.
+ * @param {string} what was done, as a message says it about an agent
+ * @param {string} why
+ */
+const refuse = (what, why) =>
+  playing().refuse(`${what} that the recorder can't record: ${described(new EngineError(why))}`);
+
+const endUnseen = () => playing().endUnseen();
+
+/** @type {import("./atomics.mjs").Asking} */
+const asking = {
+  // A clone of a buffer has its memory.
+  blockOf: blockNumber,
+  isRecording,
+  make: (call, view, called) => playing().make(call, view, called),
+  simulatesTime: clock === "run",
+  sleep: (milliseconds) => playing().doze(milliseconds),
+  refuse: (why) => refuse("made a call", why),
+  unseen,
+  endUnseen,
+};
+
+/** @param {object} memory that isn't recorded, before an ordinary access to it */
+const seenUnrecorded = (memory) => {
+  if (isRecording() && unseen.use(memory, "accesses")) endUnseen();
+};
+
+/** @type {import("./ordinary/context.mjs").Watching} */
+const watching = {
+  blockOf,
+  seen: (place, from, to, writes) => {
+    const { player } = self;
+    if (player !== undefined && player.isPlaying) player.seen(place, from, to, writes);
+  },
+  isUnrecorded: (buffer) => unseen.isWatched(buffer) && isWatchable(buffer, seenUnrecorded),
+  seenUnrecorded,
+  copied: (memory) => unseen.addCopy(memory),
+  isCalledByAgents,
+  given: (what) => unseen.add({ kind: "given", what, place: sourceHere() }, true),
+  refuse: (why) => {
+    if (isRecording()) return refuse("did something", why);
+    throw new EngineError(why);
+  },
+};
+
+/** @typedef {{ later: PendingWork, messages: Messages }} UnfinishedWork */
+
+/**
+ * Replaces what shows an agent the world.
+ * @returns {UnfinishedWork} what notes from now on what is left for later, and what nobody serves
+ */
+function installReplacements() {
+  printAtOnce();
+  // What the recorder has handed its worker is nothing for agents: a thread that was handed nothing has null.
+  threads.workerData = null;
+  if (clock === "run") simulateTime(() => (isRecording() ? playing().look() : 0));
+  simulateChance(chance);
+  if (ordinary === "watch") watchOrdinary(watching);
+  else watchOthers(watching);
+  watchMaking(unseen);
+  const messages = new Messages(unseen, { isPlaying: isRecording, end: endUnseen }, threads);
+  globalThis.Atomics = recordedAtomics(Atomics, asking);
+  if (ordinary !== "watch") shareWithContexts({ Atomics, SharedArrayBuffer, WebAssembly });
+  syncBuiltinESMExports();
+  return { later: new PendingWork(), messages };
+}
+
+/**
+ * Makes sure that a module's `setup` can be handed on.
+ * @param {any} setup
+ * @throws {Error} which says what of it is no plain data
+ */
+function needsPlain(setup) {
+  const must = "`setup` must be plain data, as { agents: 2, buffers: [12] }";
+  if (typeof setup === "function") throw new EngineError(`${must}, but it is a function`);
+  if (typeof setup !== "object" || setup === null) return;
+  const keys = ownKeys(setup);
+  for (let at = 0; at < keys.length; at += 1) {
+    const value = setup[keys[at]];
+    try {
+      cloned(value);
+    } catch {
+      const what = typeof value === "function" ? "is a function" : "has something else in it";
+      throw new EngineError(`${must}, but its member ${text(keys[at])} ${what}`);
+    }
+  }
+}
+
+/**
+ * The names under which a module exports something, and those of its agent's own properties.
+ * @param {object} module
+ * @param {Function} agent
+ * @returns {string[]}
+ */
+function namesIn(module, agent) {
+  /** @type {string[]} */
+  const names = [];
+  const owners = [module, agent];
+  for (let owner = 0; owner < owners.length; owner += 1) {
+    const keys = ownKeys(owners[owner]);
+    for (let at = 0; at < keys.length; at += 1) {
+      const key = keys[at];
+      if (typeof key === "string") names[names.length] = key;
+    }
+  }
+  return names;
+}
+
+/**
+ * Imports the agents' module, and reports what it exports besides the agent.
+ * @param {(url: string) => Promise<any>} load
+ * @returns {Promise<{ default: Function, init?: Function, check?: Function } | undefined>}
+ */
+async function loaded(load) {
+  try {
+    const found = await load(file);
+    // A compiled CommonJS module has its exports in its default export.
+    const isCompiled = typeof found.default === "object" && typeof found.default?.default === "function";
+    const module = isCompiled ? found.default : found;
+    if (typeof module.default !== "function") throw new EngineError(NO_AGENT);
+    const { default: agent } = module;
+    // A CommonJS module that exports a function has the others as its properties.
+    const { init = agent.init, check = agent.check, setup = agent.setup } = module;
+    /** @type {Record<string, unknown>} */
+    const others = { init, check };
+    const names = ["init", "check"];
+    for (let at = 0; at < names.length; at += 1) {
+      const found = others[names[at]];
+      if (found !== undefined && typeof found !== "function") {
+        throw new EngineError(`its export ${names[at]} is no function`);
+      }
+    }
+    needsPlain(setup);
+    const there = { hasInit: init !== undefined, hasCheck: check !== undefined };
+    post({ setup, names: namesIn(module, agent), ...there });
+    return { default: agent, init, check };
+  } catch (problem) {
+    post({ failed: described(problem) });
+    return undefined;
+  }
+}
+
+/**
+ * The agent's player, over the memory that the group shares.
+ * @param {AgentGroupData} handed
+ * @param {UnfinishedWork} noting
+ */
+function playerOf({ memory, plan, rules }, { later, messages }) {
+  later.enable();
+  unseen.exclude(memory);
+  unseen.notes = new Notes(memory.notes[self.agent]);
+  const board = new Board(memory.board, rules);
+  const buffers = new RecordedMemory(memory.buffers, memory.copies);
+  return new Player(self.agent, {
+    board,
+    memory: buffers,
+    log: new Log(memory.log, board.words, WORD.EVENTS),
+    stores: new Stores(memory.stores, board.words, buffers),
+    records: new Records(memory.records[self.agent]),
+    sources: new Sources(memory.sources[self.agent]),
+    later,
+    messages,
+    unseen,
+    chance,
+    lengths: plan.buffers,
+    canBlock: plan.canBlock[self.agent],
+    ordinary,
+  });
+}
+
+/**
+ * Does what it is ordered, again and again.
+ * @param {NonNullable<Awaited<ReturnType<typeof loaded>>>} module
+ * @param {number} agents how many
+ */
+function serve(module, agents) {
+  const player = playing();
+  const buffers = () => {
+    /** @type {unknown[]} */
+    const list = [];
+    for (let block = 0; block < self.buffers.length; block += 1) list[block] = self.buffers[block];
+    return list;
+  };
+  const words = () => {
+    /** @type {string[]} */
+    const list = [];
+    for (let at = 0; at < args.length; at += 1) list[at] = args[at];
+    return list;
+  };
+  for (;;) {
+    onceMore();
+    const order = player.awaitOrder();
+    const own = { agents, args: words() };
+    const play = () => module.default({ buffers: buffers(), agent: self.agent, agents, args: words() });
+    if (order === ORDER.PLAY) player.play(play, described);
+    else player.serve(() => (order === ORDER.INIT ? module.init : module.check)?.(buffers(), own), described);
+  }
+}
+
+/** @returns {Promise<any>} the next message, which mustn't have come yet */
+const nextMessage = () => new Promise((done) => {
+  port.once("message", done);
+});
+
+/** @param {(url: string) => Promise<any>} load imports a module */
+export async function main(load) {
+  const numbered = nextMessage();
+  const noting = installReplacements();
+  post({ begun: true });
+  self.agent = (await numbered).agent;
+  chance.agent = self.agent;
+  chance.begin(0);
+  /** @type {Promise<AgentGroupData>} */
+  const handed = nextMessage();
+  const module = await loaded(load);
+  if (module === undefined) {
+    port.close();
+    return;
+  }
+  const given = await handed;
+  self.buffers = given.memory.buffers;
+  self.player = playerOf(given, noting);
+  post({ ready: true });
+  serve(module, given.plan.agents);
+}

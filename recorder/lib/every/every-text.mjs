@@ -1,0 +1,108 @@
+// The plain text of what is reported about every schedule.
+
+import { countText, digits, listed } from "../run/summary-words.mjs";
+
+/** @typedef {import("./data.mjs").EveryData} EveryData */
+/** @typedef {import("./data.mjs").FoundData} FoundData */
+
+const MOST_LISTED = 8;
+
+const ALIKE = "states that differ only by an exchange of like agents counted as one: no agent looks at its number";
+
+/** What agents can do wrong, in the words of the first line. */
+const WORDS = Object.freeze({
+  deadlock: "deadlock", threw: "throw", race: "race", check: "fail check", "no way out": "go on for ever",
+  limit: "meet a limit", failed: "fail in another way",
+});
+
+/** @param {EveryData} data @returns {string} lines, each with its end */
+export function everyText(data) {
+  const lines = data.closed ? closedLines(data) : openLines(data);
+  return lines.map((line) => `${line}\n`).join("");
+}
+
+/** @param {EveryData} data */
+function closedLines(data) {
+  const { acts, agents, found, states } = data;
+  const title = `every schedule of ${countText(agents, "agent")} was tried`;
+  const none = "none deadlocks, throws, has a data race or fails check; from every state all agents can still end";
+  return [
+    `${title}: ${found.length === 0 ? none : foundText(found)}`,
+    ...foundLines(data),
+    indented(`${countText(states, "state")}, ${countText(acts, "act")}; ${finalText(data)}`),
+    indented(learnedText(data)),
+    indented(mergedText(data)),
+    ...alikeLines(data),
+    "other numbers of agents, rounds or arguments weren't tried",
+  ];
+}
+
+/** @param {FoundData[]} found */
+function foundText(found) {
+  const kinds = [...new Set(found.map(({ kind }) => WORDS[kind]))];
+  return `agents can ${kinds.length > 1 ? `${kinds.slice(0, -1).join(", ")} or ${kinds[kinds.length - 1]}` : kinds[0]}`;
+}
+
+/** @param {EveryData} data @returns {string[]} the first ones, each with how it is shown */
+function foundLines({ found, notCompared, realRuns }) {
+  const lines = found.slice(0, MOST_LISTED).flatMap((each) => findingLines(each, realRuns + notCompared));
+  const more = found.length - MOST_LISTED;
+  return [...lines, ...(more > 0 ? [`and ${digits(more)} more`] : [])].map(indented);
+}
+
+/** @param {FoundData} found @param {number} made how many real runs */
+function findingLines(found, made) {
+  const { detail, kind, onlyIf, text } = found;
+  const what = text === "" || text === detail?.[0] ? kind : `${kind}: ${text}`;
+  const lines = detail === null ? ["not shown by a real run"] : detail.slice(0, 4);
+  const how = found.seed === null ? bySearch(found) : byRuns(found, made);
+  return [`${what}, ${how}`, ...lines.map(indented), ...(onlyIf === null ? [] : [indented(onlyIf)])];
+}
+
+/** @param {FoundData} found by the search */
+function bySearch({ acts, changes, detail, states }) {
+  const by = `${countText(acts, "act")} with ${countText(changes, "change")} of agents`;
+  return `in ${countText(states, "state")}; ${detail === null ? "the first one after" : "shown by"} ${by}`;
+}
+
+/** @param {FoundData} found by real runs alone @param {number} made how many there were */
+const byRuns = ({ runs, seed }, made) => `in ${digits(runs)} of ${countText(made, "real run")}, seed ${seed} the first`;
+
+/** @param {EveryData} data */
+function finalText({ finalCount, finals }) {
+  const many = countText(finalCount, "final state");
+  return finalCount === 0 ? many : `${many}: ${listed(finals, 3, ({ text }) => text).join("; ")}`;
+}
+
+/** @param {EveryData} data */
+function learnedText({ edges, moments, notCompared, notProved, realRuns, searchProved }) {
+  const search = searchProved ? "the search is proved" : `the search isn't proved (${notProved})`;
+  const runs = realRuns === 1 ? "1 real run agrees" : `${digits(realRuns)} real runs agree`;
+  const learned = `what the agents do was learned from their code: ${countText(moments, "moment")} of an agent`;
+  const others = notCompared === 0 ? "" : `, and ${digits(notCompared)} couldn't be compared`;
+  return `${search}; ${learned}, each of ${countText(edges, "edge")} twice; ${runs}${others}`;
+}
+
+/** @param {EveryData} data */
+function mergedText({ hidden }) {
+  const text = "two moments counted as one only if all that the agent's code can still read was the same";
+  const apart = hidden.reduce((sum, { nodes }) => sum + nodes, 0);
+  return apart === 0 ? text : `${text}; ${countText(apart, "moment")} couldn't be compared (${hidden[0].why})`;
+}
+
+/** @param {EveryData} data @returns {string[]} what counted as one state, if agents are alike */
+const alikeLines = ({ areAlike }) => (areAlike ? [indented(ALIKE)] : []);
+
+/** @param {EveryData} data */
+function openLines(data) {
+  const { found, open, widest } = data;
+  const some = found.length === 0 ? [] : [indented(`among those that were tried, ${foundText(found)}`)];
+  const lines = [`not every schedule was tried: ${open}`, ...some, ...foundLines(data), ...alikeLines(data)];
+  if (widest === null) return lines;
+  const { answers, automaton, line, nodes } = widest;
+  const branches = line === null ? "" : `; ${countText(answers, "answer")} at ${line} lead on`;
+  return [...lines, indented(`the agents of automaton ${automaton} have ${countText(nodes, "node")}${branches}`)];
+}
+
+/** @param {string} line */
+const indented = (line) => `  ${line}`;

@@ -1,0 +1,125 @@
+// The agents' modules, rewritten and compiled once, and made anew as often as that is needed.
+
+import { readFileSync } from "node:fs";
+import { createRequire } from "node:module";
+import { basename } from "node:path";
+import { fileURLToPath } from "node:url";
+import { Script } from "node:vm";
+import { Refused } from "../../options/refused.mjs";
+import { defineProperty } from "../../primordials.mjs";
+import { parseScript, resolveModule } from "../../program/internals.mjs";
+import { rewritten } from "../rewriting/rewrite.mjs";
+
+/** @typedef {import("../rewriting/rewrite.mjs").Rewritten} Rewritten */
+
+/**
+ * @typedef {object} Module
+ * @property {string} url
+ * @property {Function} make its function
+ * @property {(string | object)[]} imports the URLs of the modules that it imports, and what node's own export
+ */
+
+/** Modules of node's that keep nothing. */
+const HARMLESS = new Set(["node:assert", "node:assert/strict", "node:util", "node:path"]);
+
+const required = createRequire(import.meta.url);
+
+/** @param {string} name of a module of node's @returns {object} what an import of it has */
+function exportsOf(name) {
+  const exported = required(name);
+  return { ...exported, default: exported };
+}
+
+/** @param {string} url @param {string} source */
+function parsed(url, source) {
+  try {
+    return parseScript(source, { ecmaVersion: "latest", sourceType: "module" });
+  } catch (error) {
+    throw new Refused(`--all can't read ${basename(url)}: ${/** @type {Error} */ (error).message}`);
+  }
+}
+
+export class AgentModules {
+  /** @param {boolean} [isPlain] whether nothing is to show what the modules keep */
+  constructor(isPlain = false) {
+    this.isPlain = isPlain;
+    /** @type {Map<string, Rewritten>} by the modules' URLs */
+    this.texts = new Map();
+    /** @type {Module[]} each after all that it imports */
+    this.modules = [];
+    /** @type {string | undefined} the URL of the agents' own module */
+    this.entry = undefined;
+    this.isEntryImported = false;
+    /** @type {Record<string, object>} what node's own modules export, by their names */
+    this.nodes = {};
+  }
+
+  /**
+   * Takes a module, with all that it imports.
+   * @param {string} url
+   * @param {boolean} [isEntry] whether it is the agents' own
+   */
+  take(url, isEntry = false) {
+    if (this.texts.has(url)) return;
+    const name = basename(fileURLToPath(url));
+    if (!/\.m?js$/.test(url)) throw new Refused(`--all can't read ${name}: it takes modules in .mjs or .js files`);
+    const source = readFileSync(fileURLToPath(url), "utf8").replace(/^\uFEFF/, "");
+    const tree = parsed(url, source);
+    const how = { file: name, isPlain: this.isPlain };
+    if (isEntry) this.entry = url;
+    let text = rewritten(tree, source, { ...how, isAlone: isEntry });
+    this.texts.set(url, text);
+    /** @type {(string | object)[]} */
+    const imports = [];
+    for (const specifier of text.imports) imports.push(this.#imported(specifier, url));
+    if (isEntry && this.isEntryImported) {
+      text = rewritten(tree, source, { ...how, isAlone: false });
+      this.texts.set(url, text);
+    }
+    this.modules.push({ url, make: new Script(text.code, { filename: url }).runInThisContext(), imports });
+  }
+
+  /** @param {string} specifier @param {string} parent @returns {string | object} */
+  #imported(specifier, parent) {
+    const url = resolveModule(specifier, parent);
+    if (url === this.entry) this.isEntryImported = true;
+    if (!url.startsWith("node:")) {
+      this.take(url);
+      return url;
+    }
+    const name = basename(parent);
+    if (!HARMLESS.has(url)) throw new Refused(`--all can't show what agents keep in ${url}, which ${name} imports`);
+    this.nodes[url] ??= exportsOf(url);
+    return this.nodes[url];
+  }
+
+  /**
+   * Makes all modules anew.
+   * @param {object} calls what rewritten code calls
+   * @returns {Map<string, Record<string, any>>} what each exports, by their URLs
+   */
+  made(calls) {
+    /** @type {Map<string, Record<string, any>>} */
+    const exports = new Map(this.modules.map(({ url }) => [url, Object.create(null)]));
+    for (const { url, make, imports } of this.modules) {
+      const own = /** @type {Record<string, any>} */ (exports.get(url));
+      const others = imports.map((one) => (typeof one === "string" ? exports.get(one) : one));
+      /** @type {(getters: Getters, stars: number[]) => void} */
+      const exported = (getters, stars) => fill(own, getters, stars.map((at) => others[at]));
+      make(calls, { imports: others, exported });
+    }
+    return exports;
+  }
+}
+
+/** @typedef {Record<string, () => unknown>} Getters what a module exports itself, by names */
+
+/** @param {object} own what a module exports @param {Getters} getters @param {any[]} stars of what it exports all */
+function fill(own, getters, stars) {
+  const passed = stars.flatMap((other) => Object.keys(other).filter((name) => name !== "default")
+    .map((name) => /** @type {[string, () => unknown]} */ ([name, () => other[name]])));
+  for (const [name, get] of [...passed, ...Object.entries(getters)]) {
+    defineProperty(own, name, { get, enumerable: true, configurable: true });
+  }
+  defineProperty(own, Symbol.toStringTag, { value: "Module" });
+}

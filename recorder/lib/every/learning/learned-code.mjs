@@ -1,0 +1,137 @@
+// The agents' code, rewritten so that its state can be shown, and begun anew whenever its modules keep something else
+// than at first.
+
+import { basename } from "node:path";
+import { described } from "../../agent/described.mjs";
+import { Refused } from "../../options/refused.mjs";
+import { NamedBuiltins } from "../state/named-builtins.mjs";
+import { Capture } from "../state/capture.mjs";
+import { beginInstalled } from "../state/installed.mjs";
+import { Runtime } from "../state/runtime.mjs";
+import { CantShow } from "../state/walk.mjs";
+import { keyOf } from "./asked-nodes.mjs";
+import { AgentModules } from "./agent-modules.mjs";
+import { hadOtherNext } from "./iterators.mjs";
+import { PART } from "./learning-progress.mjs";
+
+const REPLACES_NEXT =
+  "--all can't learn what the agents do: a module replaces the `next` of all iterators of arrays";
+const PRELUDE = new URL("../state/prelude.mjs", import.meta.url).href;
+
+/** @typedef {import("./asked-nodes.mjs").AskedNode} AskedNode */
+
+export class LearnedCode {
+  /** @type {Map<string, Record<string, any>> | undefined} what the modules export */
+  #exports;
+
+  /** @type {string | undefined} what the modules keep at first; undefined: that can't be shown */
+  #first;
+
+  /**
+   * @param {string} url of the agents' module
+   * @param {import("./asking.mjs").Asker} asker
+   * @param {AgentModules} graph
+   * @param {Runtime} runtime
+   * @param {NamedBuiltins} builtins
+   * @param {Capture} capture
+   */
+  constructor(url, asker, graph, runtime, builtins, capture) {
+    this.url = url;
+    this.asker = asker;
+    this.graph = graph;
+    this.runtime = runtime;
+    this.builtins = builtins;
+    this.capture = capture;
+    /** How often the modules were made anew. */
+    this.renewals = -1;
+    this.#renew();
+    this.#first = this.#kept();
+  }
+
+  /** What the agents' module exports. @returns {{ agent: any, init: any, check: any, setup: any }} */
+  get exports() {
+    const { default: agent, ...own } = /** @type {Record<string, any>} */ (this.#exports?.get(this.url));
+    if (typeof agent !== "function") throw new Refused("the module has no function as its default export");
+    const { init = agent.init, check = agent.check, setup = agent.setup } = own;
+    return { agent, init, check, setup };
+  }
+
+  /** @returns {Function} the agent's function, of modules that keep what they keep at first */
+  agentNow() {
+    if (this.#first === undefined || this.#kept() !== this.#first) this.#renew();
+    this.runtime.beginAgent();
+    return this.exports.agent;
+  }
+
+  /** @param {AskedNode} asked @returns {string} the state of the agent that asks for it */
+  key(asked) {
+    return this.capture.here(keyOf(asked));
+  }
+
+  /** @returns {string} the file, line and column at which an agent asks for something now */
+  line() {
+    return this.capture.line();
+  }
+
+  /** @param {Error} error of an agent @returns {string} the same of where it was made */
+  lineOf(error) {
+    return this.capture.lineOf(error);
+  }
+
+  #renew() {
+    this.renewals += 1;
+    this.runtime.beginModules();
+    this.#exports = this.#made();
+    if (hadOtherNext()) throw new Refused(REPLACES_NEXT);
+    this.runtime.endModules();
+  }
+
+  #made() {
+    try {
+      return this.asker.watched(PART.MODULE, () => this.graph.made(this.runtime.calls));
+    } catch (thrown) {
+      throw new Refused(`--all can't load ${basename(this.url)}: ${described(thrown).split("\n")[0]}`);
+    }
+  }
+
+  #kept() {
+    try {
+      return this.capture.modules();
+    } catch (why) {
+      if (!(why instanceof CantShow)) throw why;
+      return undefined;
+    }
+  }
+}
+
+/**
+ * Loads the agents' code.
+ * @param {string} url
+ * @param {import("./asking.mjs").Asker} asker that is to say where agents are
+ * @param {{ hides?: string }} [flaw] what is left out of its state on purpose, for tests
+ * @returns {LearnedCode}
+ * @throws {Refused} if a module of it can't be shown or loaded
+ */
+export function loadCode(url, asker, flaw) {
+  const runtime = new Runtime();
+  const own = new AgentModules();
+  own.take(PRELUDE);
+  installLoops(own.made(runtime.calls).get(PRELUDE)?.loops);
+  const graph = new AgentModules();
+  graph.take(url, true);
+  const builtins = new NamedBuiltins();
+  builtins.take(graph.nodes);
+  builtins.close();
+  runtime.installed = beginInstalled();
+  const texts = new Map([...own.texts, ...graph.texts]);
+  const capture = new Capture(runtime, builtins, texts, flaw);
+  asker.lineHere = capture.line.bind(capture);
+  return new LearnedCode(url, asker, graph, runtime, builtins, capture);
+}
+
+/** @param {Record<string, Function>} loops over arrays, which stand for the engine's */
+function installLoops(loops) {
+  for (const [name, value] of Object.entries(loops)) {
+    Object.defineProperty(Array.prototype, name, { value, writable: true, configurable: true });
+  }
+}

@@ -1,0 +1,128 @@
+// What the thread that learns and searches hands on.
+
+import { Positions, fileOf } from "../search/file.mjs";
+import { DOES, isCall, isEnd } from "../search/nodes.mjs";
+import { Kinds, blocksIn, resultOf } from "../search/result.mjs";
+import { Findings } from "./findings.mjs";
+
+/** @typedef {import("../search/nodes.mjs").Node} Node */
+/** @typedef {import("../search/nodes.mjs").Answer} Answer */
+/** @typedef {import("./asked-nodes.mjs").AskedNode} AskedNode */
+/** @typedef {import("../search/search.mjs").Search} Search */
+
+/** @typedef {{ node: number, answer: Answer }} From a node's number, and what it is answered */
+
+/**
+ * @typedef {object} EdgeData an edge, to be learned again
+ * @property {number} automaton
+ * @property {From | undefined} from undefined: the beginning of an agent
+ * @property {number} to the node to which it leads
+ * @property {{ at: number, by: From }} [besides] another history than the one by which it was learned: the node at
+ * which it comes by another edge than the first
+ */
+
+/** @typedef {AskedNode & { id: number, origin: From | undefined }} NodeData with the first edge that has led there */
+
+/** @typedef {ReturnType<typeof learningReportOf>} LearningReport */
+
+/**
+ * @param {import("./learned.mjs").Learned} learned
+ * @param {Search} search that has run
+ */
+export function learningReportOf(learned, search) {
+  const { code, learner, plan, isShared } = learned;
+  const program = /** @type {import("../search/world.mjs").Program} */ (learned.program);
+  const kinds = new Kinds(search).find();
+  const findings = new Findings(learned, search, kinds).all();
+  const positions = new Positions(program);
+  const named = {
+    position: (/** @type {Node} */ node) => positions.of(node),
+    blocksOf: (/** @type {number} */ memory) => blocksIn(search.world, memory),
+  };
+  return {
+    isClosed: search.isClosed, bound: search.bound, isShared, plan, hasLikes: search.world.hasLikes,
+    /** All schedules up to so many acts were tried. */
+    depth: search.isClosed ? undefined : search.depths.items[search.expanded],
+    result: resultOf(search, kinds, named),
+    file: fileOf(program, positions),
+    findings,
+    counts: countsOf(positions),
+    edges: edgesOf(learner, positions),
+    nodes: positions.nodes.flat().map((node) => dataOf(node, learner.origins.get(node))),
+    hidden: [...learner.hidden].map(([why, nodes]) => ({ why, nodes })),
+    runs: learner.runs, renewals: code.renewals,
+    changesBuiltins: code.builtins.haveChanged(),
+    widest: widestOf(learned, positions),
+  };
+}
+
+/** @param {Positions} positions */
+function countsOf({ nodes }) {
+  const all = nodes.flat();
+  return {
+    moments: all.filter((node) => isCall(node) || node.isAlone).length,
+    nodes: nodes.map(({ length }) => length),
+    edges: all.reduce((sum, { edges }) => sum + edges.size, 0),
+  };
+}
+
+/**
+ * @param {Node} node
+ * @param {import("./learner.mjs").NodeOrigin} origin
+ * @returns {NodeData}
+ */
+const dataOf = ({ edges: _edges, automaton: _automaton, ...asked }, origin) =>
+  ({ ...asked, origin: origin && { node: origin.node.id, answer: origin.answer } });
+
+/**
+ * The beginnings of the agents, and each edge with another history that leads to it than the one by which it was
+ * learned, if there is one.
+ * @param {import("./learner.mjs").Learner} learner
+ * @param {Positions} positions
+ * @returns {EdgeData[]}
+ */
+function edgesOf(learner, positions) {
+  const besides = edgesBesides(learner, positions);
+  const begins = positions.roots.map(({ automaton, id }) => ({ automaton, from: undefined, to: id }));
+  const edges = positions.nodes.flatMap((nodes) => nodes.flatMap((node) => [...node.edges].map(([answer, to]) => ({
+    automaton: node.automaton, from: { node: node.id, answer }, to: to.id, besides: besides(node),
+  }))));
+  return [...begins, ...edges];
+}
+
+/**
+ * @param {import("./learner.mjs").Learner} learner
+ * @param {Positions} positions
+ * @returns {(node: Node) => EdgeData["besides"]} the nearest node on its way to which another edge leads than the first
+ */
+function edgesBesides({ origins }, positions) {
+  /** @type {Map<Node, From>} */
+  const others = new Map();
+  for (const node of positions.nodes.flat()) {
+    for (const [answer, to] of node.edges) {
+      const origin = origins.get(to);
+      const isFirst = origin !== undefined && origin.node === node && origin.answer === answer;
+      if (!isFirst) others.set(to, { node: node.id, answer });
+    }
+  }
+  return (node) => {
+    /** @type {Node | undefined} */
+    let at = node;
+    while (at !== undefined && !others.has(at)) at = origins.get(at)?.node;
+    return at && { at: at.id, by: /** @type {From} */ (others.get(at)) };
+  };
+}
+
+/**
+ * What makes a search large: the automaton with the most nodes, and the line whose answers branch most.
+ * @param {import("./learned.mjs").Learned} learned
+ * @param {Positions} positions
+ */
+function widestOf({ learner }, positions) {
+  const nodes = positions.nodes.map(({ length }) => length);
+  const automaton = nodes.indexOf(Math.max(...nodes));
+  const [widest] = positions.nodes.flat().filter((node) => !isEnd(node) && node.does !== DOES.WRITE)
+    .sort((one, other) => other.edges.size - one.edges.size);
+  const line = widest === undefined ? undefined : learner.lineOf(widest);
+  return { automaton, nodes: nodes[automaton], line, answers: widest?.edges.size ?? 0 };
+}

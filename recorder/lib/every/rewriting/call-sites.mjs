@@ -1,0 +1,144 @@
+// What a function can still read at a place of its text at which it has called something: names, and values that are
+// kept in its frame. A place of which that isn't known says why.
+
+import { aliveIn } from "./live.mjs";
+import { isConstant } from "./tree.mjs";
+
+/** @typedef {import("./tree.mjs").Tree} Tree */
+/** @typedef {import("./scopes.mjs").Info} Info */
+/** @typedef {import("./scopes.mjs").Binding} Binding */
+
+/**
+ * @typedef {object} CallSite
+ * @property {string} [unknown] why what is kept there can't be shown
+ * @property {number} fn the number of the function
+ * @property {boolean} makes whether it is a constructor
+ * @property {[number, number][]} alive scopes and positions of the names that can still be read
+ * @property {number[]} kept the values that are kept in the frame
+ * @property {boolean} isAccess whether only a getter, a setter or their like can have been called there
+ * @property {boolean} isKeyed whether a key may have been made a text there before that
+ * @property {boolean} isAccessor whether the function is written as a getter or a setter
+ */
+
+/** What can be going on at a place while something that it called runs. */
+const CALLERS = new Set([
+  "Identifier", "MemberExpression", "CallExpression", "NewExpression", "ThisExpression", "AssignmentExpression",
+  "UpdateExpression", "TaggedTemplateExpression", "PrivateIdentifier",
+]);
+
+/** What calls a getter, a setter, or a trap of a proxy. */
+const ACCESSES = new Set(["MemberExpression", "UpdateExpression", "AssignmentExpression"]);
+
+export class CallSites {
+  /** @param {import("./analysis.mjs").Analysis} analysis */
+  constructor(analysis) {
+    this.analysis = analysis;
+    /** @type {Map<number, CallSite>} those that were asked for */
+    this.known = new Map();
+  }
+
+  /** @param {number} offset in the module's text @returns {CallSite} */
+  at(offset) {
+    let place = this.known.get(offset);
+    if (place === undefined) {
+      place = this.#judged(offset);
+      this.known.set(offset, place);
+    }
+    return place;
+  }
+
+  /** @param {number} offset @returns {CallSite} */
+  #judged(offset) {
+    const info = this.#functionAt(offset);
+    if (info === undefined) return unknown("code at the top level of a module");
+    if (info.isHidden) return unknown("a generator, an async function, a constructor of a derived class or the like");
+    const isHidden = this.analysis.hidden.some(([from, to]) => from <= offset && offset < to);
+    if (isHidden) return unknown("a place with values that aren't shown");
+    if (info.usesSuper) return unknown("a method of an object in a function, with `super`");
+    const { alive, isAccess, isKeyed } = this.#aliveAt(info, offset);
+    if (typeof alive === "string") return unknown(`a call by ${alive}`);
+    if (info.made !== undefined) alive.add(info.made);
+    const shown = [...alive].filter(({ isShown }) => isShown);
+    const kept = info.temporaries.filter(({ from, to }) => from <= offset && offset < to);
+    return {
+      fn: info.id, makes: info.made !== undefined, kept: kept.map(({ id }) => id), isAccess, isKeyed,
+      isAccessor: info.isAccessor,
+      alive: shown.map(placeOf).sort(([a, b], [c, d]) => a - c || b - d),
+    };
+  }
+
+  /** @param {number} offset @returns {Info | undefined} the innermost function */
+  #functionAt(offset) {
+    const around = this.analysis.functions.filter(({ start, end }) => start <= offset && offset < end);
+    return around.sort((one, other) => other.start - one.start || one.end - other.end)[0];
+  }
+
+  /**
+   * @param {Info} info
+   * @param {number} offset
+   * @returns {{ alive: Set<Binding> | string, isAccess: boolean, isKeyed: boolean }} what is alive after the calls that
+   * can be going on there, or what it is instead
+   */
+  #aliveAt(info, offset) {
+    info.alive ??= /** @type {Map<Tree, Set<Binding>>} */ (aliveIn(info, this.analysis));
+    /** @type {Set<Binding>} */
+    const alive = new Set();
+    /** @type {Tree | undefined} */
+    let least;
+    let isCall = false;
+    let isAccess = true;
+    let isKeyed = false;
+    for (const [tree, out] of info.alive) {
+      // The end as well: a call that was rewritten begins where its callee ends.
+      if (tree.start > offset || offset > tree.end) continue;
+      if (canCallAt(tree, offset)) {
+        isCall = true;
+        isAccess &&= ACCESSES.has(tree.type);
+        isKeyed ||= makesKey(tree, offset);
+        for (const one of out) alive.add(one);
+      }
+      if (offset < tree.end && (least === undefined || tree.end - tree.start <= least.end - least.start)) least = tree;
+    }
+    const isCaller = least === undefined || CALLERS.has(least.type);
+    const other = isCaller ? "something that isn't known" : /** @type {Tree} */ (least).type;
+    return { alive: isCaller && isCall ? alive : other, isAccess, isKeyed };
+  }
+}
+
+/**
+ * @param {Tree} tree
+ * @param {number} offset
+ * @returns {boolean} whether what it calls may be going on at a place in it
+ */
+function canCallAt(tree, offset) {
+  switch (tree.type) {
+    case "CallExpression": return firstOfCall(tree.callee) <= offset && offset <= tree.callee.end;
+    case "NewExpression": return offset <= tree.callee.end;
+    case "TaggedTemplateExpression": return offset <= tree.tag.end;
+    case "MemberExpression": case "UpdateExpression": return true;
+    case "AssignmentExpression": return offset < tree.right.start;
+    default: return false;
+  }
+}
+
+/** @param {Tree} callee @returns {number} the first place at which the engine says that it is called */
+function firstOfCall({ type, computed, property, start, end }) {
+  if (type !== "MemberExpression") return start;
+  return computed ? end : property.start;
+}
+
+/** @param {Tree} tree @param {number} offset @returns {boolean} whether it may make a key a text at a place in it */
+function makesKey({ type, argument, end, left, object, computed, property }, offset) {
+  if (type === "MemberExpression") {
+    return computed && !isConstant(property) && object.end <= offset && offset < end;
+  }
+  const target = type === "AssignmentExpression" ? left : argument;
+  return target?.type === "MemberExpression" && target.computed && !isConstant(target.property);
+}
+
+/** @param {Binding} binding @returns {[number, number]} */
+const placeOf = ({ scope, index }) => [scope.id, index];
+
+/** @param {string} why @returns {CallSite} */
+const unknown = (why) =>
+  ({ unknown: why, fn: 0, makes: false, alive: [], kept: [], isAccess: false, isKeyed: false, isAccessor: false });

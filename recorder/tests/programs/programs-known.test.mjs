@@ -1,0 +1,104 @@
+// The programs of `programs/` under the recorder. A right one passes under each seed. Of a wrong one some run fails,
+// and each run that fails is a finding of the table: with its ending, thread, words and lines. What a program needs
+// that isn't simulated yet is refused by its name and line.
+
+import assert from "node:assert/strict";
+import { after, before, describe, it } from "node:test";
+import { TableRuns, findingOf } from "../helpers/program-findings.mjs";
+import { PROGRAMS, urlOf } from "../programs/table.mjs";
+
+const SEEDS = 200;
+const PARTS = 1;
+
+/** Of a rare program at most one run in so many fails, if each thread that can go on is as likely. */
+const RARE = 50;
+
+/** @typedef {import("../programs/table.mjs").Program} Program */
+/** @typedef {import("../../lib/run/outcome.mjs").Outcome} Outcome */
+
+/** @param {Program} program @param {Outcome[]} outcomes: each that fails is known */
+function demandKnown(program, outcomes) {
+  const strange = outcomes.filter((outcome) => outcome.fails && findingOf(program, outcome) === undefined);
+  assert.deepEqual(strange.map(({ seed, ending, detail }) => `seed ${seed}: ${ending}: ${detail}`), []);
+}
+
+/** @param {Program} program @param {Outcome[]} outcomes */
+function demandRight({ isEndless }, outcomes) {
+  const ending = isEndless ? "stuck" : "finished";
+  const others = outcomes.filter((outcome) => outcome.ending !== ending);
+  assert.deepEqual(others.map(({ seed, detail }) => `seed ${seed}: ${detail}`), []);
+}
+
+/**
+ * The tests of some programs, in threads of their own.
+ * @param {Program[]} all
+ * @param {Parameters<typeof TableRuns.open>[0]} [how]
+ */
+function testEach(all, how = {}) {
+  /** @type {TableRuns} */
+  let runs;
+  before(async () => { runs = await TableRuns.open(how); });
+  after(() => runs.close());
+  const those = (/** @type {(program: Program) => boolean} */ isOne) => all.filter(isOne);
+
+  for (const program of those(({ right, notYet }) => right && notYet === undefined)) {
+    it(`${program.name} passes under ${SEEDS} seeds`, async () => {
+      const outcomes = await runs.runs(program, { last: SEEDS });
+      assert.equal(outcomes.length, SEEDS);
+      demandRight(program, outcomes);
+      assert.ok(outcomes[0].checked || outcomes[0].noScript !== undefined);
+    });
+  }
+
+  for (const program of those(({ right, notYet }) => !right && notYet === undefined)) {
+    it(`${program.name} is found`, async () => {
+      const outcomes = await runs.untilFailing(program, SEEDS);
+      assert.ok(outcomes.some(({ fails }) => fails), "no run has failed");
+      demandKnown(program, outcomes);
+    });
+  }
+
+  for (const program of those(({ notYet }) => notYet !== undefined)) {
+    it(`${program.name} is refused, since it needs ${program.notYet}`, async () => {
+      const [{ ending, detail }] = await runs.runs(program, { last: 1 });
+      const folder = new URL("./", urlOf(program)).pathname.split("/").at(-2);
+      assert.equal(ending, "failed");
+      assert.ok(detail.includes(program.notYet) && /isn't simulated/.test(detail), detail);
+      assert.match(detail, new RegExp(`at ${folder}/[\\w-]+\\.[cm]js:\\d+:\\d+`));
+    });
+  }
+}
+
+const OF_NODE = PROGRAMS.filter(({ isWeb }) => isWeb !== true);
+
+/** Rare programs under the uniform strategy. */
+function testRare() {
+  /** @type {TableRuns} */
+  let runs;
+  before(async () => { runs = await TableRuns.open({ strategy: "uniform", everywhere: true }); });
+  after(() => runs.close());
+
+  for (const program of PROGRAMS.filter(({ isRare, notYet }) => isRare && notYet === undefined)) {
+    it(`${program.name} fails in at most one run in ${RARE}`, async () => {
+      const outcomes = await runs.runs(program, { last: SEEDS });
+      const failed = outcomes.filter(({ fails }) => fails);
+      assert.ok(failed.length <= SEEDS / RARE, `${failed.length} of ${SEEDS} runs have failed`);
+      demandKnown(program, outcomes);
+    });
+  }
+}
+
+/** In the same threads one program is run after the other. */
+const IN_TURN = { concurrency: 1 };
+
+// One thread of a program goes on at a time. So that this file isn't left alone at the end, two parts go side by side.
+// More would take longer, since each has threads of its own.
+describe("programs in the recorder", { concurrency: 2 }, () => {
+  describe("with known answers", IN_TURN, () => testEach(OF_NODE));
+
+  describe("of another kind", IN_TURN, () => {
+    const ofWeb = PROGRAMS.filter(({ isWeb }) => isWeb === true);
+    describe("for browsers, with known answers", IN_TURN, () => testEach(ofWeb, { web: true }));
+    describe("rare ones, if each thread that can go on is as likely", IN_TURN, testRare);
+  });
+});

@@ -1,0 +1,77 @@
+// Parts of a module of agents besides the agents' function, and what never comes back, as --all takes them.
+
+import assert from "node:assert/strict";
+import { test } from "node:test";
+import { isShownBy } from "../../lib/every/showing.mjs";
+import { NotAsLearned, Refused, everySchedule } from "../../recorder.mjs";
+import { COUNTS, moduleOf } from "../helpers/common.mjs";
+
+test("an `init` that fails leaves nothing to search", async (context) => {
+  for (const [init, wanted] of [
+    ["() => { throw new Error('no bytes'); }", "`init` threw Error: no bytes"],
+    ["() => false", "`init` returned false"],
+    ["async () => {}", "`init` returned a promise, but it must be synchronous"],
+  ]) {
+    const module = moduleOf(context, `${COUNTS}export const init = ${init};\n`);
+    const { closed, open } = await everySchedule({ module, seeds: 1 });
+    assert.deepEqual([closed, open], [false, wanted]);
+  }
+});
+
+test("an `init` or a `check` that never comes back is ended", async (context) => {
+  for (const name of ["init", "check"]) {
+    const module = moduleOf(context, `${COUNTS}export const ${name} = () => { for (;;); };\n`);
+    const { closed, open } = await everySchedule({ module, seeds: 1, seconds: 1 });
+    assert.deepEqual([closed, open], [false, `\`${name}\` didn't come back within 1 s`]);
+  }
+});
+
+test("an agent that never comes back in the code as it is written isn't as it was learned", async (context) => {
+  const module = moduleOf(context, `${COUNTS.replace("void", "void spin() ??")}let runs = 0;
+function spin() { runs += 1; if (runs > 1) for (;;); }
+`);
+  const problem = await everySchedule({ module, seeds: 1, seconds: 1 }).catch((error) => error);
+  assert.ok(problem instanceof NotAsLearned, problem);
+  assert.match(problem.message, /than was learned\. There an agent .* didn't come back within 1 s: .* keep something /);
+});
+
+test("a module that can't be loaded is refused, and one that asks for chance while it is loaded", async (context) => {
+  for (const [begins, wanted] of /** @type {[string, RegExp][]} */ ([
+    ["throw new Error('no module');\n", /^--all can't load agents\.mjs: Error: no module$/],
+    ["Math.more = 1;\n", /^--all can't load agents\.mjs: TypeError: Cannot add property more, /],
+    ["const chance = Math.random();\n", /it asks for a random number, at agents\.mjs:1:21$/],
+  ])) {
+    const module = moduleOf(context, begins + COUNTS);
+    const problem = await everySchedule({ module, seeds: 1 }).catch((error) => error);
+    assert.ok(problem instanceof Refused, problem);
+    assert.match(problem.message, wanted);
+  }
+});
+
+test("what `check` finds is the same in a real run, except for numbers", async (context) => {
+  const fails = `import assert from "node:assert/strict";
+${COUNTS}const lock = {};
+export const check = ([buffer]) => {
+  if (new Int32Array(buffer)[0] === 2) lock.missing(new Int32Array(buffer)[0]);
+  assert(false);
+};
+`;
+  const { found } = await everySchedule({ module: moduleOf(context, fails), seeds: 2 });
+  const title = "threw TypeError: lock.missing is not a function";
+  assert.deepEqual(found.map(({ kind, text }) => [kind, text]), [["check", title]]);
+  const ran = (/** @type {string} */ detail) => /** @type {any} */ ({ ending: "check", detail, races: [] });
+  const finding = /** @type {any} */ ({ kind: "check", text: "threw Error: 3 are left" });
+  const details = ["check threw Error: 4 are left", "check threw Error: none is", "check returned false"];
+  assert.deepEqual(details.map((detail) => isShownBy(finding, ran(detail))), [true, false, false]);
+});
+
+test("an error whose text is its own, or can't be made, is found as real runs show it", async (context) => {
+  for (const own of ["return 'E!';", "throw new Error('no text');"]) {
+    const throws = `class E extends Error { toString() { ${own} } }
+export const setup = { agents: 2, buffers: [4] };
+export default ({ buffers }) => { if (Atomics.add(new Int32Array(buffers[0]), 0, 1) === 1) throw new E("x"); };
+`;
+    const { found } = await everySchedule({ module: moduleOf(context, throws), seeds: 2 });
+    assert.deepEqual(found.map(({ kind, text }) => [kind, text]), [["threw", "Error: x"]]);
+  }
+});

@@ -1,0 +1,384 @@
+// `--all`: every schedule of a module of agents, from the command line, by the library and in a suite.
+
+import assert from "node:assert/strict";
+import { readFileSync, writeFileSync } from "node:fs";
+import { join } from "node:path";
+import { test } from "node:test";
+import { fileURLToPath, pathToFileURL } from "node:url";
+import { Agreement } from "../../lib/every/agreement.mjs";
+import { learnAgain, learnApart } from "../../lib/every/learning/apart.mjs";
+import { programOf } from "../../lib/every/search/file.mjs";
+import { searched } from "../../lib/every/search/searched-file.mjs";
+import { NotAsLearned, Refused, everySchedule, record } from "../../recorder.mjs";
+import { assertAgents } from "../../testing.mjs";
+import { BODIES, moduleOf as nastyOf } from "../every/nasty.mjs";
+import { agentsPath, commandThere, moduleOf, temporaryFolder } from "../helpers/common.mjs";
+
+const RECORD = fileURLToPath(new URL("../../record.mjs", import.meta.url));
+const EXAMPLES = fileURLToPath(new URL("../../examples/", import.meta.url));
+
+/** @param {string[]} words @returns {Promise<{ status: number | null, out: string, problems: string }>} */
+const recorded = async (...words) => {
+  const { status, stdout, stderr } = await commandThere(words);
+  return { status, out: stdout, problems: stderr };
+};
+
+const OTHER_NEXT = "Object.getPrototypeOf([][Symbol.iterator]()).next = () => ({ done: true });";
+
+/** A module of two agents that load and then do something. */
+const LOADS = (more) => `export const setup = { agents: 2, buffers: [8] };
+export default function agent({ buffers, agent: self }) {
+  const words = new Int32Array(buffers[0]);
+  Atomics.load(words, 0);
+  ${more}
+}
+`;
+
+test("a right lock: every schedule was tried, and nothing was found", async (context) => {
+  const out = temporaryFolder(context);
+  const module = join(EXAMPLES, "mutex-three-state.agents.mjs");
+  const done = await recorded(module, "--all", "--seeds", "1..20", "--out", out);
+  assert.equal(done.problems, "");
+  assert.equal(done.status, 0);
+  const [first, states, learned, ...rest] = done.out.split("\n");
+  assert.equal(first, "every schedule of 3 agents was tried: none deadlocks, throws, has a data race or fails check; "
+    + "from every state all agents can still end");
+  assert.match(states, /^ {2}3,620 states, 9,333 acts; 1 final state: /);
+  assert.match(learned,
+    /^ {2}the search is proved; what .*: 39 moments of an agent, each of 78 edges twice; 20 real runs agree$/);
+  assert.match(rest[0], /^ {2}two moments counted as one only if all that the agent's code can still read was the /);
+  assert.equal(rest[1], "  states that differ only by an exchange of like agents counted as one: no agent looks at "
+    + "its number");
+  assert.equal(rest[2], "other numbers of agents, rounds or arguments weren't tried");
+  assert.equal(rest.at(-2), `kept in ${out}: all.automata.json`);
+  const file = JSON.parse(readFileSync(join(out, "all.automata.json"), "utf8"));
+  assert.equal(searched(file, { timeouts: "early", limit: 1_000_000 }).states, 3_620);
+});
+
+test("a lost wake-up is found, and shown by a run of the code that can be replayed", async (context) => {
+  const out = temporaryFolder(context);
+  const module = join(EXAMPLES, "mutex-naive.agents.mjs");
+  const done = await recorded(module, "--all", "--seeds", "1..5", "--out", out);
+  assert.equal(done.status, 1, done.problems);
+  assert.match(done.out, /^every schedule of 3 agents was tried: agents can deadlock\n/);
+  assert.match(done.out, /agent \d waits at BELL: its call 1, .* at mutex-naive.mjs:23:15/);
+  assert.match(done.out, /all-1\.json, all-1\.report, all-1\.trace\.jsonl, all-1\.explained, all-1\.svg, all-1\.html/);
+  const replayed = await recorded(module, "--replay", join(out, "all-1.json"));
+  assert.equal(replayed.status, 1, replayed.problems);
+  assert.match(replayed.out, /1 of 1 run failed: 1 deadlock/);
+});
+
+test("JSON has what the text says", async () => {
+  const done = await recorded(join(EXAMPLES, "late-notify.agents.mjs"), "--all", "--seeds", "1..5", "--format", "json");
+  assert.equal(done.status, 1, done.problems);
+  const { areAlike, every, closed, found, notProved, realRuns, searchProved, states } = JSON.parse(done.out);
+  assert.deepEqual({ every, closed, realRuns, states }, { every: 1, closed: true, realRuns: 5, states: 428 });
+  assert.equal(areAlike, false);
+  assert.deepEqual([searchProved, notProved], [true, null]);
+  assert.equal(found.length, 1);
+  assert.equal(found[0].kind, "threw");
+  assert.match(found[0].detail[0], /^agent 0 threw Error: the answer to job \d+ is \d+, and not \d+/);
+});
+
+for (const [name, wanted] of /** @type {[string, [string, RegExp][]][]} */ ([
+  ["spin-on-shut-door", [["no way out", /^agent 1 spins at /]]],
+  ["lost-update", [["check", /^check threw Error: counted to 1/]]],
+  ["flag-read-ordinarily", [["race", /reads .* at flag-read-ordinarily.mjs:15:17/]]],
+  ["spin-ordinarily", [["race", /./]]],
+  ["stack-tag-wraps", [["check", /^check threw Error: node 2 is on the stack, and an agent's/]]],
+  ["stack-tagged", []],
+  ["mutex", []],
+])) {
+  test(`what is known of ${name} is found`, async () => {
+    const module = fileURLToPath(new URL(`../known/${name}.mjs`, import.meta.url));
+    const { closed, found, realRuns } = await everySchedule({ module, seeds: 5 });
+    assert.ok(closed);
+    assert.equal(realRuns, name === "spin-ordinarily" ? realRuns : 5);
+    assert.deepEqual(found.map(({ kind }) => kind), wanted.map(([kind]) => kind));
+    for (const [at, [, detail]] of wanted.entries()) assert.match(found[at].detail?.join("\n") ?? "", detail);
+  });
+}
+
+test("steps that one history alone leads to are counted", async (context) => {
+  const { edges, edgesByOne } = await everySchedule({ module: moduleOf(context, LOADS("")), seeds: 1 });
+  assert.deepEqual({ edges, edgesByOne }, { edges: 2, edgesByOne: 2 });
+});
+
+test("a race says which lines read and write", async (context) => {
+  const module = moduleOf(context, LOADS("words[1] = self;\n  Atomics.load(words, 0);"));
+  const { found } = await everySchedule({ module, seeds: 1 });
+  assert.deepEqual(found.map(({ kind, text }) => [kind, text]), [["race", "agents.mjs:5:12 and agents.mjs:5:12"]]);
+});
+
+test("what can't be learned is refused, with its line", async (context) => {
+  for (const [text, wanted] of /** @type {[string, RegExp][]} */ ([
+    [LOADS("Math.random();"), /it asks for a random number, at agents\.mjs:5:8$/],
+    [LOADS("performance.now();"), /it looks at a clock, at agents\.mjs:5:\d+$/],
+    [LOADS("Date.now();"), /it looks at a clock, at agents\.mjs:5:\d+$/],
+    [LOADS("Atomics.add(new Int32Array(new SharedArrayBuffer(4)), 0, 1);"), /that isn't recorded, at agents\.mjs:5/],
+    [LOADS("eval('1');"), /what an agent keeps at agents\.mjs:5:3: `eval`/],
+    [LOADS("(() => 0).constructor('return 1')();"), /agents\.mjs:5:3: \.constructor$/],
+    [LOADS("(() => 0)['constructor']('return 1')();"), /agents\.mjs:5:3: \.constructor$/],
+    [LOADS("const { constructor: R } = /a/; R.$1;"), /agents\.mjs:5:11: \.constructor$/],
+    [LOADS("performance.mark('a');"), /agents\.mjs:5:3: `performance` used in this way$/],
+    [LOADS("{ using one = null; }"), /agents\.mjs:5:5: `using`$/],
+    [LOADS("buffers[0].kept = 1;"), /gives the object of a buffer a property or another prototype$/],
+    [LOADS(`${OTHER_NEXT}\n  Atomics.load(words, 0);`), /the `next` of all iterators of arrays, at agents\.mjs:6:11$/],
+    [LOADS(OTHER_NEXT), /the `next` of all iterators of arrays, at its end$/],
+    [`${OTHER_NEXT}\n${LOADS("")}`, /a module replaces the `next` of all iterators of arrays$/],
+    [LOADS("new WeakRef({});"), /agents\.mjs:5:7: `WeakRef`, which isn't among the names/],
+    [LOADS("new FinalizationRegistry(() => {});"), /agents\.mjs:5:7: `FinalizationRegistry`, which isn't among the/],
+    [LOADS("[].leave(Atomics.load(words, 1));"), /names code that was rewritten, at agents\.mjs:5:11$/],
+    [LOADS("const f = () => 1;\n  f(self, Atomics.load(words, 1)).leave();"), /was rewritten, at agents\.mjs:6:35$/],
+    [LOADS("let all;\n  for (const one of all) Atomics.load(words, one);"), /was rewritten, at agents\.mjs:6:21$/],
+    [LOADS("Math.max(...Atomics.load(words, 1));"), /names code that was rewritten, at agents\.mjs:5:15$/],
+    [LOADS("Array.prototype.push = 1;\n  Atomics.load(words, 0);"), /: one changes the language's own objects$/],
+    [`import "node:fs";\n${LOADS("")}`, /node:fs, which agents\.mjs imports$/],
+  ])) {
+    const module = moduleOf(context, text);
+    const isWanted = (/** @type {unknown} */ error) => error instanceof Refused && wanted.test(error.message);
+    await assert.rejects(everySchedule({ module, seeds: 1 }), isWanted, text);
+  }
+});
+
+test("what a module throws is learned as it is written", async (context) => {
+  for (const [more, wanted] of [
+    ["const lock = {};\n  lock.leave(Atomics.load(words, 1));", "TypeError: lock.leave is not a function"],
+    ["let leave;\n  leave(Atomics.load(words, 1));", "TypeError: leave is not a function"],
+    ["'lock'.leave(Atomics.load(words, 1));", 'TypeError: "lock".leave is not a function'],
+    ["(new class { #f = 1; go() { this.#f(Atomics.load(words, 1)); } }).go();",
+      "TypeError: this[#f] is not a function"],
+    ["const lock = {};\n  new lock.Kind(Atomics.load(words, 1));", "TypeError: lock.Kind is not a constructor"],
+  ]) {
+    const { closed, found } = await everySchedule({ module: moduleOf(context, LOADS(more)), seeds: 2 });
+    assert.deepEqual([closed, found.map(({ text }) => text)], [true, [wanted]]);
+  }
+});
+
+test("what agents do before any call is learned a second time", async (context) => {
+  const module = moduleOf(context, `let runs = 0;
+export const setup = { agents: 2, buffers: [8] };
+export default function agent({ agent: self }) {
+  runs += 1;
+  if (runs > 1) throw new Error("not the first, " + self);
+}
+`);
+  const problem = await everySchedule({ module, seeds: 1 }).catch((error) => error);
+  assert.ok(problem instanceof NotAsLearned, problem);
+});
+
+test("agents that keep something from run to run aren't as they were learned", async () => {
+  const problem = await everySchedule({ module: agentsPath("remembers"), seeds: 20 }).catch((error) => error);
+  assert.ok(problem instanceof NotAsLearned, problem);
+  assert.match(problem.message, /does something else than was learned\. .* keep something from run to run: with --f/);
+  const done = await recorded(agentsPath("remembers"), "--all", "--seeds", "1..20");
+  assert.equal(done.status, 3);
+  assert.match(done.problems, /^record: .*does something else than was learned/);
+});
+
+test("an agent that goes by the depth of its stack isn't as it was learned", async (context) => {
+  const deep = "let n = 0;\n  const deep = () => { n += 1; deep(); };\n  try { deep(); } catch {}";
+  const module = moduleOf(context, LOADS(`${deep}\n  Atomics.store(words, 1, n);`));
+  const problem = await everySchedule({ module, seeds: 1 }).catch((error) => error);
+  assert.ok(problem instanceof NotAsLearned, problem);
+  assert.match(problem.message, /something else than was learned.*\["store","Int32_0",1,\d+\]; and now it does: \[/);
+  const other = moduleOf(context, LOADS(deep));
+  assert.deepEqual((await everySchedule({ module: other, seeds: 1 })).found, []);
+});
+
+test("with new workers for each run they are as they were learned", async () => {
+  const { closed, found, realRuns } = await everySchedule({ module: agentsPath("remembers"), fresh: true, seeds: 5 });
+  assert.deepEqual({ closed, realRuns }, { closed: true, realRuns: 5 });
+  assert.deepEqual(found.map(({ kind }) => kind), ["race"]);
+});
+
+test("a real run that isn't a way through the automata is noticed", async (context) => {
+  const out = temporaryFolder(context);
+  const module = join(EXAMPLES, "mutex-three-state.agents.mjs");
+  await recorded(module, "--all", "--seeds", "1..2", "--out", out);
+  const file = readFileSync(join(out, "all.automata.json"), "utf8");
+  const outcome = await record({ module, trace: true, seed: 3 });
+  const right = new Agreement(programOf(JSON.parse(file)));
+  right.needs(outcome);
+  assert.equal(right.compared, 1);
+  const changes = [
+    ["another call", (data) => {
+      data.automata[0].nodes[0].call[4] = 2;
+    }],
+    ["another edge", (data) => {
+      for (const node of data.automata[0].nodes) if (node.call?.[0] === "compareExchange") node.edges[0][1] = 0;
+    }],
+    ["other bytes at first", (data) => {
+      data.initial[0] = data.initial[0].replace(/^00/, "01");
+    }],
+  ];
+  for (const [name, change] of changes) {
+    const data = JSON.parse(file);
+    change(data);
+    assert.throws(() => new Agreement(programOf(data)).needs(outcome), NotAsLearned, name);
+  }
+});
+
+test("moments that were merged wrongly are noticed by the second learning", async (context) => {
+  const module = pathToFileURL(moduleOf(context, nastyOf(BODIES["temporary in a sum"]))).href;
+  const wanted = { module, args: [], place: {}, timeouts: /** @type {"early"} */ ("early"), limit: 10_000, within: 60 };
+  for (const hides of [undefined, "temporaries"]) {
+    const { edges, isShared, nodes, plan } = await learnApart({ ...wanted, flaw: { hides } }, { seconds: 10 });
+    const differs = await learnAgain({ module, args: [], plan, isShared, isFresh: false, nodes, edges });
+    assert.equal(differs !== undefined, hides !== undefined, differs);
+  }
+});
+
+test("if not every schedule can be tried, it goes on with the seeds", async () => {
+  const module = join(EXAMPLES, "mutex-three-state.agents.mjs");
+  const done = await recorded(module, "--all", "--states", "500", "--seeds", "1..5");
+  assert.equal(done.status, 0, done.problems);
+  assert.match(done.out, /^not every schedule was tried: all of up to \d+ acts were, 500 states/);
+  assert.match(done.out, /the agents of automaton 0 have \d+ nodes; \d+ answers at [\w.-]+:\d+:\d+ lead on/);
+  assert.match(done.out, /\n5 runs: 5 finished\n/);
+  const json = await recorded(module, "--all", "--states", "500", "--seeds", "1..5", "--format", "json");
+  const { every, runs } = JSON.parse(json.out);
+  assert.equal(every.closed, false);
+  assert.equal(runs, 5);
+});
+
+test("what was found is shown if not every schedule can be tried, too", async (context) => {
+  const out = temporaryFolder(context);
+  const module = join(EXAMPLES, "mutex-naive.agents.mjs");
+  const done = await recorded(module, "--all", "--states", "1000", "--seeds", "1..1", "--out", out);
+  assert.equal(done.status, 1, done.problems);
+  assert.match(done.out, /^not every schedule was tried: all of up to \d+ acts were, 1,000 states; there are more\n/);
+  assert.match(done.out, /\n1 run: 1 finished\n/);
+  assert.match(done.out,
+    /\n {2}among those that were tried, agents can deadlock\n {2}deadlock, in \d+ states?; shown /);
+  assert.match(done.out, /\n {4}agent \d waits at BELL: its call \d/);
+  assert.match(done.out, /\nkept in .*: all-1\.json, all-1\.report, /);
+  const replayed = await recorded(module, "--replay", join(out, "all-1.json"));
+  assert.match(replayed.out, /1 of 1 run failed: 1 deadlock/);
+});
+
+test("an agent that never comes back ends its thread", async (context) => {
+  const module = moduleOf(context, LOADS("if (self === 1) for (;;);"));
+  const done = await recorded(module, "--all", "--seeds", "1..2", "--seconds", "1");
+  assert.match(done.out, /^not every schedule was tried: an agent that was called alone didn't come back within 1 s/);
+  assert.equal(done.status, 1);
+});
+
+test("an agent that catches everything is broken off", async (context) => {
+  const module = moduleOf(context, LOADS("for (;;) try { Atomics.add(words, 0, 1); } catch {}"));
+  const done = await recorded(module, "--all", "--seeds", "1..2", "--seconds", "2");
+  const late = /^not every schedule was tried: an agent .* alone didn't come back within 2 s: .* catches everything/;
+  assert.match(done.out, late);
+});
+
+test("options that don't go with it are refused by name", async () => {
+  const module = join(EXAMPLES, "mutex-naive.agents.mjs");
+  for (const words of [
+    ["--shard", "1/2"], ["--replay", "x.json"], ["--clock", "real"], ["--ordinary", "store"],
+    ["--ordinary", "refuse"], ["--races", "allow"], ["--unrecorded", "allow"], ["--timeouts", "0"],
+  ]) {
+    const done = await recorded(module, "--all", ...words);
+    assert.equal(done.status, 2, words.join(" "));
+    assert.ok(done.problems.includes(words[0]) && done.problems.includes("doesn't go with --all"), done.problems);
+  }
+  const program = await recorded("--program", RECORD, "--all");
+  assert.match(program.problems, /--program doesn't go with --all/);
+  for (const word of ["--within", "--states"]) {
+    assert.match((await recorded(module, word, "5")).problems, new RegExp(`${word} needs --all`));
+  }
+  await assert.rejects(everySchedule({ module, init: () => {} }), /`init` can't be given/);
+});
+
+test("a trial of a suite fails by what is found, and if not every schedule was tried", async () => {
+  const right = join(EXAMPLES, "late-notify-mended.agents.mjs");
+  await assertAgents({ module: right, all: true, seeds: 5 });
+  const wrong = join(EXAMPLES, "late-notify.agents.mjs");
+  await assert.rejects(assertAgents({ module: wrong, all: true, seeds: 5 }), /RunFailed|agents can throw/);
+  const small = { module: right, all: /** @type {const} */ (true), states: 10, seeds: 5 };
+  await assert.rejects(assertAgents(small), /not every schedule was tried/);
+});
+
+test("agents may assert", async (context) => {
+  const module = moduleOf(context, `import assert from "node:assert/strict";
+import { equal } from "node:assert";
+${LOADS(`const before = Atomics.add(words, 0, 1);
+  equal(typeof before, 'number');
+  assert(before === 0 || self > 5);`)}`);
+  const { closed, found } = await everySchedule({ module, seeds: 5 });
+  assert.ok(closed);
+  assert.deepEqual(found.map(({ kind, text }) => [kind, text]), [["threw", "AssertionError [ERR_ASSERTION]"]]);
+  assert.match(found[0].detail?.[0] ?? "", /^agent \d threw AssertionError/);
+});
+
+test("what ordinary writes, `init`, `noBlock` and arguments do is learned", async (context) => {
+  const module = moduleOf(context, `export const setup = { agents: 2, buffers: [8, 4], noBlock: [1] };
+export const init = ([words]) => { new Int32Array(words)[1] = 5; };
+export default function agent({ buffers, agent: self, args }) {
+  const words = new Int32Array(buffers[0]);
+  if (self === 1) {
+    try { Atomics.wait(words, 0, 0); } catch (error) { Atomics.add(words, 1, error instanceof TypeError ? 10 : 20); }
+    return;
+  }
+  new Uint8Array(buffers[1])[2] = Number(args[0]);
+  Atomics.add(words, 1, 1);
+}
+export const check = ([words, bytes]) => new Int32Array(words)[1] === 16 && new Uint8Array(bytes)[2] === 7;
+`);
+  const { closed, finals, found, realRuns } = await everySchedule({ module, args: ["7"], seeds: 5 });
+  assert.deepEqual({ closed, found, realRuns }, { closed: true, found: [], realRuns: 5 });
+  assert.deepEqual(finals.map(({ blocks }) => blocks), [["0000000010000000", "00000700"]]);
+});
+
+test("a time that is over at any moment, or never", async (context) => {
+  const waits = "if (self === 0) Atomics.wait(words, 0, 0, 500); else Atomics.notify(words, 0);";
+  const module = moduleOf(context, LOADS(waits));
+  const early = await everySchedule({ module, seeds: 2 });
+  assert.deepEqual(early.found, []);
+  const never = await everySchedule({ module, timeouts: "never", seeds: 2 });
+  assert.deepEqual(never.found.map(({ kind }) => kind), ["deadlock"]);
+  const none = moduleOf(context, LOADS("if (self === 0) Atomics.wait(words, 0, 0, 0);"));
+  const endless = { module: none, timeouts: /** @type {const} */ ("never"), seeds: 2 };
+  await assert.rejects(everySchedule(endless), /waits for 0 ms, .*, at agents\.mjs:5/);
+  assert.deepEqual((await everySchedule({ module: none, seeds: 2 })).found, []);
+});
+
+test("an agent that changes the language's own objects isn't as it was learned", async (context) => {
+  const module = moduleOf(context, LOADS("Math.abs = () => 1;"));
+  const problem = await everySchedule({ module, seeds: 2 }).catch((error) => error);
+  assert.ok(problem instanceof NotAsLearned, problem);
+  assert.match(problem.message, /changes the language's own objects/);
+});
+
+test("modules that import from each other in all forms are learned as they are written", async (context) => {
+  const folder = temporaryFolder(context);
+  const files = {
+    "one.mjs": `export let count = 0;
+export function more() { count += 1; return count; }
+export const [first, { second }] = [1, { second: 2 }];
+export class Lock { constructor(words) { this.words = words; } take() { return Atomics.add(this.words, 0, more()); } }
+export { more as another, more as "a name" };
+export default function () { return 7; }`,
+    "two.mjs": "export * from \"./one.mjs\"; export * as all from \"./one.mjs\";\n"
+      + "export { default as seven } from \"./one.mjs\";\n"
+      + "import { main } from \"./agents.mjs\"; export const later = () => main;",
+    "agents.mjs": `#!/usr/bin/env node
+import * as two from "./two.mjs";
+import seven, { Lock, another, "a name" as named, count, first, second as other } from "./one.mjs";
+export const setup = { agents: 2, buffers: [8] };
+export const main = 5;
+const { later, all } = two;
+export default ({ buffers }) => {
+  const words = new Int32Array(buffers[0]);
+  const lock = new Lock(words);
+  const before = count;
+  lock.take();
+  named();
+  const sum = { before, count, first, other, seven: seven(), two: two.seven(), main: later(), same: all.count };
+  if (Object.values(sum).join() !== "0,2,1,2,7,7,5,2") throw new Error(Object.values(sum).join());
+  Atomics.add(words, 1, another() + sum.count);
+};`,
+  };
+  for (const [name, text] of Object.entries(files)) writeFileSync(join(folder, name), text);
+  const { closed, finals, found } = await everySchedule({ module: join(folder, "agents.mjs"), fresh: true, seeds: 3 });
+  assert.deepEqual([closed, found, finals.map(({ text }) => text)], [true, [], ["020000000a000000"]]);
+});
