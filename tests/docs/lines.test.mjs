@@ -9,24 +9,20 @@ import { LEFT_OUT, TOP, textOf } from "./documents.mjs";
 const MOST = 120;
 
 /** Code and documents by their endings. A file without an ending is a script if it begins with `#!`. */
-const ENDINGS = /\.(?:[cm][jt]s|py|c|md)$/;
+const ENDINGS = /\.(?:[cm][jt]s|py|rt|c|md)$/;
 
-/** What still waits: the crates, and the scripts that prove them. A change of either has crates proved anew. */
-const WAITS = new Set(["crates", "tools/proving"]);
-
-/** Texts that a script compares with what a program prints, each in one line there. By their files: how they begin. */
+/** Texts that a program prints, or with which its output is compared, each in one line. By file: how they begin. */
 const COMPARED = {
-  "tests/program": [
-    "data race at byte 1 of block 0: agent 0 writes bytes 0 to 3 by Atomics at 0, agent 1 reads",
-    "invalid value '18446744073709551616' for '--mix <SEED>': number too large to fit in target type|",
-  ],
+  "crates/call_tests/src/blocks/accesses.rt": ['        "0 0 0 act '],
+  "crates/call_tests/src/scripts/flushing.rt": ['    r#"{"event":0,', '    "data race at byte 7 of block 0: '],
+  "crates/sab_command/src/help.rt": ["  data race at byte 1 of block 0: "],
 };
 
-/** @param {string} folder from the top @returns {string[]} the paths of the files in it and below, except what waits */
+/** @param {string} folder from the top @returns {string[]} the paths of the files in it and below */
 function filesBelow(folder) {
   return readdirSync(join(TOP, folder), { withFileTypes: true }).flatMap((entry) => {
     const path = join(folder, entry.name);
-    if (LEFT_OUT.has(entry.name) || WAITS.has(path)) return [];
+    if (LEFT_OUT.has(entry.name)) return [];
     if (entry.isDirectory()) return filesBelow(path);
     return entry.isFile() ? [path] : [];
   });
@@ -36,13 +32,14 @@ function filesBelow(folder) {
 const isScript = (path) => !/\.\w+$/.test(path) && textOf(path).startsWith("#!");
 
 /**
- * Whether a line has to be one: an object of JSON, or of a document a row of a table, a line of a block of code, or one
- * that begins with a link.
+ * Whether a line has to be one: an object of JSON, a tactic of a proof, which `rt fmt` writes in one line, or of a
+ * document a row of a table, a line of a block of code, or one that begins with a link.
  * @param {string} path of its file
  * @param {string} line
  */
 function isWhole(path, line) {
   if (line.startsWith('{"') || COMPARED[path]?.some((text) => line.startsWith(text))) return true;
+  if (path.endsWith(".rt")) return /^ *#\[tactic\(/.test(line);
   return path.endsWith(".md") && (/ \| |^ {4}/.test(line) || /^\[[^\]]*\]\([^)]*\)\S*$/.test(line));
 }
 

@@ -47,6 +47,17 @@ for (const map of MAPS) {
   });
 }
 
+test("each example of CONTRIBUTING is named by some files of its kind", () => {
+  const examples = [...textOf("CONTRIBUTING.md").matchAll(/, such as `(\w+)`/g)].map(([, name]) => name);
+  assert.ok(examples.length > 6, examples.join());
+  const CODE = /^(?:crates\/\w+\/(?:src|specs|proofs)|recorder\/(?:lib|script))\/.*\.\w+$/;
+  const texts = PATHS.filter((path) => CODE.test(path)).map(textOf);
+  for (const name of examples) {
+    const naming = texts.filter((text) => new RegExp(`\\b${name}\\b`).test(text));
+    assert.ok(naming.length > 1, `${name}: ${naming.length} files`);
+  }
+});
+
 test("each definition and function that ARCHITECTURE names is in the file that it names", () => {
   const text = textOf("docs/ARCHITECTURE.md").replaceAll(/\s+/g, " ");
   const named = [...text.matchAll(/`([#\w]+)` in `([\w./-]+\.\w+)`/g)];

@@ -10,11 +10,11 @@ import { join } from "node:path";
 import { test } from "node:test";
 import { MACHINE } from "../../recorder/lib/processes/platform.cjs";
 import { SABSIM, needing, withSabsim } from "../../recorder/tests/helpers/needs.mjs";
-import { NODES, PROJECT, TOP, environment, filesOf, packed, pathOf, projectWith, room, run, succeeds, version }
-  from "./installed.mjs";
+import { NODES, PROJECT, TOP, environment, filesOf, packagedFiles, packed, pathOf, projectWith, room, run, succeeds,
+  version } from "./installed.mjs";
 
 const ENGINE = pathOf("../../recorder/tests/engine/main.mjs");
-const FILES = readFileSync(pathOf("files.txt"), "utf8").trimEnd().split("\n");
+const FILES = packagedFiles();
 const EXAMPLES = join(TOP, "crates/check_scripts/data/examples");
 const PROGRAM_FILES = [`program/${MACHINE}/sabsim`, `program/${MACHINE}/sabsim.txt`];
 
@@ -36,7 +36,11 @@ const project = projectWith("project", plain);
 
 test("packing leaves nothing in the repository", () => assert.deepEqual(listing(), before));
 
-test("the package has the files of the list, and no program", () => assert.deepEqual(filesOf(plain), FILES));
+test("the package has the files that package.json names, no program, and no test", () => {
+  assert.deepEqual(filesOf(plain), FILES);
+  assert.ok(FILES.length > 400, `${FILES.length} files`);
+  assert.deepEqual(FILES.filter((name) => /\.test\.|(?:^|\/)(?:tests|bench)\/|\/\./.test(name)), []);
+});
 
 test("by `npm pack` alone it is the same package", () => {
   const folder = join(room, "alone");

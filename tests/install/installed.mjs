@@ -3,7 +3,7 @@
 import assert from "node:assert/strict";
 import { spawn, spawnSync } from "node:child_process";
 import { once } from "node:events";
-import { copyFileSync, existsSync, mkdirSync, mkdtempSync, readFileSync, readdirSync, rmSync,
+import { copyFileSync, existsSync, mkdirSync, mkdtempSync, readFileSync, readdirSync, rmSync, statSync,
   writeFileSync } from "node:fs";
 import { tmpdir } from "node:os";
 import { join } from "node:path";
@@ -16,7 +16,7 @@ export const TOP = pathOf("../../");
 export const PROJECT = pathOf("project/");
 /** Where tools/fetch puts what it fetches. */
 export const TOOLS = spawnSync(join(TOP, "tools/fetch"), ["--folder"], { encoding: "utf8" }).stdout?.trimEnd() ?? "";
-export const { version } = JSON.parse(readFileSync(join(TOP, "package.json"), "utf8"));
+export const { version, files } = JSON.parse(readFileSync(join(TOP, "package.json"), "utf8"));
 
 export const room = mkdtempSync(join(tmpdir(), "sabsim-package-"));
 after(() => rmSync(room, { recursive: true, force: true }));
@@ -31,7 +31,7 @@ Object.assign(environment, {
 
 /** Runs a command in a folder until it ends. */
 export function run(folder, command, words, input = "") {
-  const options = { cwd: folder, input, encoding: "utf8", env: environment, maxBuffer: 2 ** 26, timeout: 120_000 };
+  const options = { cwd: folder, input, encoding: "utf8", env: environment, maxBuffer: 2 ** 26, timeout: 600_000 };
   const { status, signal, stdout, stderr, error } = spawnSync(command, words, options);
   assert.equal(error, undefined);
   return { status, signal, output: stdout, errors: stderr };
@@ -66,6 +66,22 @@ export function packed(name, words) {
 export function filesOf(path) {
   const names = succeeds(room, "tar", ["-tzf", path]).trimEnd().split("\n");
   return names.map((name) => name.replace(/^package\//, "")).sort();
+}
+
+/** The files of the repository at a path: itself, or all below it. @param {string} path @returns {string[]} */
+function filesAt(path) {
+  if (!statSync(join(TOP, path)).isDirectory()) return [path];
+  return readdirSync(join(TOP, path)).flatMap((name) => filesAt(`${path}/${name}`));
+}
+
+/** The files of the repository that the package is to have, by `files` of package.json. It has no program. */
+export function packagedFiles() {
+  const named = files.filter((name) => name !== "program").flatMap((name) => {
+    const [, folder, ending] = /^(.*)\/\*(\.\w+)$/.exec(name) ?? [];
+    if (folder === undefined) return filesAt(name);
+    return readdirSync(join(TOP, folder)).filter((each) => each.endsWith(ending)).map((each) => `${folder}/${each}`);
+  });
+  return ["LICENSE", "README.md", "package.json", ...named].sort();
 }
 
 /** Makes a project of a user's own with some files and the package installed; returns its folder. */

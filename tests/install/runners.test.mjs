@@ -49,13 +49,13 @@ const FORMS = [
   { name: "node:test", lines: IN_NODE, words: ["--test", "--test-reporter=spec"] },
   { name: "mocha", lines: IN_MOCHA, words: [MOCHA] },
   { name: "jest with ES modules", lines: IN_JEST, words: [JEST], flags: [VM_MODULES] },
-  { name: "ava", lines: IN_AVA, words: [AVA, "--timeout=120s"] },
+  { name: "ava", lines: IN_AVA, words: [AVA, "--timeout=600s"] },
   { name: "node:test, CommonJS", lines: IN_NODE, words: ["--test", "--test-reporter=spec"], isCommonjs: true },
   { name: "mocha, CommonJS", lines: IN_MOCHA, words: [MOCHA], isCommonjs: true },
   { name: "jest, CommonJS", lines: IN_JEST, words: [JEST], isCommonjs: true },
   { name: "jest with ES modules, CommonJS", lines: IN_JEST, words: [JEST], isCommonjs: true, flags: [VM_MODULES] },
   { name: "jest, an ES module that babel compiles", lines: IN_JEST, words: [JEST], babel: BABEL },
-  { name: "ava, CommonJS", lines: IN_AVA, words: [AVA, "--timeout=120s"], isCommonjs: true },
+  { name: "ava, CommonJS", lines: IN_AVA, words: [AVA, "--timeout=600s"], isCommonjs: true },
 ];
 
 /** The same line in CommonJS, if it imports something. @param {string} line */

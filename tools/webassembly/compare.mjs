@@ -13,7 +13,7 @@ import { Instance, Simulator } from "../../recorder/wasm/simulator.mjs";
 import { COMMAND_LINES, SCRIPT_WAYS, SEARCH_WAYS, TRACE_WAYS, automata, besideExample } from "./inputs.mjs";
 import { cases, changedAutomata, examples, largeInputs, randomScripts, randomTraces } from "./inputs.mjs";
 
-/** @typedef {import("../../recorder/wasm/simulator.mjs").Ended} Ended */
+/** @typedef {import("../../recorder/wasm/simulator.mjs").CommandResult} CommandResult */
 /** @typedef {import("./inputs.mjs").Input} Input */
 
 const [, , modulePath, refusingPath, program] = process.argv;
@@ -41,18 +41,18 @@ function differs(what, how = "") {
   if (counts.different <= MOST_SHOWN) console.log(`different: ${what} ${how}`);
 }
 
-/** @param {Ended} one @param {Ended} other */
+/** @param {CommandResult} one @param {CommandResult} other */
 const isSame = (one, other) =>
   one.status === other.status && Buffer.compare(one.output, other.output) === 0 && one.complaint === other.complaint;
 
-/** @param {Ended} ended */
+/** @param {CommandResult} ended */
 const shown = ({ status, output, complaint }) =>
   `${status}, ${output.length} bytes, ${JSON.stringify(complaint.slice(0, 100))}`;
 
 /**
  * Runs the program.
  * @param {string[]} words @param {Uint8Array} input
- * @returns {Promise<Ended>}
+ * @returns {Promise<CommandResult>}
  */
 function native(words, input) {
   return new Promise((resolve, reject) => {
@@ -70,7 +70,7 @@ function native(words, input) {
   });
 }
 
-/** @param {string[]} words of a job @returns {import("../../recorder/wasm/simulator.mjs").Job} */
+/** @param {string[]} words of a job @returns {import("../../recorder/wasm/simulator.mjs").SimulatorJob} */
 function jobOf([command, ...options]) {
   const at = options.indexOf("--format");
   return {
@@ -98,12 +98,12 @@ function searchOf(words) {
  * Does what words ask for, by the export that takes numbers.
  * @param {Simulator | Instance} host @param {string[]} words @param {Uint8Array} bytes
  * @param {number} [room] for what a search writes
- * @returns {Ended}
+ * @returns {CommandResult}
  */
 const done = (host, words, bytes, room = LEAST_ROOM) =>
   words[0] === "search" ? host.search(searchOf(words), bytes, room) : host.run(jobOf(words), bytes);
 
-/** @param {() => Ended} call @returns {Ended} a trap as a status that no program has */
+/** @param {() => CommandResult} call @returns {CommandResult} a trap as a status that no program has */
 function attempted(call) {
   try {
     return call();
@@ -192,7 +192,7 @@ async function compareCommandLines() {
 /**
  * Whether a call without enough memory ended as it may: as with memory, or with no output and status 4; or only the
  * explanation is missing.
- * @param {Ended} came @param {Ended} wanted
+ * @param {CommandResult} came @param {CommandResult} wanted
  */
 function isAllowed(came, wanted) {
   if (isSame(came, wanted)) return true;

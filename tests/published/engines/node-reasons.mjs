@@ -40,24 +40,16 @@ export const REASONS = Object.freeze([
     says: /c3: first/, why: "the seed draws which channel gets a broadcast first", tests: "worker-broadcastchannel-wpt",
   },
   {
-    says: /hasRef|MESSAGEPORT|false !== true/, why: "async_hooks don't have what stands for ports and Workers",
-    tests: "messageport-hasref worker-hasref worker-messageport-hasref",
-  },
-  {
-    says: /ERR_CONSTRUCT_CALL_REQUIRED/, why: "the error of MessagePort() has no code",
-    tests: "worker-message-port-constructor",
-  },
-  {
-    says: /calls process\.exit/, why: "messages that wait in a port are lost when it is closed",
-    tests: "worker-message-port-close-while-receiving",
+    says: /hasRef|MESSAGEPORT|false !== true/, why: "async_hooks don't have what stands for Workers",
+    tests: "worker-hasref worker-messageport-hasref",
   },
   {
     says: /ERR_INVALID_ARG_TYPE|options\.eval/, why: "the error of `new Worker` doesn't say what was given",
     tests: "worker-process-env worker-type-check worker-unsupported-eval-on-url",
   },
   {
-    says: /Missing expected (?:rejection|exception)|isBuiltin/, why: "threads of a program have node's inside",
-    tests: "module-isBuiltin require-node-prefix", 24: "worker-internal-modules",
+    says: /ERR_UNKNOWN_BUILTIN_MODULE/, why: "code that a Worker evaluates is no ES module",
+    24: "worker-internal-modules",
   },
   {
     says: /globalPaths/, why: "node looks for NODE_PATH in the process, and a thread has variables of its own",
@@ -65,10 +57,9 @@ export const REASONS = Object.freeze([
   },
   { says: /AssertionError/, why: "no thread is held to its limits", tests: "worker-resource-limits" },
   {
-    says: /AssertionError|transferred|MessagePort/, why: "ports refuse other values than node's, or not in its way",
-    tests: `worker-message-port-transfer-closed worker-message-port-transfer-fake-js-transferable
-      worker-message-port-transfer-fake-js-transferable-internal worker-message-port-transfer-filehandle
-      worker-message-port-transfer-self worker-message-port-transfer-target worker-message-port`,
+    says: /AssertionError|transferred|MessagePort/, why: "FileHandles aren't transferred",
+    tests: `worker-message-port-transfer-fake-js-transferable
+      worker-message-port-transfer-fake-js-transferable-internal worker-message-port-transfer-filehandle`,
   },
   {
     says: /Missing expected exception/, why: "a file that a thread has left open is open until the runs end",
@@ -81,10 +72,6 @@ export const REASONS = Object.freeze([
   {
     says: /more than 100000 moves/, why: "it goes on for more than 100,000 moves",
     tests: "worker-http2-stream-terminate worker-message-port-message-before-close",
-  },
-  {
-    says: /more than 100000 moves|has made no call/, 20: "timers-clear-object-does-not-throw-error",
-    why: "it clears an object in place of an immediate, and node's count of immediates is wrong then",
   },
   {
     says: /should not have been called/, why: "it has to be the file that node begins with",
