@@ -25,8 +25,9 @@ const { values } = parseArgs({
 /** @type {Record<string, { states: string, seconds: number | null, found: string[] }>} */
 const TRIAL = JSON.parse(readFileSync(new URL("./every-trial.json", import.meta.url), "utf8"));
 
-/** Bash writes a command's processor time, and that of all processes that it began, to its last line. */
-const TIMED = 'TIMEFORMAT="%3U %3S"; time "$@"';
+/** Bash writes a command's time by the clock, and its processor time with that of all processes that it began, to its
+ * last line. */
+const TIMED = 'TIMEFORMAT="%3R %3U %3S"; time "$@"';
 
 /**
  * @typedef {object} Tried a row of the table, as far as it is of this code
@@ -40,12 +41,12 @@ const TIMED = 'TIMEFORMAT="%3U %3S"; time "$@"';
 
 const TITLE = `# Every schedule of many modules
 
-\`recorder/bench/every.mjs\` has made this. Seconds are those of processors, of all that \`everySchedule\` does: with
-300 real runs, and the proved search by the module. The trial counted states up to renaming of agents, merged moments
-whose futures looked alike in tests, and made no real runs.
+\`recorder/bench/every.mjs\` has made this. Seconds are those of all that \`everySchedule\` does: with 300 real runs,
+and the proved search by the module. They are given by the clock, and as the time of all processors. The trial counted
+states up to renaming of agents, merged moments whose futures looked alike in tests, and made no real runs.
 
-| Module | States | Moments | Seconds | Found | Seeds find | Trial: states | Seconds | Found | |
-|---|---:|---:|---:|---|---|---:|---:|---|---|`;
+| Module | States | Moments | Seconds by the clock | of processors | Found | Seeds find | Trial: states | Seconds | Found | |
+|---|---:|---:|---:|---:|---|---|---:|---:|---|---|`;
 
 /** @param {string[]} kinds @returns {string[]} each once */
 const once = (kinds) => [...new Set(kinds)].sort();
@@ -75,18 +76,18 @@ async function tried(path) {
   }
 }
 
-/** @param {string} path @returns {Tried & { seconds: number }} by a process of its own */
+/** @param {string} path @returns {Tried & { clock: number, processors: number }} seconds of a process of its own */
 function triedApart(path) {
   const words = [fileURLToPath(import.meta.url), "--one", path, "--within", values.within];
   const command = ["-c", TIMED, "every", process.execPath, ...words];
   const { stderr, stdout } = spawnSync("bash", command, { encoding: "utf8" });
-  const [user, system] = stderr.trimEnd().split("\n").slice(-1)[0].split(" ");
-  return { ...JSON.parse(stdout), seconds: Number(user) + Number(system) };
+  const [clock, user, system] = stderr.trimEnd().split("\n").slice(-1)[0].split(" ").map(Number);
+  return { ...JSON.parse(stdout), clock, processors: user + system };
 }
 
-/** @param {string} path @returns {{ cells: string[], isClosed: boolean, seconds: number }} */
+/** @param {string} path @returns {{ cells: string[], isClosed: boolean, clock: number }} */
 function rowOf(path) {
-  const { found, isClosed, moments, note, seconds, seedsFind, states } = triedApart(path);
+  const { clock, found, isClosed, moments, note, processors, seedsFind, states } = triedApart(path);
   const trial = TRIAL[path];
   // A run from which there is no way out meets a limit.
   const isFound = (/** @type {string} */ kind) => found.includes(kind === "limit" ? "no way out" : kind);
@@ -95,9 +96,10 @@ function rowOf(path) {
     note, isClosed && found.join() !== trial.found.join() ? "other findings than the trial" : "",
     isClosed && missed.length > 0 ? `only seeds find: ${missed.join(", ")}` : "",
   ];
-  const own = [path, states, moments, seconds.toFixed(1), found.join(", "), isClosed ? seedsFind.join(", ") : ""];
+  const seconds = [clock, processors].map((each) => each.toFixed(1));
+  const own = [path, states, moments, ...seconds, found.join(", "), isClosed ? seedsFind.join(", ") : ""];
   const theirs = [trial.states, `${trial.seconds ?? ""}`, trial.found.join(", ")];
-  return { cells: [...own, ...theirs, notes.filter((one) => one !== "").join("; ")], isClosed, seconds };
+  return { cells: [...own, ...theirs, notes.filter((one) => one !== "").join("; ")], isClosed, clock };
 }
 
 /** Prints the table. */
@@ -106,12 +108,12 @@ function table() {
   /** @type {number[]} */
   const closed = [];
   for (const path of Object.keys(TRIAL).filter((name) => name.includes(values.only))) {
-    const { cells, isClosed, seconds } = rowOf(path);
-    if (isClosed) closed.push(seconds);
+    const { cells, clock, isClosed } = rowOf(path);
+    if (isClosed) closed.push(clock);
     console.log(`| ${cells.join(" | ")} |`);
   }
   const within = (/** @type {number} */ most) => closed.filter((seconds) => seconds <= most).length;
-  console.log(`\n${closed.length} of these closed: ${within(4)} within 4 s, ${within(10)} within 10 s.`);
+  console.log(`\n${closed.length} of these closed: ${within(4)} within 4 s by the clock, ${within(10)} within 10 s.`);
 }
 
 if (values.one === undefined) table();

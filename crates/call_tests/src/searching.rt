@@ -14,7 +14,7 @@ use std::test::Fail;
 /// How many loads each agent makes.
 const LOADS: usize = 31;
 
-/// How many agents there are, whose loads come in any order.
+/// How many agents there are, whose loads come in any order. Each has an automaton of its own, so that no two are alike.
 const AGENTS: usize = 4;
 
 /// As many states as there are: each agent has made 0 to 31 loads.
@@ -24,18 +24,30 @@ const STATES: u32 = 1_048_576;
 fn file(alloc: Global) -> Result<String, AllocError> {
     let mut file = String::new(alloc);
     file.push_str(r#"{"blocks":[4],"views":[{"name":"m","kind":"Int32","block":0,"offset":0,"#)?;
-    file.push_str(r#""length":null}],"automata":[{"name":"a","nodes":["#)?;
+    file.push_str(r#""length":null}],"automata":["#)?;
+    for a in 0..AGENTS {
+        push_automaton(alloc, &mut file, a)?;
+    }
+    file.push_str(r#"],"agents":["#)?;
+    for a in 0..AGENTS {
+        let comma = if a == 0 { "" } else { "," };
+        let agent = format!(in alloc; r#"{comma}{{"automaton":"a{a}","block":true}}"#)?;
+        file.push_str(agent.as_str())?;
+    }
+    file.push_str("]}")?;
+    Ok(file)
+}
+
+/// Adds the automaton with this number, and a comma before it if it isn't the first.
+fn push_automaton(alloc: Global, file: &mut String, number: usize) -> Result<(), AllocError> {
+    let comma = if number == 0 { "" } else { "," };
+    let begin = format!(in alloc; r#"{comma}{{"name":"a{number}","nodes":["#)?;
+    file.push_str(begin.as_str())?;
     for k in 1..=LOADS {
         let node = format!(in alloc; r#"{{"call":["load","m",0],"edges":[["0",{k}]]}},"#)?;
         file.push_str(node.as_str())?;
     }
-    file.push_str(r#"{"finished":true}]}],"agents":["#)?;
-    for k in 0..AGENTS {
-        file.push_str(if k == 0 { "" } else { "," })?;
-        file.push_str(r#"{"automaton":"a","block":true}"#)?;
-    }
-    file.push_str("]}")?;
-    Ok(file)
+    file.push_str(r#"{"finished":true}]}"#)
 }
 
 /// What a search of at most so many states writes, as a text that begins so, with this outcome.

@@ -1,5 +1,0 @@
-mod Begun
-mod Numbers
-mod Room
-mod Following
-mod Taking
