@@ -1,12 +1,13 @@
 // What the tests share.
 
+import assert from "node:assert/strict";
 import { execFile, spawnSync } from "node:child_process";
 import { mkdtempSync, readFileSync, readdirSync, rmSync, writeFileSync } from "node:fs";
 import { tmpdir } from "node:os";
 import { join } from "node:path";
 import { setTimeout as sleep } from "node:timers/promises";
 import { fileURLToPath } from "node:url";
-import { record } from "../../recorder.mjs";
+import { Refused, record } from "../../recorder.mjs";
 import { NOWHERE } from "./needs.mjs";
 
 /** An environment that chooses a program which isn't there. */
@@ -114,6 +115,18 @@ export function moduleOf(test, text) {
 export const COUNTS = `export const setup = { agents: 2, buffers: [4] };
 export default ({ buffers }) => void Atomics.add(new Int32Array(buffers[0]), 0, 1);
 `;
+
+/**
+ * What `assert.throws` demands of a refusal: it says why, in one line.
+ * @param {RegExp} why
+ * @param {string} [what] was asked for
+ * @returns {(error: Error) => boolean}
+ */
+export const refusedInALine = (why, what = "") => (error) => {
+  assert.ok(error instanceof Refused, `${what}: ${error.stack}`);
+  assert.match(error.message, why);
+  return !error.message.includes("\n");
+};
 
 /** The processes whose environment has a word, which all children of a process inherit. */
 export function processesWith(word) {

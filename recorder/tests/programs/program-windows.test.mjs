@@ -7,11 +7,10 @@ import { tmpdir } from "node:os";
 import { join } from "node:path";
 import { after, describe, it } from "node:test";
 import { keptProgram } from "../../lib/keeping/kept-program.mjs";
-import { Refused } from "../../lib/options/refused.mjs";
 import { windowNames } from "../../lib/run/window-names.mjs";
 import { TouchedPages, Windows } from "../../lib/run/windows.mjs";
-import { commandThere } from "../helpers/common.mjs";
-import { slowRaces } from "../helpers/second-detector.mjs";
+import { commandThere, refusedInALine } from "../helpers/common.mjs";
+import { slowRaces } from "../helpers/slow-judge.mjs";
 import { programIn, runsOf } from "../helpers/whole-programs.mjs";
 
 /**
@@ -369,11 +368,7 @@ describe("a kept run", () => {
       text.replace(/"windows":\[\[.*?\]\]/, `"windows":${JSON.stringify([...pair, ...others])}`));
     for (const [at, [, says]] of wrong.entries()) {
       assert.notEqual(texts[at], text);
-      assert.throws(() => keptProgram(texts[at], kept), (thrown) => {
-        assert.ok(thrown instanceof Refused);
-        assert.equal(thrown.message.replace(/.*kept: /, ""), says);
-        return true;
-      });
+      assert.throws(() => keptProgram(texts[at], kept), refusedInALine(new RegExp(`kept: ${says}$`)));
     }
     const refused = join(folder, "wrong.program.json");
     writeFileSync(refused, texts[0]);

@@ -204,13 +204,9 @@ describe("init and check", { concurrency: 2 }, () => {
       "{ agents: 2, buffers: [() => 4] }": /plain data, .*, but its member buffers has something else in it$/m,
       5: /^`setup` must be an object, as /,
     };
-    for (const [setup, refused] of Object.entries(refusals)) {
+    for (const [setup, message] of Object.entries(refusals)) {
       writeFileSync(path, `export const setup = ${setup};\nexport default () => {};`);
-      await assert.rejects(record({ module: path, agents: 1, sabsim: false }), (error) => {
-        assert.ok(error instanceof Refused);
-        assert.match(error.message, refused);
-        return true;
-      });
+      await assert.rejects(record({ module: path, agents: 1, sabsim: false }), { constructor: Refused, message });
     }
   });
 

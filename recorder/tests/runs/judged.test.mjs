@@ -91,17 +91,14 @@ describe("the judge of checked runs", withShell, () => {
   });
 
   it("finds no race, and the recorder found one: both are reported", async (context) => {
-    const found = /^ {2}the recorder: agent 1 reads slots\[0\] at ring-frees-first\.mjs:43:17, .*; agent 0 writes /;
+    const found = " {2}the recorder: agent 1 reads slots\\[0\\] at ring-frees-first\\.mjs:43:17, .*; agent 0 writes .*";
     const sabsim = judging(temporaryFolder(context), FINDS_NONE);
     for (const races of ["fail", "allow"]) {
-      await assert.rejects(record({ ...SMALL, seed: RACING_SEED, sabsim, races }), (error) => {
-        assert.ok(error instanceof Difference);
-        const [title, recorder, other] = error.message.split("\n");
-        assert.equal(title, `seed ${RACING_SEED}: the recorder and sabsim differ on unordered accesses`);
-        assert.match(recorder, found);
-        assert.equal(other, "  sabsim:       no data race: 12 accesses by 3 agents");
-        return true;
-      });
+      const recording = record({ ...SMALL, seed: RACING_SEED, sabsim, races });
+      await assert.rejects(recording, { constructor: Difference, message: new RegExp([
+        `^seed ${RACING_SEED}: the recorder and sabsim differ on unordered accesses`, found,
+        " {2}sabsim: {7}no data race: 12 accesses by 3 agents$",
+      ].join("\n")) });
     }
   });
 
@@ -112,11 +109,8 @@ describe("the judge of checked runs", withShell, () => {
       "script's accesses": () => recordCase("addition", { sabsim }),
     };
     for (const [what, run] of Object.entries(runs)) {
-      await assert.rejects(run(), (error) => {
-        assert.ok(error instanceof Difference);
-        assert.equal(error.message, `seed 1: sabsim ended with status 1 on the ${what}: sabsim: 10 BadShape: line 12`);
-        return true;
-      });
+      const message = `seed 1: sabsim ended with status 1 on the ${what}: sabsim: 10 BadShape: line 12`;
+      await assert.rejects(run(), { constructor: Difference, message });
     }
   });
 
@@ -154,11 +148,7 @@ describe("the judge of checked runs", withShell, () => {
     const folder = temporaryFolder(context);
     const sabsim = judging(folder, "echo \"error: unrecognized subcommand 'judge'\" >&2; exit 2");
     const tooOld = /judging can't do judge, so it is older than the recorder: error: unrecognized subcommand 'judge'$/;
-    await assert.rejects(recordCase("addition", { sabsim }), (error) => {
-      assert.ok(error instanceof NoSabsim);
-      assert.match(error.message, tooOld);
-      return true;
-    });
+    await assert.rejects(recordCase("addition", { sabsim }), { constructor: NoSabsim, message: tooOld });
     const { status, stderr } = await commandHere([agentsPath("cases"), "--sabsim", sabsim, ...addition]);
     assert.equal(status, 3);
     assert.match(stderr.trimEnd(), tooOld);

@@ -88,13 +88,10 @@ test("a relative path is taken from the file that calls the library, however it 
   }
   const { default: { common } } = await import(pathToFileURL(join(folder, "suite", "calls.cjs")).href);
   assert.deepEqual((await common()).bytes, ["01"]);
-  await assert.rejects(calls.missing(), (error) => {
-    assert.ok(error instanceof Refused);
-    const from = '`module` is "./none.mjs", from the folder of the file that asks for it';
-    // Node knows a file by its own path, whatever links lead to it.
-    assert.equal(error.message, `there is no file ${join(realpathSync(folder), "suite", "none.mjs")}: ${from}`);
-    return true;
-  });
+  const from = '`module` is "./none.mjs", from the folder of the file that asks for it';
+  // Node knows a file by its own path, whatever links lead to it.
+  const message = `there is no file ${join(realpathSync(folder), "suite", "none.mjs")}: ${from}`;
+  await assert.rejects(calls.missing(), { constructor: Refused, message });
 });
 
 test("code that is typed in is taken to be in the working directory", (context) => {

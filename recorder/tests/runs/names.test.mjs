@@ -121,11 +121,7 @@ for (const [names, why] of [
   [Object.fromEntries(Array.from({ length: 65 }, (_, at) => [`w${at}`, at])), /^`names` has 65 names: a script has /],
 ]) {
   test(`names that can't be: ${JSON.stringify(names).slice(0, 60)}`, () => {
-    assert.throws(() => checkedNames(names, [8, 16]), (error) => {
-      assert.ok(error instanceof Refused);
-      assert.match(error.message, why);
-      return true;
-    });
+    assert.throws(() => checkedNames(names, [8, 16]), { constructor: Refused, message: why });
   });
 }
 

@@ -7,10 +7,10 @@ import { closeSync, mkdirSync, openSync, readFileSync, readdirSync, writeFileSyn
 import { join } from "node:path";
 import { test } from "node:test";
 import { commandOptionsOf, USAGE } from "../../lib/command/options.mjs";
-import { Refused } from "../../lib/options/refused.mjs";
 import { commandHere } from "../helpers/command-here.mjs";
 import {
-  RECORD, WITHOUT_SABSIM, agentsOf, agentsPath, commandNow, processesWith, soon, stayingWith, temporaryFolder,
+  RECORD, WITHOUT_SABSIM, agentsOf, agentsPath, commandNow, processesWith, refusedInALine, soon, stayingWith,
+  temporaryFolder,
 } from "../helpers/common.mjs";
 import { CHECKING, NOWHERE, hasSabsim, onLinux, withDevices, withShell } from "../helpers/needs.mjs";
 import { simulated } from "../helpers/simulate.mjs";
@@ -152,11 +152,7 @@ test("each wrong option is refused, with one line that names it", () => {
     [["m.mjs", "--out", ""], /--out/],
   ];
   for (const [words, why] of wrong) {
-    assert.throws(() => commandOptionsOf(words), (error) => {
-      assert.ok(error instanceof Refused, words.join(" "));
-      assert.match(error.message, why);
-      return !error.message.includes("\n");
-    });
+    assert.throws(() => commandOptionsOf(words), refusedInALine(why, words.join(" ")));
   }
 });
 

@@ -11,7 +11,7 @@ import { Runs, outcomesOf } from "../../lib/seeds/runs.mjs";
 import { CONSTRUCTORS, KINDS } from "../../script/kinds.mjs";
 import { agentsPath } from "../helpers/common.mjs";
 import { CHECKER } from "../helpers/needs.mjs";
-import { slowRaces } from "../helpers/second-detector.mjs";
+import { slowRaces } from "../helpers/slow-judge.mjs";
 
 /**
  * How the agents keep out of each other's way, what else their runs are recorded with, and from how many to how many
@@ -59,7 +59,7 @@ const withoutTrace = ({ seed, ending, detail, moves, state, races }) => ({ seed,
 
 /**
  * The events of a trace, each with the short form of its source.
- * @returns {import("../helpers/second-detector.mjs").Event[]}
+ * @returns {import("../helpers/slow-judge.mjs").Event[]}
  */
 function eventsOf(trace) {
   return trace.split("\n").slice(0, -1).map((line, index) => {

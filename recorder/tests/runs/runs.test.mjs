@@ -282,26 +282,17 @@ test("a module that can't be loaded is refused", async (context) => {
 
 test("a missing sabsim is reported before anything runs", async () => {
   const options = { sabsim: "/nowhere/sabsim" };
-  await assert.rejects(recordCase("nothing", options), (error) => {
-    assert.ok(error instanceof NoSabsim);
-    assert.equal(error.message, "there is no program sabsim at /nowhere/sabsim");
-    return true;
-  });
+  const message = "there is no program sabsim at /nowhere/sabsim";
+  await assert.rejects(recordCase("nothing", options), { constructor: NoSabsim, message });
 });
 
 test("a difference shows both sides", withShell, async (context) => {
   const folder = temporaryFolder(context);
   const lying = `${folder}/lying`;
   writeFileSync(lying, "#!/bin/sh\ncat > /dev/null\nprintf '0 0 0 begin\\n1 0 0 act 5\\n'\n", { mode: 0o755 });
-  await assert.rejects(recordCase("addition", { agents: 1, sabsim: lying }), (error) => {
-    assert.ok(error instanceof Difference);
-    assert.equal(error.message, [
-      "seed 1: the code and sabsim differ, in line 2 of the report",
-      "  the code: 1 0 0 act 0",
-      "  sabsim:   1 0 0 act 5",
-    ].join("\n"));
-    return true;
-  });
+  const message = "seed 1: the code and sabsim differ, in line 2 of the report\n"
+    + "  the code: 1 0 0 act 0\n  sabsim:   1 0 0 act 5";
+  await assert.rejects(recordCase("addition", { agents: 1, sabsim: lying }), { constructor: Difference, message });
   writeFileSync(lying, "#!/bin/sh\necho 'sabsim: 13 BadCall' >&2\nexit 1\n", { mode: 0o755 });
   const refused = recordCase("addition", { sabsim: lying });
   await assert.rejects(refused, /status 1 on the script: sabsim: 13 BadCall/);

@@ -9,10 +9,9 @@ import { after, before, test } from "node:test";
 import { fileURLToPath } from "node:url";
 import { merged, partsOf } from "../../lib/command/merging.mjs";
 import { commandOptionsOf } from "../../lib/command/options.mjs";
-import { Refused } from "../../lib/options/refused.mjs";
 import { seedsWithout, shardOf, united } from "../../lib/seeds/ranges.mjs";
 import { commandHere } from "../helpers/command-here.mjs";
-import { RECORD, agentsOf, agentsPath, moduleOf, nodeNow, temporaryFolder } from "../helpers/common.mjs";
+import { RECORD, agentsOf, agentsPath, moduleOf, nodeNow, refusedInALine, temporaryFolder } from "../helpers/common.mjs";
 import { CHECKING, needing, withSignals } from "../helpers/needs.mjs";
 import { pathOf } from "../helpers/programs.mjs";
 
@@ -62,11 +61,8 @@ test("`--shard` takes a number and a count, and refuses other words", () => {
   const { first, last, asked, shard } = commandOptionsOf(["m.mjs", "--seeds", "1..1000", "--shard", "2/4"]);
   assert.deepEqual([first, last, asked, shard], [251, 500, { first: 1, last: 1_000 }, { number: 2, of: 4 }]);
   assert.equal(commandOptionsOf(["m.mjs"]).shard, undefined);
-  const refused = (words, why) => assert.throws(() => commandOptionsOf(["m.mjs", ...words]), (error) => {
-    assert.ok(error instanceof Refused, words.join(" "));
-    assert.match(error.message, why);
-    return !error.message.includes("\n");
-  });
+  const refused = (words, why) =>
+    assert.throws(() => commandOptionsOf(["m.mjs", ...words]), refusedInALine(why, words.join(" ")));
   for (const text of ["", "0/4", "5/4", "1/0", "1.5/4", "2", "1/2/3", "a/b", "1/99999999999999999999"]) {
     refused(["--shard", text], /^--shard must be K\/N, as 2\/4, with K from 1 to N, but is "/);
   }
@@ -177,27 +173,23 @@ test("merge.mjs refuses files that aren't summaries, or don't fit together, with
   const faults = [
     [[join(folder, "none.json")], /none\.json can't be read: ENOENT/],
     [[folder], /can't be read: EISDIR/],
-    [[write("empty", "\n")], /empty has no summary: it is empty\n/],
-    [[write("text", "15 of 200 runs failed\n")], /^merge: line 1 of .*text is no summary .*: it is no JSON\n/],
-    [[write("number", "5")], /it isn't what `record\.mjs --format json` writes\n/],
-    [[write("null", "null")], /it isn't what `record\.mjs --format json` writes\n/],
-    [[changed("form", { summary: 99 })], /it is of form 99, and this recorder writes and reads form 4\n/],
-    [[changed("runs", { runs: "5" })], /its member runs is missing, or isn't what it must be\n/],
+    [[write("empty", "\n")], /empty has no summary: it is empty$/],
+    [[write("text", "15 of 200 runs failed\n")], /^line 1 of .*text is no summary .*: it is no JSON$/],
+    [[write("number", "5")], /it isn't what `record\.mjs --format json` writes$/],
+    [[write("null", "null")], /it isn't what `record\.mjs --format json` writes$/],
+    [[changed("form", { summary: 99 })], /it is of form 99, and this recorder writes and reads form 4$/],
+    [[changed("runs", { runs: "5" })], /its member runs is missing, or isn't what it must be$/],
     [[changed("endings", { endings: { failing: [{ ending: "race", runs: 1 }], passing: [] } })],
       /its member endings\.failing\[0\]\.first is missing/],
-    [[first, second, first], /1\.json and .*1\.json don't fit together: both have seed 1\n/],
-    [[first, changed("overlap", { seeds: [{ first: 10, last: 12 }] })], /don't fit together: both have seed 10\n/],
-    [[first, changed("module", { asked: other })], /they are of different modules, .*agents\.mjs and other\.mjs\n/],
+    [[first, second, first], /1\.json and .*1\.json don't fit together: both have seed 1$/],
+    [[first, changed("overlap", { seeds: [{ first: 10, last: 12 }] })], /don't fit together: both have seed 10$/],
+    [[first, changed("module", { asked: other })], /they are of different modules, .*agents\.mjs and other\.mjs$/],
     [[first, changed("edited", { asked: { ...asked, digest: "00" } })], /the text of .*agents\.mjs isn't the same in /],
     [[first, changed("option", { asked: { ...asked, options: { ...asked.options, noBlock: [1] } } })],
-      /don't fit together: --no-block is not given in the one and \[1\] in the other\n/],
+      /don't fit together: --no-block is not given in the one and \[1\] in the other$/],
   ];
   for (const [files, why] of faults) {
-    assert.throws(() => merged(files.flatMap(partsOf)), (error) => {
-      assert.ok(error instanceof Refused, error.stack);
-      assert.match(`merge: ${error.message}\n`, why);
-      return !error.message.includes("\n");
-    });
+    assert.throws(() => merged(files.flatMap(partsOf)), refusedInALine(why));
   }
 });
 

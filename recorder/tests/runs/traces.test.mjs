@@ -11,12 +11,11 @@ import { UNSEEN_LINE } from "../../lib/run/trace.mjs";
 import { agentsPath, commandThere, temporaryFolder } from "../helpers/common.mjs";
 import { CHECKING } from "../helpers/needs.mjs";
 import { recorded } from "../helpers/recorded.mjs";
-import { slowRaces } from "../helpers/second-detector.mjs";
-import { MEMBERS } from "../helpers/slow-judge.mjs";
+import { MEMBERS, slowRaces } from "../helpers/slow-judge.mjs";
 
 const RING = fileURLToPath(new URL("../../examples/ring-frees-first.agents.mjs", import.meta.url));
 const knownPath = (name) => fileURLToPath(new URL(`../known/${name}.mjs`, import.meta.url));
-/** The events of a trace. @returns {import("../helpers/second-detector.mjs").Event[]} */
+/** The events of a trace. @returns {import("../helpers/slow-judge.mjs").Event[]} */
 function eventsOf(trace) {
   assert.ok(trace.endsWith("\n"));
   return trace.slice(0, -1).split("\n").map((line, at) => {
