@@ -3,13 +3,13 @@
 // checks every run.
 
 import assert from "node:assert/strict";
-import { mkdtempSync, readFileSync, readdirSync, rmSync, writeFileSync } from "node:fs";
-import { tmpdir } from "node:os";
+import { readFileSync, readdirSync, writeFileSync } from "node:fs";
 import { join } from "node:path";
 import { after, describe, test } from "node:test";
 import { pathToFileURL } from "node:url";
 import { Job } from "../../lib/seeds/job.mjs";
 import { Runs, outcomesOf as taken } from "../../lib/seeds/runs.mjs";
+import { temporaryFolder } from "../helpers/common.mjs";
 import { CHECKER } from "../helpers/needs.mjs";
 import { Opinions } from "../helpers/opinions.mjs";
 import { pathOf } from "../helpers/programs.mjs";
@@ -175,8 +175,7 @@ describe("examples", () => {
 });
 
 describe("the checks of the agents find a lock that isn't one", () => {
-  const folder = mkdtempSync(join(tmpdir(), "examples-"));
-  after(() => rmSync(folder, { recursive: true, force: true }));
+  const folder = temporaryFolder();
 
   const broken = {
     "mutex-naive": "class NaiveMutex { lock() {} unlock() {} }",

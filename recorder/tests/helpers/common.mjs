@@ -5,6 +5,7 @@ import { execFile, spawnSync } from "node:child_process";
 import { mkdtempSync, readFileSync, readdirSync, rmSync, writeFileSync } from "node:fs";
 import { tmpdir } from "node:os";
 import { join } from "node:path";
+import { after } from "node:test";
 import { setTimeout as sleep } from "node:timers/promises";
 import { fileURLToPath } from "node:url";
 import { Refused, record } from "../../recorder.mjs";
@@ -22,16 +23,24 @@ export const RECORD = fileURLToPath(new URL("../../record.mjs", import.meta.url)
 /** @typedef {{ status: number, stdout: string, stderr: string }} Ended */
 
 /**
- * Runs the command line in a process of its own, beside others.
+ * Runs node in a process of its own, beside others.
  * @param {string[]} words
- * @param {object} [options] of execFile
+ * @param {{ input?: string } & object} [options] its standard input, and those of execFile
  * @returns {Promise<Ended>}
  */
-export const commandThere = (words, options = {}) => new Promise((done) => {
-  execFile(process.execPath, [RECORD, ...words], options, (error, stdout, stderr) => {
+export const nodeThere = (words, { input = "", ...options } = {}) => new Promise((done) => {
+  const child = execFile(process.execPath, words, { maxBuffer: 2 ** 28, ...options }, (error, stdout, stderr) => {
     done({ status: Number(error?.code ?? 0), stdout, stderr });
   });
+  child.stdin.end(input);
 });
+
+/**
+ * Runs the command line so.
+ * @param {string[]} words
+ * @param {object} [options]
+ */
+export const commandThere = (words, options) => nodeThere([RECORD, ...words], options);
 
 /**
  * Runs node to its end, while nothing else goes on here.
@@ -52,13 +61,22 @@ export function nodeNow(words, options = {}) {
 export const commandNow = (words, options) => nodeNow([RECORD, ...words], options);
 
 /**
+ * What node has printed as JSON, without an error.
+ * @param {Ended} ended
+ */
+export function jsonOf({ stdout, stderr }) {
+  assert.equal(stderr, "");
+  return JSON.parse(stdout);
+}
+
+/**
  * What a process prints, and how it ends.
  * @param {import("node:child_process").ChildProcess} child
  * @returns {Promise<Ended & { signal: string | null }>}
  */
 export function endOf(child) {
   const texts = { stdout: "", stderr: "" };
-  for (const name of ["stdout", "stderr"]) child[name].setEncoding("utf8").on("data", (text) => (texts[name] += text));
+  for (const name of ["stdout", "stderr"]) child[name]?.setEncoding("utf8").on("data", (text) => (texts[name] += text));
   return new Promise((done) => {
     child.on("close", (status, signal) => done({ ...texts, status, signal }));
   });
@@ -79,10 +97,10 @@ export function recordCase(name, options = {}) {
 }
 
 /**
- * A folder that is gone after the test.
- * @param {import("node:test").TestContext} test
+ * A folder that is gone after the test, or without one after the tests of the file or of the suite.
+ * @param {{ after: (act: () => void) => void }} [test]
  */
-export function temporaryFolder(test) {
+export function temporaryFolder(test = { after }) {
   const folder = mkdtempSync(join(tmpdir(), "recorder-"));
   test.after(() => rmSync(folder, { recursive: true, force: true }));
   return folder;

@@ -10,7 +10,9 @@ import { test } from "node:test";
 import { setTimeout as sleep } from "node:timers/promises";
 import { Delivery } from "../../lib/seeds/delivery.mjs";
 import { Difference, LostJob, NoSabsim, Refused, explore, record } from "../../recorder.mjs";
-import { agentsOf, agentsPath, processesWith, refusedInALine, soon, stayingWith, temporaryFolder } from "../helpers/common.mjs";
+import {
+  agentsOf, agentsPath, endOf, processesWith, refusedInALine, soon, stayingWith, temporaryFolder,
+} from "../helpers/common.mjs";
 import { CHECKER, NOWHERE, onLinux, withShell } from "../helpers/needs.mjs";
 
 const LIBRARY = new URL("../../recorder.mjs", import.meta.url).href;
@@ -219,9 +221,7 @@ for (const [what, code] of Object.entries(WAYS_OUT)) {
       const env = { ...process.env, RECORDER_TEST: mark };
       const stdio = ["ignore", "inherit", "inherit", "ipc"];
       const child = spawn(process.execPath, [file], { env, stdio });
-      const ended = new Promise((done) => {
-        child.on("exit", done);
-      });
+      const ended = once(child, "exit").then(([status]) => status);
       // It goes on until it has no parent to speak to.
       await Promise.race([once(child, "message"), ended]);
       assert.ok(await soon(() => processesWith(mark).every((id) => Number(id) === child.pid)));
@@ -246,9 +246,7 @@ test("a signal that is aborted while no outcome is taken ends all the same", onL
     `);
     const child = spawn(process.execPath, [file], { env: { ...process.env, RECORDER_TEST: mark }, timeout: 600_000 });
     // It ends by itself, though nobody has asked the iterator for more.
-    const status = await new Promise((done) => {
-      child.on("close", done);
-    });
+    const { status } = await endOf(child);
     assert.deepEqual([status, await stayingWith(mark)], [0, []]);
   }));
 });

@@ -1,7 +1,7 @@
 // Jobs: they run as this process would, what ends them doesn't end what was found, and they are ended themselves.
 
 import assert from "node:assert/strict";
-import { spawn, spawnSync } from "node:child_process";
+import { spawn } from "node:child_process";
 import { readFileSync, writeFileSync } from "node:fs";
 import { randomUUID } from "node:crypto";
 import { syncBuiltinESMExports } from "node:module";
@@ -81,16 +81,11 @@ test("without --jobs a command that goes on takes further jobs, and prints the s
   const words = [RECORD, agentsPath("naive-mutex"), "--seeds", "1..1500", "--check", "10", ...CHECKING];
   const mark = randomUUID();
   const child = spawn(process.execPath, words, { env: { ...process.env, RECORDER_TEST: mark } });
-  let [stdout, most] = ["", 0];
-  child.stdout.setEncoding("utf8").on("data", (text) => {
-    stdout += text;
-  });
+  let most = 0;
   const counting = setInterval(() => {
     most = Math.max(most, processesWith(mark).length);
   }, 50);
-  const status = await new Promise((done) => {
-    child.on("close", done);
-  });
+  const { status, stdout } = await endOf(child);
   clearInterval(counting);
   const { stderr, ...one } = await commandHere([...words.slice(1), "--jobs", "1"]);
   assert.deepEqual({ status, stdout }, one);

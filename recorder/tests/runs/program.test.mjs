@@ -1,16 +1,17 @@
 // The command line, as a user runs it: what it prints, its status, what it writes, and that nothing is left of it.
 
 import assert from "node:assert/strict";
-import { execFile, spawn, spawnSync } from "node:child_process";
+import { spawn } from "node:child_process";
 import { randomUUID } from "node:crypto";
+import { once } from "node:events";
 import { closeSync, mkdirSync, openSync, readFileSync, readdirSync, writeFileSync } from "node:fs";
 import { join } from "node:path";
 import { test } from "node:test";
 import { commandOptionsOf, USAGE } from "../../lib/command/options.mjs";
 import { commandHere } from "../helpers/command-here.mjs";
 import {
-  RECORD, WITHOUT_SABSIM, agentsOf, agentsPath, commandNow, processesWith, refusedInALine, soon, stayingWith,
-  temporaryFolder,
+  RECORD, WITHOUT_SABSIM, agentsOf, agentsPath, commandNow, commandThere, endOf, processesWith, refusedInALine, soon,
+  stayingWith, temporaryFolder,
 } from "../helpers/common.mjs";
 import { CHECKING, NOWHERE, hasSabsim, onLinux, withDevices, withShell } from "../helpers/needs.mjs";
 import { simulated } from "../helpers/simulate.mjs";
@@ -225,10 +226,7 @@ test("a wrong command line is refused with status 2 and one line", async (contex
       /--no-block\) names agent 1: there is no such agent, only 0 to 0$/m],
     [[module, "--out", file, ...few], /--out .*file can't be used/],
   ];
-  const ran = await Promise.all(wrong.map(([words]) => new Promise((done) => {
-    const answered = (error, stdout, stderr) => done({ status: error?.code, stdout, stderr });
-    execFile(process.execPath, [RECORD, ...words], { cwd: folder }, answered);
-  })));
+  const ran = await Promise.all(wrong.map(([words]) => commandThere(words, { cwd: folder })));
   ran.forEach(({ status, stdout, stderr }, at) => {
     const [words, why] = wrong[at];
     assert.deepEqual([status, stdout], [2, ""], words.join(" "));
@@ -259,13 +257,7 @@ test("if standard output has no reader, the status is 3, and the failing run is 
   const words = cases("waitsForEver", "--seeds", "1..3", "--check", "0", "--out", out);
   const child = spawn(process.execPath, [RECORD, ...words], { stdio: ["ignore", "pipe", "pipe"] });
   child.stdout.destroy();
-  let stderr = "";
-  child.stderr.setEncoding("utf8").on("data", (text) => {
-    stderr += text;
-  });
-  const status = await new Promise((done) => {
-    child.on("close", done);
-  });
+  const { status, stderr } = await endOf(child);
   assert.equal(status, 3);
   assert.match(stderr, /^record: standard output can't be written: [^\n]+\n$/);
   assert.ok(readdirSync(out).includes("seed-1.json"));
@@ -390,9 +382,7 @@ for (const signal of ["SIGINT", "SIGTERM", "SIGKILL"]) {
       const words = casesOf(agents, name, "--jobs", "2", ...seeds, ...CHECKING);
       const env = { ...process.env, RECORDER_TEST: mark };
       const child = spawn(process.execPath, [RECORD, ...words], { env, stdio: ["ignore", "ignore", "pipe"] });
-      const ended = new Promise((done) => {
-        child.on("exit", (code, by) => done(by));
-      });
+      const ended = once(child, "exit");
       let text = "";
       child.stderr.setEncoding("utf8").on("data", (more) => {
         text += more;
@@ -400,7 +390,7 @@ for (const signal of ["SIGINT", "SIGTERM", "SIGKILL"]) {
       assert.ok(await soon(() => printed.test(text)), text);
       assert.ok(processesWith(mark).length >= 3);
       child.kill(signal);
-      assert.equal(await ended, signal);
+      assert.equal((await ended)[1], signal);
       assert.deepEqual(await stayingWith(mark), []);
     });
   }

@@ -1,7 +1,6 @@
 // `sabsim/test` in a test suite: what node's runner says about a module of agents that fails, and of one that doesn't.
 
 import assert from "node:assert/strict";
-import { spawn } from "node:child_process";
 import {
   existsSync, mkdirSync, readFileSync, readdirSync, realpathSync, rmSync, symlinkSync, writeFileSync,
 } from "node:fs";
@@ -12,6 +11,7 @@ import { keptFolder } from "../../lib/suite/kept-folder.mjs";
 import { assertAgents } from "../../testing.mjs";
 import { WITHOUT_SABSIM, agentsPath, nodeNow, temporaryFolder } from "../helpers/common.mjs";
 import { onLinux, withLinks } from "../helpers/needs.mjs";
+import { suiteIn } from "../helpers/suites.mjs";
 
 const HELPER = new URL("../../testing.mjs", import.meta.url).href;
 
@@ -25,22 +25,9 @@ const HELPER = new URL("../../testing.mjs", import.meta.url).href;
 async function suite(context, code, env = {}, reporter = "spec") {
   // A suite works in this folder, and node knows its files by their own paths.
   const folder = realpathSync(temporaryFolder(context));
-  const temporary = join(folder, "temporary");
-  mkdirSync(temporary);
   writeFileSync(join(folder, "agents.mjs"), readFileSync(agentsPath("naive-mutex"), "utf8"));
   writeFileSync(join(folder, "lock.test.mjs"), `import { assertAgents, testAgents } from "${HELPER}";\n${code}\n`);
-  const inherited = Object.entries({ ...process.env, ...env, TMPDIR: temporary });
-  const own = Object.fromEntries(inherited.filter(([name]) => name !== "NODE_TEST_CONTEXT" && name !== "FORCE_COLOR"));
-  const words = ["--test", `--test-reporter=${reporter}`, "lock.test.mjs"];
-  const child = spawn(process.execPath, words, { cwd: folder, env: own, stdio: ["ignore", "pipe", "inherit"] });
-  let output = "";
-  child.stdout.setEncoding("utf8").on("data", (text) => {
-    output += text;
-  });
-  const status = await new Promise((done) => {
-    child.on("close", done);
-  });
-  return { folder, temporary, output, status };
+  return suiteIn(folder, "lock.test.mjs", { env, reporter });
 }
 
 /** @type {(() => void)[]} what is done after all tests */

@@ -1,5 +1,5 @@
-// A stack of nodes, each with a word for the next one. The top has a number beside it that grows with each change, up to
-// a limit.
+// A stack of nodes, each with a word for the next one. The top has a number beside it that grows with each change, and
+// may begin anew.
 
 export const TOP = 0;
 
