@@ -197,7 +197,7 @@ try { grows.grow(${length}); } catch (error) { if (!(error instanceof RangeError
       const outcomes = await finishing(context, {
         "main.mjs": `${GROWING}words[1] = 5;
 grows.grow(16);`,
-        "worker.mjs": `${WORKER}try { grows.grow(8); } catch { if (words[1] !== 5) throw new Error("it is " + words[1]); }`,
+        "worker.mjs": `${WORKER}try { grows.grow(8); } catch { if (words[1] !== 5) throw new Error(words[1]); }`,
       }, { seeds: SEEDS });
       assert.ok(outcomes.some(({ ordinary }) => ordinary > 1) && outcomes.some(({ ordinary }) => ordinary === 1));
     });
