@@ -108,9 +108,7 @@ describe("init and check", { concurrency: 2 }, () => {
   });
 
   it("a check that doesn't end isn't called once more for the trace of its run", async (test) => {
-    const folder = temporaryFolder(test);
-    const path = join(folder, "agents.mjs");
-    writeFileSync(path, `
+    const path = moduleOf(test, `
       import { appendFileSync } from "node:fs";
       export const setup = { agents: 2, buffers: [4] };
       export default ({ buffers: [buffer] }) => Atomics.add(new Int32Array(buffer), 0, 1);
@@ -119,7 +117,7 @@ describe("init and check", { concurrency: 2 }, () => {
         for (;;);
       };
     `);
-    const called = join(folder, "called");
+    const called = `${path}.called`;
     const [{ ending, trace }] = await recorded({ module: path, args: [called], seconds: 0.5, ...SMALL }, [1]);
     assert.deepEqual([ending, readFileSync(called, "utf8")], ["check", "called"]);
     assert.equal(trace.trimEnd().split("\n").length, 2);
