@@ -129,6 +129,21 @@ export function moduleOf(test, text) {
   return path;
 }
 
+/**
+ * Writes a program of the shell's.
+ * @param {string} folder
+ * @param {string} code
+ * @returns {string} its path
+ */
+export function shellProgram(folder, code) {
+  const path = join(folder, "program");
+  writeFileSync(path, `#!/bin/sh\n${code}\n`, { mode: 0o755 });
+  return path;
+}
+
+/** What a program does that always reports one begin, which no run has alone. */
+export const LIES = "cat > /dev/null\necho '0 0 0 begin'";
+
 /** A module of two agents, each of which adds 1. */
 export const COUNTS = `export const setup = { agents: 2, buffers: [4] };
 export default ({ buffers }) => void Atomics.add(new Int32Array(buffers[0]), 0, 1);

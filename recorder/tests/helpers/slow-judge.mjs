@@ -222,5 +222,14 @@ export function slowRaces(events) {
   return pairs.sort(([one, other], [first, second]) => one - first || other - second);
 }
 
+/**
+ * The different pairs of lines that race, in the words of a summary.
+ * @param {Event[]} events in their order
+ */
+export function racingLines(events) {
+  const lineOf = (/** @type {number} */ at) => events[at].source.split("/").at(-1);
+  return [...new Set(slowRaces(events).map((pair) => pair.map(lineOf).sort().join(" and ")))].sort();
+}
+
 /** The events of a trace. @param {string} trace lines of JSON @returns {Event[]} */
 export const eventsOfTrace = (trace) => trace.split("\n").slice(0, -1).map((line) => JSON.parse(line));

@@ -225,8 +225,7 @@ describe("init and check", { concurrency: 2 }, () => {
   });
 
   it("with 16 agents none is left for the stores of init", async () => {
-    const why = /^with 16 agents none is left for the stores of `init`/;
-    const refused = (error) => error instanceof Refused && why.test(error.message);
+    const refused = { constructor: Refused, message: /^with 16 agents none is left for the stores of `init`/ };
     await assert.rejects(record(program("lost", { agents: 16, sabsim: false })), refused);
     const others = { module: agentsPath("three-state-mutex"), agents: 16, sabsim: false };
     await assert.rejects(record({ ...others, init() {} }), refused);

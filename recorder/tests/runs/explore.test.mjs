@@ -11,7 +11,7 @@ import { setTimeout as sleep } from "node:timers/promises";
 import { Delivery } from "../../lib/seeds/delivery.mjs";
 import { Difference, LostJob, NoSabsim, Refused, explore, record } from "../../recorder.mjs";
 import {
-  agentsOf, agentsPath, endOf, processesWith, refusedInALine, soon, stayingWith, temporaryFolder,
+  LIES, agentsOf, agentsPath, endOf, processesWith, refusedInALine, shellProgram, soon, stayingWith, temporaryFolder,
 } from "../helpers/common.mjs";
 import { CHECKER, NOWHERE, onLinux, withShell } from "../helpers/needs.mjs";
 
@@ -169,8 +169,7 @@ test("a signal ends it with its reason, before it begins and amid the runs", asy
 
 test("a difference ends it, and so does a job's process that ends", withShell, async (context) => {
   const folder = temporaryFolder(context);
-  const lying = join(folder, "lying");
-  writeFileSync(lying, "#!/bin/sh\ncat > /dev/null\necho '0 0 0 begin'\n", { mode: 0o755 });
+  const lying = shellProgram(folder, LIES);
   for (const jobs of [1, 2]) {
     const runs = explore({ ...cases("addition"), sabsim: lying, seeds: "5..100000", checkEvery: 50, jobs });
     await assert.rejects(allOf(runs), (error) => error instanceof Difference && error.outcome.seed % 50 === 5);
@@ -181,10 +180,8 @@ test("a difference ends it, and so does a job's process that ends", withShell, a
     if (globalThis.runs === 3) process.kill(process.pid, "SIGKILL");
   `);
   const runs = explore({ module, agents: 1, buffers: [4], sabsim: false, seeds: 100_000, jobs: 2 });
-  await assert.rejects(allOf(runs), (error) => {
-    assert.ok(error instanceof LostJob, error.stack);
-    return /^a job's process ended by itself \(SIGKILL\), and nothing is known of /.test(error.message);
-  });
+  const message = /^a job's process ended by itself \(SIGKILL\), and nothing is known of /;
+  await assert.rejects(allOf(runs), { constructor: LostJob, message });
 });
 
 /**
@@ -257,9 +254,7 @@ test("a delivery hands out in order, and says how far runs may go", async () => 
   const first = delivery.take();
   delivery.add({ seed: 6 });
   let isTaken = false;
-  first.then(() => {
-    isTaken = true;
-  });
+  first.then(() => (isTaken = true));
   await sleep(1);
   assert.equal(isTaken, false);
   const next = delivery.taking.next();

@@ -1,13 +1,13 @@
 // sabsim judges checked runs too: what the recorder gives it, and what is reported if the two differ.
 
 import assert from "node:assert/strict";
-import { readFileSync, readdirSync, writeFileSync } from "node:fs";
+import { readFileSync, readdirSync } from "node:fs";
 import { join } from "node:path";
 import { describe, it } from "node:test";
 import { fileURLToPath } from "node:url";
 import { Difference, NoSabsim, record } from "../../recorder.mjs";
 import { commandHere } from "../helpers/command-here.mjs";
-import { agentsPath, commandNow, recordCase, temporaryFolder } from "../helpers/common.mjs";
+import { agentsPath, commandNow, recordCase, shellProgram, temporaryFolder } from "../helpers/common.mjs";
 import { withShell } from "../helpers/needs.mjs";
 import { SIMULATOR_WORDS } from "../helpers/simulate.mjs";
 import { MEMBERS, eventsOfTrace, slowJudge } from "../helpers/slow-judge.mjs";
@@ -26,11 +26,8 @@ const RACE = "data race at byte 1 of block 0: agent 0 writes byte 1 at 2, agent 
  * @param {string} judge what it does in place of judging, in the shell's words; its input is in the file `given`
  */
 function judging(folder, judge) {
-  const path = join(folder, "judging");
   const own = `cat > '${folder}/given'; ${judge}`;
-  const code = `#!/bin/sh\nif [ "$1" = judge ]; then ${own}; fi\nexec ${SIMULATOR_WORDS} "$@"\n`;
-  writeFileSync(path, code, { mode: 0o755 });
-  return path;
+  return shellProgram(folder, `if [ "$1" = judge ]; then ${own}; fi\nexec ${SIMULATOR_WORDS} "$@"`);
 }
 
 /** One that says that there is a race, and one that says that there is none. */
