@@ -4,9 +4,8 @@
 import assert from "node:assert/strict";
 import { test } from "node:test";
 import { checkedNames, Names, nameText } from "../../lib/options/names.mjs";
-import { Refused } from "../../lib/options/refused.mjs";
 import { KINDS } from "../../script/kinds.mjs";
-import { moduleOf } from "../helpers/common.mjs";
+import { moduleOf, refusedInALine } from "../helpers/common.mjs";
 import { recorded, seedsTo } from "../helpers/recorded.mjs";
 import { simulated } from "../helpers/simulate.mjs";
 
@@ -117,13 +116,13 @@ for (const [names, why] of [
   [Object.fromEntries(Array.from({ length: 65 }, (_, at) => [`w${at}`, at])), /^`names` has 65 names: a script has /],
 ]) {
   test(`names that can't be: ${JSON.stringify(names).slice(0, 60)}`, () => {
-    assert.throws(() => checkedNames(names, [8, 16]), { constructor: Refused, message: why });
+    assert.throws(() => checkedNames(names, [8, 16]), refusedInALine(why));
   });
 }
 
 test("a module whose names can't be is refused before anything runs", async (context) => {
   const run = recordedModule(context, { agents: 1, buffers: [4], names: { LOCK: 1 } }, "");
-  await assert.rejects(run, { constructor: Refused, message: /puts LOCK at index 1/ });
+  await assert.rejects(run, refusedInALine(/puts LOCK at index 1/));
 });
 
 test("an element has the name of its word, or else of its array", () => {
