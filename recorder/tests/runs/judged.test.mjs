@@ -144,7 +144,7 @@ describe("the judge of checked runs", withShell, () => {
   it("is missing in an older sabsim: this is reported with status 3", async (context) => {
     const folder = temporaryFolder(context);
     const sabsim = judging(folder, "echo \"error: unrecognized subcommand 'judge'\" >&2; exit 2");
-    const tooOld = /judging can't do judge, so it is older than the recorder: error: unrecognized subcommand 'judge'$/;
+    const tooOld = /program can't do judge, so it is older than the recorder: error: unrecognized subcommand 'judge'$/;
     await assert.rejects(recordCase("addition", { sabsim }), { constructor: NoSabsim, message: tooOld });
     const { status, stderr } = await commandHere([agentsPath("cases"), "--sabsim", sabsim, ...addition]);
     assert.equal(status, 3);
