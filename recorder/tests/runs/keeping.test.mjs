@@ -2,7 +2,7 @@
 
 import assert from "node:assert/strict";
 import { spawn, spawnSync } from "node:child_process";
-import { mkdirSync, readFileSync, readdirSync, symlinkSync, writeFileSync } from "node:fs";
+import { existsSync, mkdirSync, readFileSync, readdirSync, symlinkSync, writeFileSync } from "node:fs";
 import { join } from "node:path";
 import { test } from "node:test";
 import { NotKept, RunStore } from "../../lib/keeping/run-store.mjs";
@@ -103,13 +103,7 @@ for (const signal of ["SIGINT", "SIGTERM"]) {
   test(`${signal} ends the command after it has printed and kept what it found`, withSignals, async (context) => {
     const out = join(temporaryFolder(context), "out");
     const { child, ended } = started(["--seeds", "1..10000000", "--out", out, ...CHECKING]);
-    const kept = () => {
-      try {
-        return readdirSync(out).some((name) => /^seed-\d+\.report$/.test(name));
-      } catch {
-        return false;
-      }
-    };
+    const kept = () => existsSync(out) && readdirSync(out).some((name) => /^seed-\d+\.report$/.test(name));
     assert.ok(await soon(kept));
     child.kill(signal);
     const { stdout, stderr, signal: by } = await ended;
