@@ -33,7 +33,3 @@ declare class MessageEvent extends Event {
 declare class EventTarget {
   dispatchEvent(event: Event): boolean;
 }
-
-declare class ReadableStream {
-  getReader(): { releaseLock(): void };
-}
