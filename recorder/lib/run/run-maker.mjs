@@ -148,11 +148,11 @@ export class RunMaker {
    * @returns {Promise<RunResult>} how a run ends, with what is known when its agents are idle
    */
   async judged(found) {
-    const { check, races, unrecorded } = this.options;
+    const { check, races, unrecorded, kind } = this.options;
     const unseen = unseenText(found.unseen, unrecorded, this.sourceNames.placeName);
     if (unseen !== "" && found.divergence === undefined) return failedFor(unseen, found);
     if (found.ending !== "finished") return found;
-    if (this.options.kind.mustCall && this.#triedNothing()) return { ...found, ending: "failed", detail: NOTHING_TRIED };
+    if (kind.mustCall && this.#triedNothing()) return { ...found, ending: "failed", detail: NOTHING_TRIED };
     const problem = check === undefined ? "" : await this.#asked("check");
     if (problem !== "") return { ...found, ending: "check", detail: `check ${problem}` };
     return found.racy && races === "fail" ? { ...found, ending: "race" } : found;
