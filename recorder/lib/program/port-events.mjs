@@ -12,7 +12,7 @@ import { Ports } from "./ports.mjs";
 const { [kNewListener]: engineNew, [kRemoveListener]: engineRemove } = /** @type {any} */ (EventTarget.prototype);
 const { custom } = /** @type {any} */ (util).inspect;
 const { prototype } = /** @type {any} */ (threads.MessagePort);
-const { [onClose]: engineClosed, [custom]: engineShown, postMessage: enginePost } = prototype;
+const { [onClose]: engineClosed, [custom]: engineShown, listenerCount, postMessage: enginePost } = prototype;
 
 /** The names of node's method that gives listeners a value, and of the ports that come with it. */
 const DISPATCH = Symbol.for("nodejs.internal.kHybridDispatch");
@@ -36,6 +36,12 @@ export class NodePorts extends Ports {
   /** @param {any} port that is closed: its listeners learn that now */
   giveClose(port) {
     apply(engineClosed, port, []);
+  }
+
+  /** @param {any} port that another object stands for from now on: node closes this one */
+  leave(port) {
+    super.leave(port);
+    if (apply(listenerCount, port, ["close"]) > 0) this.world.later("has closed a port", () => this.giveClose(port));
   }
 
   /** @param {any} port that the program's code closes. Node looks for messages there once more if it has given one */

@@ -145,6 +145,13 @@ export class Ports {
     this.world.table.stop(id);
   }
 
+  /** @param {any} port that stays in this thread @param {any} clone what stands for it from now on */
+  clone(port, clone) {
+    const { id } = this.known(port);
+    this.leave(port);
+    this.adopt(clone, id);
+  }
+
   /**
    * @param {any[]} list what is transferred
    * @param {any} [source] the port that sends it

@@ -252,7 +252,7 @@ function installReplacements({ moves, buffers, waits, ends, ports, later, late, 
   watchRealm(watching);
   putAllSyncVersions({ later, isPlaying, here: sourceOfCall });
   installMemory((buffer) => buffers.made(buffer, sourceOfCall()));
-  installCloning(buffers, refuse);
+  installCloning(ports);
   installGrowing(buffers, moves, isPlaying);
   globalThis.Atomics = atomics;
   waits.install(Atomics);
