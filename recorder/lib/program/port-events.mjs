@@ -50,7 +50,7 @@ export class NodePorts extends Ports {
     if (known.closed) return;
     known.closed = true;
     known.isClosing = true;
-    known.left = this.latest === port ? Math.max(this.waiting(port), AT_ONCE - 1) : 0;
+    known.left = this.latest === known ? Math.max(this.waiting(port), AT_ONCE - 1) : 0;
     this.world.later("has closed a port", () => this.closeNow(port));
   }
 
@@ -59,38 +59,30 @@ export class NodePorts extends Ports {
     const known = this.known(port);
     known.refed = listens && !known.isGone;
     if (listens) known.listened = this.world.hereLater();
-    if (!known.closed) this[listens ? "start" : "stop"](port);
+    this[listens ? "start" : "stop"](port);
   }
 }
 
-/**
- * The methods of ports of the run.
- * @param {NodePorts} ports
- * @returns {Record<string, Function>}
- */
-function methodsOf(ports) {
-  /** @type {Record<string, (this: any, ...given: any[]) => any>} */
-  const methods = {
-    postMessage(...given) {
-      // Node throws if there is nothing to send.
-      if (given.length === 0) return apply(enginePost, this, given);
-      return ports.send(this, given[0], given[1], methods.postMessage);
-    },
-    start() { if (!ports.known(this).closed) ports.start(this); },
-    close(done) {
-      if (typeof done === "function") this.once("close", done);
-      ports.closeLater(this);
-    },
-    ref() {
-      const known = ports.known(this);
-      known.refed = !known.isGone;
-      known.where ??= ports.world.hereLater();
-    },
-    unref() { ports.known(this).refed = false; },
-    hasRef() { return ports.known(this).refed; },
-  };
-  return methods;
-}
+/** @type {(ports: NodePorts) => Record<string, (this: any, ...given: any[]) => any>} the methods of ports of the run */
+const methodsOf = (ports) => ({
+  postMessage: function postMessage(...given) {
+    // Node throws if there is nothing to send.
+    if (given.length === 0) return apply(enginePost, this, given);
+    return ports.send(this, given[0], given[1], postMessage);
+  },
+  start() { ports.start(this); },
+  close(done) {
+    if (typeof done === "function") this.once("close", done);
+    ports.closeLater(this);
+  },
+  ref() {
+    const known = ports.known(this);
+    known.refed = !known.isGone;
+    known.where ??= ports.world.hereLater();
+  },
+  unref() { ports.known(this).refed = false; },
+  hasRef() { return ports.known(this).refed; },
+});
 
 /**
  * Puts methods in the place of node's, for ports of the run.
@@ -120,7 +112,8 @@ export function servePorts(ports) {
     return { __proto__: prototype, active: !isGone, ...(isGone ? {} : { refed }), ...this };
   };
   ports.onAdopted = (port) => {
-    Object.assign(port, { [kNewListener]: begins, [kRemoveListener]: stops });
+    port[kNewListener] = begins;
+    port[kRemoveListener] = stops;
     // Node closes a port when another thread has left its run. The run's own listeners don't get to know.
     put(port, onClose, () => {});
     put(port, custom, shown);

@@ -64,7 +64,7 @@ export class Ports {
   /** @type {Map<number, any>} the ports that this thread has, by their numbers */
   mine = new Map();
 
-  /** @type {any} the port whose message the thread's code has got last, while its loop begins nothing else */
+  /** @type {KnownPort | undefined} of which the thread's code has got a message last, while its loop begins no more */
   latest = undefined;
 
   /** @param {PortContext} world */
@@ -249,9 +249,10 @@ export class Ports {
     return known instanceof QueuedPort ? known.queue : [];
   }
 
-  /** @param {any} port whose messages are delivered from now on */
+  /** @param {any} port whose messages are delivered from now on, unless it is closed */
   start(port) {
-    this.world.table.start(this.known(port).id);
+    const { id, closed } = this.known(port);
+    if (!closed) this.world.table.start(id);
   }
 
   /** @param {any} port whose messages wait from now on */
@@ -265,7 +266,7 @@ export class Ports {
     const envelope = this.take(port);
     if (envelope === undefined) return;
     known.left -= 1;
-    this.latest = port;
+    this.latest = known;
     known.scope.runInAsyncScope(() => {
       if (known.taker !== undefined) known.taker(envelope);
       else if (envelope.kind !== KIND.CLOSE) this.give(port, envelope);
@@ -314,9 +315,7 @@ export class Ports {
    */
   get closing() {
     const { latest } = this;
-    if (latest === undefined || !this.has(latest)) return undefined;
-    const { isClosing, left } = this.known(latest);
-    return isClosing && left > 0 && this.waiting(latest) > 0 ? latest : undefined;
+    return latest?.isClosing && latest.left > 0 && this.waiting(latest.port) > 0 ? latest.port : undefined;
   }
 
   /** @param {any} port of this thread @returns {number} how many messages wait there */
@@ -360,11 +359,8 @@ export const receiverOf = (ports) => (/** @type {any} */ given) => {
   if (!ports.has(given)) return receive(given);
   ports.world.moves.yield();
   const envelope = ports.take(given);
-  if (envelope === undefined) return undefined;
-  if (envelope.kind === KIND.CLOSE) {
-    ports.close(given);
-    return undefined;
-  }
+  if (envelope?.kind === KIND.CLOSE) ports.close(given);
+  if (envelope === undefined || envelope.kind === KIND.CLOSE) return undefined;
   if (envelope.isUnread) throw envelope.value;
   return { message: envelope.value };
 };

@@ -67,20 +67,17 @@ export function serveWebPorts(ports) {
     for (const name of OF_NODE) deleteProperty(/** @type {object} */ (owner), name);
   }
   for (const name of FOR_NODE) hide(prototype, name);
-  const start = (/** @type {any} */ port) => {
-    if (!ports.known(port).closed) ports.start(port);
-  };
   /** @type {Record<string, (this: any, ...given: any[]) => any>} */
   const methods = {
     ...methodsOf(targets),
     postMessage(value, transfer) {
       if (!ports.known(this).closed) ports.send(this, value, transfer, methods.postMessage);
     },
-    start() { start(this); },
+    start() { ports.start(this); },
     close() { ports.close(this); },
   };
   serveMethods(ports, methods);
-  putHandler(prototype, "message", targets, start);
+  putHandler(prototype, "message", targets, (port) => ports.start(port));
   putHandler(prototype, "messageerror", targets);
 }
 
