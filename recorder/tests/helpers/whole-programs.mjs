@@ -21,7 +21,7 @@ import { CHECKER } from "./needs.mjs";
 export const endingsOf = (outcomes) => [...new Set(outcomes.map(({ ending, detail }) => `${ending}: ${detail}`))];
 
 /** What is left of the recorder's own defaults. */
-const OPTIONS = Object.freeze({ ...defaultsOf("record"), isProgram: true, seconds: 20 });
+const OPTIONS = Object.freeze({ ...defaultsOf("record"), program: true, seconds: 20 });
 
 /**
  * How main begins that shares `words` with a worker, which `started` starts.

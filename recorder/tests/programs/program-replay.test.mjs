@@ -9,6 +9,7 @@ import { pathToFileURL } from "node:url";
 import { MOST_DRAWS } from "../../lib/board/drawn-schedule.mjs";
 import { RunStore } from "../../lib/keeping/run-store.mjs";
 import { keepProgram, keptProgram } from "../../lib/keeping/kept-program.mjs";
+import { runKindOf } from "../../lib/options/run-kinds.mjs";
 import { Refused } from "../../lib/options/refused.mjs";
 import { defaultsOf } from "../../lib/options/table.mjs";
 import { ProgramGroup } from "../../lib/program/program-group.mjs";
@@ -211,7 +212,7 @@ test("a file that is no kept run of a program is refused, and so is a program th
 
 test("a row that is too long to be known whole isn't kept, and it is said so", (context) => {
   const keeper = new RunStore(temporaryFolder(context));
-  const options = /** @type {any} */ ({ isProgram: true, module: "file:///main.mjs", args: [] });
+  const options = /** @type {any} */ ({ kind: runKindOf({ program: true }), module: "file:///main.mjs", args: [] });
   const kept = (/** @type {number} */ draws) =>
     keepProgram(keeper, /** @type {any} */ ({ seed: 7, row: Array(draws).fill(0) }), options);
   assert.deepEqual(kept(MOST_DRAWS), [`not kept: seed-7.program.json: the run has ${MOST_DRAWS} draws or more`]);
@@ -227,7 +228,7 @@ test("a run in fresh threads is shortened by runs in fresh threads", async (cont
       if (globalThis.times === 1 && Atomics.load(words, 0) > 3) throw new Error("too soon");`,
     "worker.mjs": `${WORKER}for (let time = 0; time < 3; time += 1) Atomics.add(words, 0, 1);`,
   });
-  const options = { ...defaultsOf("record"), isProgram: true, seconds: 20, args: [],
+  const options = { ...defaultsOf("record"), program: true, seconds: 20, args: [],
     module: pathToFileURL(program).href };
   const group = await ProgramGroup.open(/** @type {any} */ ({ ...options, fresh: true }));
   context.after(() => group.close());

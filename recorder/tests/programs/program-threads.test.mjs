@@ -23,7 +23,7 @@ const ANSWERS = `${WORKER}parentPort.on("message", (value) => parentPort.postMes
  */
 async function opened(module, { seconds = 20, web = false } = {}) {
   // Pilots would be further runs.
-  const options = { ...defaultsOf("record"), isProgram: true, everywhere: true, seconds, args: [], web, module };
+  const options = { ...defaultsOf("record"), program: true, everywhere: true, seconds, args: [], web, module };
   return /** @type {ProgramGroup} */ (await ProgramGroup.open(options));
 }
 

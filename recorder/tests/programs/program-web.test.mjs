@@ -36,7 +36,7 @@ const room = temporaryFolder();
 let group;
 before(async () => {
   const module = pathToFileURL(join(room, "main.mjs")).href;
-  const options = { ...defaultsOf("record"), isProgram: true, web: true, seconds: 20, args: [], module };
+  const options = { ...defaultsOf("record"), program: true, web: true, seconds: 20, args: [], module };
   group = /** @type {ProgramGroup} */ (await ProgramGroup.open(options));
 });
 after(() => group.close());
@@ -332,7 +332,7 @@ test("a thread's first run that fetches goes the same way again: node makes no t
     const words = new Int32Array(new SharedArrayBuffer(4));
     new Worker("w.js").postMessage(words);
     for (let at = 0; at < 50; at += 1) Atomics.add(words, 0, 1);`, "w.js": "onmessage = () => {};" });
-  const options = { ...defaultsOf("record"), isProgram: true, web: true, args: [], module: pathToFileURL(main).href };
+  const options = { ...defaultsOf("record"), program: true, web: true, args: [], module: pathToFileURL(main).href };
   const own = /** @type {ProgramGroup} */ (await ProgramGroup.open(options));
   try {
     const wanted = { seed: 1, whole: true, needsTrace: true, isSilent: true };
