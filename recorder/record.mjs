@@ -11,7 +11,7 @@ const words = process.argv.slice(2);
 const hasWord = (pattern) => words.some((word) => pattern.test(word));
 const [, agents] = /^--agents[=\n](\d+)$/m.exec(words.join("\n")) ?? [];
 const known = {
-  isProgram: hasWord(/^--program(=|$)/),
+  program: words.find((word) => /^--program(=|$)/.test(word)),
   agents: agents === undefined ? undefined : Number(agents),
   everywhere: hasWord(/^--everywhere$/),
 };

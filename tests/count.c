@@ -16,24 +16,16 @@
  * Yields are counted from the start of the program's own code on. A program that hasn't ended after five minutes is
  * ended by a signal.
  */
-#define _GNU_SOURCE
-#include <dlfcn.h>
-#include <errno.h>
-#include <fcntl.h>
-#include <pthread.h>
-#include <sched.h>
-#include <stdatomic.h>
-#include <stdio.h>
-#include <stdlib.h>
-#include <string.h>
-#include <time.h>
-#include <unistd.h>
-
 #define MOST_THREADS 64
+#define REPORT "COUNT_REPORT"
+#define MOST_CHARACTERS (MOST_THREADS * 22)
+#include "preload.h"
+#include <sched.h>
+#include <time.h>
 
 static atomic_ulong yields[MOST_THREADS];
 static atomic_int has_ended[MOST_THREADS];
-static atomic_int threads = 1, counts, joins, apart;
+static atomic_int threads = 1, joins, apart;
 static int seconds_apart, starts_late;
 static unsigned long turn;
 static const char *random_bytes;
@@ -51,11 +43,6 @@ struct job {
     void *with;
     int number;
 };
-
-/* The function of this name that would be called without this library. */
-#define NEXT(name) \
-    static _Atomic(__typeof__(&name)) next; \
-    if (!next) next = (__typeof__(&name))dlsym(RTLD_NEXT, #name)
 
 static void really_yield(void)
 {
@@ -75,18 +62,11 @@ __attribute__((constructor)) static void begin(void)
     counts = 1;
 }
 
-/* It is called at exit, and by _exit, which skips what is called at exit. */
-__attribute__((destructor)) static void report(void)
+static int write_line(char *line)
 {
-    const char *file = getenv("COUNT_REPORT");
-    char line[MOST_THREADS * 22];
     int length = 0;
-    if (!atomic_exchange(&counts, 0) || !file) return;
     for (int thread = 0; thread < threads; thread++) length += sprintf(line + length, "%lu ", yields[thread]);
-    length += sprintf(line + length, "apart %d\n", apart);
-    int to = open(file, O_WRONLY | O_CREAT | O_TRUNC, 0600);
-    if (to < 0 || write(to, line, length) != length) abort();
-    close(to);
+    return length + sprintf(line + length, "apart %d\n", apart);
 }
 
 /* The first thread has yielded once more: after so many yields it is the other one's turn. */
@@ -174,12 +154,4 @@ int getentropy(void *to, size_t length)
         ((unsigned char *)to)[at] = digit(two[0]) * 16 + digit(two[1]);
     }
     return 0;
-}
-
-void _exit(int status)
-{
-    NEXT(_exit);
-    report();
-    next(status);
-    abort();
 }

@@ -13,29 +13,16 @@
  * and in all threads. A program that hasn't ended after ten minutes is ended by a signal. On a busy machine, threads
  * that take turns under one lock may need more than one.
  */
-#define _GNU_SOURCE
-#include <dlfcn.h>
-#include <errno.h>
-#include <fcntl.h>
-#include <pthread.h>
-#include <stdatomic.h>
-#include <stdio.h>
-#include <stdlib.h>
-#include <string.h>
-#include <unistd.h>
+#define REPORT "REFUSE_REPORT"
+#define MOST_CHARACTERS 192
+#include "preload.h"
 
 static atomic_ulong allocations, threads, started, joined, bytes, refused;
 static unsigned long one_allocation, first_allocation, one_thread;
-static atomic_int counts;
 
 /* dlsym itself may call calloc, before that is found: then it gets zeros from here, which are never given back. */
 static _Alignas(16) char early[4096];
 static atomic_size_t early_used;
-
-/* The function of this name that would be called without this library. */
-#define NEXT(name) \
-    static _Atomic(__typeof__(&name)) next; \
-    if (!next) next = (__typeof__(&name))dlsym(RTLD_NEXT, #name)
 
 static unsigned long number_of(const char *name)
 {
@@ -52,18 +39,10 @@ __attribute__((constructor)) static void begin(void)
     counts = 1;
 }
 
-/* It is called at exit, and by _exit, which skips what is called at exit. */
-__attribute__((destructor)) static void report(void)
+static int write_line(char *line)
 {
-    const char *file = getenv("REFUSE_REPORT");
-    char line[192];
-    if (!atomic_exchange(&counts, 0) || !file) return;
-    int length = snprintf(line, sizeof line,
-                          "allocations %lu threads %lu started %lu joined %lu bytes %lu refused %lu\n",
-                          allocations, threads, started, joined, bytes, refused);
-    int to = open(file, O_WRONLY | O_CREAT | O_TRUNC, 0600);
-    if (to < 0 || write(to, line, length) != length) abort();
-    close(to);
+    return sprintf(line, "allocations %lu threads %lu started %lu joined %lu bytes %lu refused %lu\n",
+                   allocations, threads, started, joined, bytes, refused);
 }
 
 static int is_refused(size_t size)
@@ -141,12 +120,4 @@ int pthread_join(pthread_t thread, void **answer)
     int status = next(thread, answer);
     if (counts && status == 0) joined++;
     return status;
-}
-
-void _exit(int status)
-{
-    NEXT(_exit);
-    report();
-    next(status);
-    abort();
 }

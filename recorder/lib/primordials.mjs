@@ -77,7 +77,6 @@ export const mostLengthOf = slotOf(SharedArrayBuffer.prototype, "maxByteLength")
 export const mapGet = uncurried(Map.prototype.get);
 export const mapSet = uncurried(Map.prototype.set);
 export const mapHas = uncurried(Map.prototype.has);
-export const mapDelete = uncurried(Map.prototype.delete);
 export const weakGet = uncurried(WeakMap.prototype.get);
 export const weakSet = uncurried(WeakMap.prototype.set);
 export const weakHas = uncurried(WeakMap.prototype.has);

@@ -17,6 +17,7 @@ declare class DOMException extends Error {
 
 declare module "node:events" {
   export const EventEmitter: any;
+  export function getEventListeners(target: any, type: string): Function[];
 }
 
 declare module "node:readline" {
@@ -32,8 +33,4 @@ declare class MessageEvent extends Event {
 }
 declare class EventTarget {
   dispatchEvent(event: Event): boolean;
-}
-
-declare class ReadableStream {
-  getReader(): { releaseLock(): void };
 }

@@ -8,7 +8,6 @@ declare module "node:v8" {
   }
   export const promiseHooks: PromiseHooks;
   export function setFlagsFromString(flags: string): void;
-  export function getHeapSpaceStatistics(): { space_name: string, space_size: number }[];
   export function serialize(value: unknown): Uint8Array;
   const all: { Serializer: { prototype: object }; Deserializer: Function; DefaultDeserializer: Function };
   export default all;

@@ -167,9 +167,6 @@ declare module "node:assert" {
     AssertionError: Function;
     strict: Assert;
   }
-  export class AssertionError extends Error {
-    constructor(options: { message: string });
-  }
   const assert: Assert;
   export default assert;
 }

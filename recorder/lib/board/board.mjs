@@ -77,15 +77,15 @@ export class Board {
     this.waiters = memory.waiters === undefined ? undefined : new AsyncWaiters(memory.waiters);
     this.clock = new Clock(memory.times);
     this.spins = new Spins(this.words, agents);
-    const isProgram = rules.early !== undefined;
-    const lags = isProgram ? new Lags(memory.lags, this.words, this.clock, this.spins, rules) : undefined;
+    const hasLoops = rules.early !== undefined;
+    const lags = hasLoops ? new Lags(memory.lags, this.words, this.clock, this.spins, rules) : undefined;
     this.line = new WaiterLine(this.words, agents, this.waiters, lags);
     this.journal = new Journal(this.words, new Float64Array(memory.views), agents);
     const { places, names } = memory;
     this.noted = new NotedPlaces(memory.noted);
     this.places = names === undefined ? new KnownPlaces(places) : new NamedPlaces(places, names);
     this.deadlines = new Deadlines(memory.early, this.words, this.clock, this.spins, agents, lags);
-    this.vain = isProgram ? new Vain(memory.vain, this.words, agents) : undefined;
+    this.vain = hasLoops ? new Vain(memory.vain, this.words, agents) : undefined;
     this.answers = new RealAnswers(this.words, this.deadlines, agents);
     this.row = new DrawnSchedule(memory.row, this.deadlines, this.answers, this.words, agents);
     const random = new Random(new Int32Array(memory.words, WORD.RANDOM * 4, 4));

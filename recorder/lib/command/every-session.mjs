@@ -4,9 +4,8 @@ import { dataOf } from "../every/data.mjs";
 import { Every } from "../every/every.mjs";
 import { MOST_SHOWN } from "../every/showing.mjs";
 import { everyText } from "../every/every-text.mjs";
-import { howMade } from "../keeping/how-made.mjs";
+import { keepBesides } from "../keeping/kept-besides.mjs";
 import { RunStore } from "../keeping/run-store.mjs";
-import { keepPictures } from "../keeping/pictures.mjs";
 import { assumed } from "../options/table.mjs";
 import { chosenProgram, simulatorAt } from "../simulator/chosen.mjs";
 import { EveryProgress } from "./every-progress.mjs";
@@ -85,7 +84,7 @@ export class EverySession {
     [...shown, ...onlyRuns].slice(0, MOST_SHOWN).forEach(({ outcome }, at) => {
       const keeper = new RunStore(out, "--out", `all-${at + 1}`);
       keeper.keepFirst(outcome);
-      keepPictures(keeper, outcome, { simulator, ...howMade({ ...this.options, module: this.module }) });
+      keepBesides(keeper, outcome, { ...this.options, module: this.module }, simulator);
       keepers.push(keeper);
     });
     return { folder: out, files: keepers.flatMap(({ names }) => names) };

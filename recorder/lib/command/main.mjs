@@ -1,8 +1,6 @@
 // The command line, from its words to its status.
 
-import { needsAgents } from "../library/agents-file.mjs";
-import { isFile, moduleUrl } from "../library/module-url.mjs";
-import { needsJavaScript } from "../library/program-file.mjs";
+import { NEEDS, isFile, moduleUrl } from "../library/module-url.mjs";
 import { Refused } from "../options/refused.mjs";
 import { RemoteJob } from "../seeds/remote-job.mjs";
 import { endBy, Interrupted } from "./interruption.mjs";
@@ -14,12 +12,14 @@ import { EXIT_STATUS } from "./status.mjs";
 
 /** @typedef {import("../seeds/runs.mjs").AnyJob} AnyJob */
 
-/** @param {{ module: string, isProgram: boolean }} options @returns {string} the URL of what is run */
-function existing({ module, isProgram }) {
+/**
+ * @param {{ module: string, kind: import("../options/run-kinds.mjs").RunKind }} options
+ * @returns {string} the URL of what is run
+ */
+function existing({ module, kind }) {
   const url = moduleUrl(module);
   if (!isFile(url)) throw new Refused(`there is no file ${module}`);
-  if (isProgram) needsJavaScript(url, module);
-  else needsAgents(url, module);
+  NEEDS[kind.option](url, module);
   return url;
 }
 
@@ -40,8 +40,8 @@ async function run(words, job) {
       await print(asked.text);
       return { failed: false, problems: [] };
     }
-    const { replay, isProgram } = asked;
-    if (replay !== undefined && isProgram) {
+    const { replay, kind } = asked;
+    if (replay !== undefined && kind.keepsRow) {
       const { ProgramReplay } = await import("./replay-program.mjs");
       return await new ProgramReplay(asked, replay).run();
     }

@@ -134,7 +134,7 @@ function replayOf(given) {
 /**
  * @typedef {object} CommandLineOnly what a command line says besides the options of many runs
  * @property {string | undefined} module as it is named; undefined: the kept run that is replayed names its program
- * @property {boolean} isProgram whether that is a program, and no module of agents
+ * @property {import("../options/run-kinds.mjs").RunKind} kind of the runs
  * @property {string[]} args for the agents, or for the program
  * @property {import("../seeds/ranges.mjs").SeedRange} asked the seeds of all shards
  * @property {import("../seeds/ranges.mjs").Shard | undefined} shard

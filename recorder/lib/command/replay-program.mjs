@@ -2,10 +2,8 @@
 
 import { existsSync } from "node:fs";
 import { shortPath } from "../keeping/about-run.mjs";
-import { howMade } from "../keeping/how-made.mjs";
 import { PROGRAM_ENDING } from "../keeping/run-store.mjs";
-import { fileUrlOf, keepProgram, keptProgram } from "../keeping/kept-program.mjs";
-import { keepPictures, notesOn } from "../keeping/pictures.mjs";
+import { fileUrlOf, keptProgram } from "../keeping/kept-program.mjs";
 import { Refused } from "../options/refused.mjs";
 import { Windows } from "../run/windows.mjs";
 import { firstOtherMove } from "../run/same.mjs";
@@ -24,12 +22,12 @@ export class ProgramReplay extends Replaying {
   constructor(options, { file, seed, given }) {
     const run = keptProgram(keptRunText(file), file);
     const args = options.args.length > 0 ? options.args : run.args;
-    super({ ...options, ...run.options, ...given, args, isProgram: true }, file);
+    const main = options.module ?? run.program;
+    super({ ...options, ...run.options, ...given, program: main, args }, file, fileUrlOf(main));
+    this.main = main;
+    if (!existsSync(main)) throw new Refused(`there is no file ${main}: --program says where the program is`);
     this.row = run.row;
     this.seed = seed ?? run.seed;
-    this.main = options.module ?? run.program;
-    if (!existsSync(this.main)) throw new Refused(`there is no file ${this.main}: --program says where the program is`);
-    this.module = fileUrlOf(this.main);
     const script = run.script;
     const isThere = script !== undefined && existsSync(script);
     this.script = isThere ? keptScript(keptRunText(script), script, [], run.windows) : undefined;
@@ -64,18 +62,5 @@ export class ProgramReplay extends Replaying {
 
   titles() {
     return [`replayed ${this.file}: ${shortPath(this.main)}, with the clocks and random numbers of seed ${this.seed}`];
-  }
-
-  /**
-   * @param {CheckedOutcome} outcome
-   * @param {import("../keeping/run-store.mjs").RunStore} keeper
-   * @returns {import("./summary.mjs").SummaryEnd} where its files are
-   */
-  kept(outcome, keeper) {
-    const options = { ...this.options, module: this.module };
-    keeper.keepFirst(outcome);
-    const noRow = keepProgram(keeper, outcome, options);
-    const pictures = keepPictures(keeper, outcome, { simulator: this.simulator, ...howMade(options) });
-    return { kept: keeper.kept(notesOn(keeper, outcome)), notKept: [...noRow, ...pictures] };
   }
 }

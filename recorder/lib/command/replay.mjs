@@ -2,8 +2,6 @@
 // run in this process, so that a debugger that is attached to it can stop in them.
 
 import { basename } from "node:path";
-import { howMade } from "../keeping/how-made.mjs";
-import { keepPictures, notesOn } from "../keeping/pictures.mjs";
 import { NoSuchPlace } from "../options/named-place.mjs";
 import { Refused } from "../options/refused.mjs";
 import { countText } from "../run/summary-words.mjs";
@@ -47,8 +45,7 @@ export class Replay extends Replaying {
    * @param {NonNullable<import("./options.mjs").CommandOptions["replay"]>} wanted
    */
   constructor(options, module, { file, seed }) {
-    super(options, file);
-    this.module = module;
+    super(options, file, module);
     const named = /^seed-(\d+)\./.exec(basename(file))?.[1];
     this.isNamed = named !== undefined || seed !== undefined;
     this.seed = seed ?? Number(named ?? DEFAULT_SEED);
@@ -63,18 +60,6 @@ export class Replay extends Replaying {
   differenceOf({ divergence, detail, script }) {
     if (divergence !== undefined) return differingText(divergence, detail, this.script);
     return script === undefined ? undefined : replayDifferenceText(this.script, keptScript(script, "the run"));
-  }
-
-  /**
-   * @param {import("../seeds/job.mjs").CheckedOutcome} outcome
-   * @param {import("../keeping/run-store.mjs").RunStore} keeper
-   * @returns {import("./summary.mjs").SummaryEnd} where its files are
-   */
-  kept(outcome, keeper) {
-    const { module, options, simulator } = this;
-    keeper.keepFirst(outcome);
-    const notKept = keepPictures(keeper, outcome, { simulator, ...howMade({ ...options, module }) });
-    return { kept: keeper.kept(notesOn(keeper, outcome)), notKept };
   }
 
   /** @returns {Promise<import("../seeds/job.mjs").CheckedOutcome>} */

@@ -4,6 +4,7 @@
 import { readFileSync } from "node:fs";
 import { createRequire } from "node:module";
 import { basename } from "node:path";
+import { keepBesides } from "../keeping/kept-besides.mjs";
 import { RunStore } from "../keeping/run-store.mjs";
 import { Refused } from "../options/refused.mjs";
 import { preloads } from "../processes/preloads.mjs";
@@ -42,10 +43,12 @@ export class Replaying {
   /**
    * @param {import("./options.mjs").CommandOptions} options
    * @param {string} file that is replayed
+   * @param {string} module the URL of what is run
    */
-  constructor(options, file) {
+  constructor(options, file, module) {
     this.options = options;
     this.file = file;
+    this.module = module;
     /** @type {string | false | undefined} */
     this.sabsim = options.checkEvery === 0 ? false : chosenProgram(options.sabsim);
     this.simulator = simulatorAt(this.sabsim || undefined);
@@ -105,8 +108,10 @@ export class Replaying {
    * @returns {import("./summary.mjs").SummaryEnd} where its files are
    */
   kept(outcome, keeper) {
+    const { module, options, simulator } = this;
     keeper.keepFirst(outcome);
-    return { kept: keeper.kept([]) };
+    const { notKept, notes } = keepBesides(keeper, outcome, { ...options, module }, simulator);
+    return { kept: keeper.kept(notes), notKept };
   }
 
   /**

@@ -70,7 +70,7 @@ export class Session {
         problems.push(problem);
       }
     };
-    if (this.options.isProgram) await attempt(() => this.#noteNode());
+    if (this.options.kind.followsNode) await attempt(() => this.#noteNode());
     await attempt(() => this.#record());
     const [stopped] = problems;
     this.progress.clear();
@@ -169,13 +169,10 @@ export class Session {
       keeper.keepAll(seed, { json: script, report, "trace.jsonl": trace, ...theirs });
     } else if (failing !== undefined && keeper.seed === failing.seed) {
       const outcome = shortened?.shortest ?? failing;
-      const { howMade } = await import("../keeping/how-made.mjs");
-      const how = { simulator: this.simulator, ...howMade(this.options) };
-      const { keepPictures, notesOn } = await import("../keeping/pictures.mjs");
-      const { keepProgram } = await import("../keeping/kept-program.mjs");
-      const notKept = keepProgram(keeper, outcome, this.options);
-      this.leftOut.push(...notKept, ...keepPictures(keeper, outcome, how), ...missingFiles(outcome));
-      this.notes.push(...notesOn(keeper, outcome));
+      const { keepBesides } = await import("../keeping/kept-besides.mjs");
+      const { notKept, notes } = keepBesides(keeper, outcome, this.options, this.simulator);
+      this.leftOut.push(...notKept, ...missingFiles(outcome));
+      this.notes.push(...notes);
     } else if (failing !== undefined) {
       this.leftOut.push(...missingFiles(failing));
     }

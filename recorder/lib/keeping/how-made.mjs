@@ -38,9 +38,9 @@ export function replayCommand(options) {
  * @returns {import("./pictures.mjs").RunOrigin}
  */
 export function howMade(options) {
-  const { module, init, check, isProgram = false } = options;
+  const { module, init, check, kind } = options;
   const made = { module, options: optionsText(options) };
-  if (isProgram) return { ...made, command: { options: programWords(), args: "", isOfRow: true } };
+  if (kind?.keepsRow) return { ...made, command: { options: programWords(), args: "", isOfRow: true } };
   if (init !== undefined || check !== undefined) return { ...made, command: undefined };
   return { ...made, command: replayCommand({ ...options, module: modulePath(module) }) };
 }

@@ -45,7 +45,7 @@ const FORMER = new Map([["bounds", "limits"]]);
  * @returns {string[]} why that isn't kept, if it isn't
  */
 export function keepProgram(keeper, { seed, row, script, windows }, options) {
-  if (!options.isProgram || row === undefined) return [];
+  if (!options.kind?.keepsRow || row === undefined) return [];
   if (row.length >= MOST_DRAWS) {
     return [`not kept: ${keeper.nameOf(seed, PROGRAM_ENDING)}: the run has ${MOST_DRAWS} draws or more`];
   }

@@ -16,7 +16,7 @@ import { wordsText } from "./program-words.mjs";
  * @property {string} ending of its file's name
  * @property {"explained" | "svg" | "json"} format of the replay that it is made from
  * @property {(output: string, outcome: Outcome, module: string, about: AboutRun) => string} made
- * @property {boolean} [isOfPrograms] whether it is made only of runs of programs
+ * @property {boolean} [hasThreads] whether it is made only of runs whose threads have names
  */
 
 /**
@@ -36,7 +36,7 @@ class NotMade extends Error {}
 const PICTURES = Object.freeze([
   { ending: "explained", format: "explained", made: (output) => output },
   { ending: "svg", format: "svg", made: (output) => output },
-  { ending: "words", format: "json", isOfPrograms: true, made: wordsText },
+  { ending: "words", format: "json", hasThreads: true, made: wordsText },
   { ending: "html", format: "json", made: pageMade },
 ]);
 
@@ -87,7 +87,7 @@ export function keepPictures(keeper, outcome, { simulator, ...how }) {
   if (script === undefined) return [];
   const again = how.command?.isOfRow ? PROGRAM_ENDING : "json";
   const about = aboutOf(how, join(keeper.folder, keeper.nameOf(seed, again)), simulator.version);
-  const pictures = PICTURES.filter(({ isOfPrograms = false }) => !isOfPrograms || outcome.threads !== undefined);
+  const pictures = PICTURES.filter(({ hasThreads = false }) => !hasThreads || outcome.threads !== undefined);
   return pictures.flatMap((picture) => {
     const { ending } = picture;
     try {

@@ -3,6 +3,7 @@
 import { meant } from "../options/nearest.mjs";
 import { needFitting } from "../options/of-programs.mjs";
 import { Refused } from "../options/refused.mjs";
+import { runKindOf } from "../options/run-kinds.mjs";
 import { defaultsOf, optionsOf } from "../options/table.mjs";
 import { moduleUrlOf } from "./module-url.mjs";
 
@@ -35,9 +36,9 @@ function checkedBy(options, taker, callersFolder) {
     if (value !== undefined) checked[name] = kind.value(value, `\`${name}\``);
   }
   needFitting({ ...options, ...whatRuns(checked) }, (name) => `\`${name}\``);
-  const { module, program, ...rest } = checked;
-  if (program === undefined) return { ...rest, module: moduleUrlOf("module", module, callersFolder) };
-  return { ...rest, module: moduleUrlOf("program", program, callersFolder), isProgram: true };
+  const kind = runKindOf(checked);
+  const url = moduleUrlOf(kind.option, checked[kind.option], callersFolder);
+  return { ...checked, kind, [kind.option]: url, module: url };
 }
 
 /**

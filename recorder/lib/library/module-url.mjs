@@ -39,6 +39,9 @@ function pathOf(url) {
   }
 }
 
+/** What refuses a file that can't be run, by the option that names it. */
+export const NEEDS = Object.freeze({ module: needsAgents, program: needsJavaScript });
+
 /**
  * The URL of a module that somebody's code names.
  * @param {"module" | "program"} name of the option that names it
@@ -57,8 +60,7 @@ export function moduleUrlOf(name, module, folderOf) {
   const url = moduleUrl(module, folder);
   if (!url.startsWith("file:")) return url;
   if (isFile(url)) {
-    if (name === "module") needsAgents(url, pathOf(url));
-    else needsJavaScript(url, pathOf(url));
+    NEEDS[name](url, pathOf(url));
     return url;
   }
   const from = isRelative ? `: \`${name}\` is "${module}", from the folder of the file that asks for it` : "";

@@ -1,11 +1,12 @@
 // Which options go with a whole program, and which with a module of agents.
 
 import { Refused } from "./refused.mjs";
+import { runKindOf } from "./run-kinds.mjs";
 import { OPTIONS } from "./table.mjs";
 
 /**
  * Refuses values that don't go with something.
- * @param {"program" | "all"} of a whole program, or the search of every schedule
+ * @param {"agents" | "program" | "all"} of a module of agents, a whole program, or the search of every schedule
  * @param {Record<string, any>} given what was given, by the options' names
  * @param {(name: string) => string} spelled an option as its user writes it
  * @throws {Refused}
@@ -29,10 +30,10 @@ export function needOthers(of, given, spelled) {
  * @throws {Refused}
  */
 export function needFitting(given, spelled) {
-  const isProgram = given.program !== undefined;
+  const { name: own, fits } = runKindOf(given);
   for (const [name, { only }] of Object.entries(OPTIONS)) {
-    if (given[name] === undefined || only?.why === undefined || (only.of === "program") === isProgram) continue;
-    throw new Refused(`${spelled(name)} ${isProgram ? "doesn't go with" : "needs"} ${spelled("program")}: ${only.why}`);
+    if (given[name] === undefined || only?.why === undefined || only.of === own) continue;
+    throw new Refused(`${spelled(name)} ${fits} ${spelled("program")}: ${only.why}`);
   }
-  if (isProgram) needOthers("program", given, spelled);
+  needOthers(own, given, spelled);
 }

@@ -15,8 +15,8 @@ evaluated(ownModules(new URL("./garbage.mjs", own)), modules).collectGarbage();
 const { beginThreads, giveAhead } = evaluated(ownModules(new URL("./thread.mjs", own)), modules);
 const [job, referee, worker, count, ...flags] = process.argv.slice(2);
 const root = new URL(worker);
-const isProgram = flags.length > 0;
-beginThreads(root, Number(count), isProgram ? [...process.execArgv, ...flags] : undefined, isProgram);
+// Threads of a program have words of their own.
+beginThreads(root, Number(count), flags.length > 0 ? [...process.execArgv, ...flags] : undefined);
 beginThreads(new URL(referee), 1);
 // The referee has time: the code that is run is loaded first.
 giveAhead(root);

@@ -188,12 +188,11 @@ const begun = [];
 /**
  * @param {URL} root the module that a worker will be given
  * @param {number} count how many begin now
- * @param {string[]} [execArgv] as above
- * @param {boolean} [isProgram] whether one of them is to be a program's first thread
+ * @param {string[]} [execArgv] as above: if it is given, the first of them is to be a program's first thread
  */
-export function beginThreads(root, count, execArgv, isProgram = false) {
+export function beginThreads(root, count, execArgv) {
   for (let each = 0; each < count; each += 1) {
-    const isFirst = isProgram && each === 0;
+    const isFirst = execArgv !== undefined && each === 0;
     begun.push({ root, isFirst, thread: newThread(execArgv, isFirst) });
   }
 }

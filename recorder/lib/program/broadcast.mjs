@@ -3,7 +3,7 @@
 
 import threads from "node:worker_threads";
 import { apply, uncurried } from "../primordials.mjs";
-import { defineEventHandler, kNewListener, kRemoveListener } from "./internals.mjs";
+import { defineEventHandler, kNewListener } from "./internals.mjs";
 import { TO_CHANNELS } from "./moves.mjs";
 import { nodeError } from "./node-error.mjs";
 import { KIND } from "./ports.mjs";
@@ -99,11 +99,8 @@ function world() {
 
 /** The BroadcastChannel that the program finds. */
 class BroadcastChannel extends EngineTarget {
-  #id;
+  #known;
   #name;
-  #isClosed = false;
-  /** Where it was made. */
-  #where;
 
   /** @param {unknown} name */
   constructor(name) {
@@ -113,17 +110,15 @@ class BroadcastChannel extends EngineTarget {
     const { table, hereLater } = ports.world;
     moves.yield();
     this.#name = `${name}`;
-    this.#where = hereLater();
-    const known = ports.queued(this, (envelope) => this[DELIVER](envelope));
-    Object.assign(known, { refed: true, where: this.#where });
-    this.#id = known.id;
-    table.setName(this.#id, numberOf(this.#name));
-    table.start(this.#id);
+    this.#known = ports.queued(this, (envelope) => this[DELIVER](envelope));
+    Object.assign(this.#known, { refed: true, where: hereLater() });
+    table.setName(this.#known.id, numberOf(this.#name));
+    table.start(this.#known.id);
   }
 
   /** @param {unknown} target on which a method is called: as in node, it must be such a channel */
   static #needs(target) {
-    if (#id in Object(target)) return;
+    if (#known in Object(target)) return;
     throw nodeError("ERR_INVALID_THIS", 'Value of "this" must be of type BroadcastChannel', {}, TypeError);
   }
 
@@ -132,51 +127,38 @@ class BroadcastChannel extends EngineTarget {
     return this.#name;
   }
 
-  /** @param {boolean} listens: what keeps the thread alive is named by the line that matters most to a reader */
-  #listens(listens) {
-    const { ports } = world();
-    if (!ports.has(this)) return;
-    Object.assign(ports.known(this), { listens, where: listens ? ports.world.hereLater() : this.#where });
-  }
-
   /** @param {any[]} given by node when there is another listener: how many of its type, the type, and more */
   [kNewListener](...given) {
     apply(engineNew, this, given);
-    if (given[1] === "message") this.#listens(true);
-  }
-
-  /** @param {number} count of the listeners that are left @param {string} type of theirs */
-  [kRemoveListener](count, type) {
-    if (type === "message" && count === 0) this.#listens(false);
+    if (given[1] === "message") this.#known.listened = world().ports.world.hereLater();
   }
 
   /** @param {unknown} value */
   postMessage(value) {
     BroadcastChannel.#needs(this);
     if (arguments.length === 0) throw missing("message");
-    if (this.#isClosed) throw new EngineException("BroadcastChannel is closed.", "InvalidStateError");
-    cast(world(), this.#id, value, this.postMessage);
+    if (this.#known.closed) throw new EngineException("BroadcastChannel is closed.", "InvalidStateError");
+    cast(world(), this.#known.id, value, this.postMessage);
   }
 
   close() {
     BroadcastChannel.#needs(this);
-    if (this.#isClosed) return;
-    this.#isClosed = true;
+    if (this.#known.closed) return;
+    this.#known.closed = true;
     const { ports } = world();
-    ports.known(this).closed = true;
-    ports.world.table.close(this.#id);
-    ports.mine.delete(this.#id);
+    ports.world.table.close(this.#known.id);
+    ports.mine.delete(this.#known.id);
   }
 
   ref() {
     BroadcastChannel.#needs(this);
-    world().ports.known(this).refed = true;
+    this.#known.refed = true;
     return this;
   }
 
   unref() {
     BroadcastChannel.#needs(this);
-    world().ports.known(this).refed = false;
+    this.#known.refed = false;
     return this;
   }
 

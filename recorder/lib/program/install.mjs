@@ -6,7 +6,7 @@ import net from "node:net";
 import process from "node:process";
 import threads from "node:worker_threads";
 import { member, replaceNeeded } from "../agent/ordinary/patch.mjs";
-import { apply, construct, isArray, proxyOf, put } from "../primordials.mjs";
+import { apply, construct, copied, isArray, proxyOf, put } from "../primordials.mjs";
 import { nodeError } from "./node-error.mjs";
 import { demandTransferable } from "./transfer-list.mjs";
 import { clonedValue, installMarks } from "./message-values.mjs";
@@ -34,15 +34,14 @@ export function installMemory(made) {
   put(globalThis, "SharedArrayBuffer", StandIn);
 }
 
-/**
- * @param {import("./buffers.mjs").Buffers} buffers of the thread, which clones of their objects have too
- * @param {(why: string) => never} refuse ends the run
- */
-export function installCloning(buffers, refuse) {
+/** @param {import("./ports.mjs").Ports} ports of the thread: clones may have them, and the same shared memory */
+export function installCloning(ports) {
   installMarks();
   replaceNeeded(globalThis, "structuredClone", (engine) => (/** @type {any[]} */ ...given) => {
-    if (isArray(given[1]?.transfer)) demandTransferable(given[1].transfer, refuse);
-    return given.length === 0 ? apply(engine, undefined, given) : clonedValue(given[0], given[1], buffers);
+    if (given.length === 0) return apply(engine, undefined, given);
+    const list = isArray(given[1]?.transfer) ? copied(given[1].transfer) : [];
+    demandTransferable(list, ports.world.refuse);
+    return clonedValue(given[0], given[1], ports, ports.among(list));
   });
 }
 

@@ -44,7 +44,7 @@ export class KeptAlive {
     children.forEach(({ refed, listens, where }) => {
       if (refed || listens) texts.push(`the worker started at ${where}`);
     });
-    return texts.concat(ports.liveHandles(), ends.liveHandles());
+    return texts.concat(ports.keeping().map(({ keeper }) => keeper), ends.liveHandles());
   }
 }
 

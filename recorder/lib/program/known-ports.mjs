@@ -1,6 +1,7 @@
 // What a thread knows about each port that it has, and where the port's messages come from.
 
 import { AsyncResource } from "node:async_hooks";
+import { getEventListeners } from "node:events";
 import threads from "node:worker_threads";
 import { hasOwn, uncurried } from "../primordials.mjs";
 import { UNREAD, nextOf } from "./unread.mjs";
@@ -16,12 +17,10 @@ export class KnownPort {
   /** Whether it keeps its thread alive. */
   refed = false;
 
-  /** Whether listeners of messages keep it so. */
-  listens = false;
+  /** @type {import("../agent/frames.mjs").PlaceFinder | undefined} where a listener of messages was added */
+  listened = undefined;
 
-  /**
-   * @type {import("../agent/frames.mjs").PlaceFinder | undefined} where the first was added, or what else keeps it so
-   */
+  /** @type {import("../agent/frames.mjs").PlaceFinder | undefined} what else keeps its thread alive */
   where = undefined;
 
   closed = false;
@@ -67,7 +66,9 @@ export class KnownPort {
 
   /** @returns {string} how it does that, in words */
   get keeper() {
-    return `a port ${this.listens ? "with a listener from" : "that is kept alive at"} ${this.where?.() ?? ""}`;
+    const listens = getEventListeners(this.port, "message").length > 0;
+    const where = listens ? this.listened : this.where ?? this.listened;
+    return `a port ${listens ? "with a listener from" : "that is kept alive at"} ${where?.() ?? ""}`;
   }
 
   /** The run is over. */

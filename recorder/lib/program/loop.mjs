@@ -317,18 +317,19 @@ export class Loop {
    * @returns {(() => void)[]}
    */
   #choices() {
-    const { events, ports: { closing }, timers: armed, waits } = this.served;
-    if (closing !== undefined) return [() => events.deliver(closing)];
+    const { ports, timers: armed, waits } = this.served;
+    const { closing } = ports;
+    if (closing !== undefined) return [() => ports.deliver(closing)];
     if (armed.inRound > 0) return [() => this.#runImmediate()];
     this.#offerEarly();
     const isDue = this.#deadline() <= this.#now();
     if (isDue && this.#isTurning) return [this.#runDue];
     this.#isTurning = false;
-    const ready = events.ready();
+    const ready = ports.ready();
     const isFirst = this.#areFirst(ready);
     const acts = ready.map((port) => () => {
       this.#before.set(port, (this.#before.get(port) ?? 0) - 1);
-      events.deliver(port);
+      ports.deliver(port);
     });
     const task = this.#tasks[0];
     if (task !== undefined) {

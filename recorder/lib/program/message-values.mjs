@@ -153,16 +153,19 @@ export function received(value, buffers) {
  * What structuredClone makes of a value: the clone has the same shared memory, as in node.
  * @param {unknown} value
  * @param {unknown} options
- * @param {Buffers} buffers
+ * @param {import("./ports.mjs").Ports} ports of the thread
+ * @param {any[]} moved those of them that are transferred
  * @returns {unknown}
  */
-export function clonedValue(value, options, buffers) {
+export function clonedValue(value, options, ports, moved) {
   /** @type {any[]} */
   const met = [];
   const given = bare(value, (memory) => met.push(memory));
-  if (met.length === 0) return engineClone(value, options);
-  const { clone, clones } = engineClone({ clone: given, clones: met }, options);
+  if (met.length + moved.length === 0) return engineClone(value, options);
+  const { buffers } = ports.world;
+  const { clone, clones, others } = engineClone({ clone: given, clones: met, others: moved }, options);
   clones.forEach((/** @type {any} */ each, /** @type {number} */ at) =>
     buffers.cloned(bufferOfAny(each), bufferOfAny(met[at])));
+  others.forEach((/** @type {any} */ each, /** @type {number} */ at) => ports.clone(moved[at], each));
   return received(clone, buffers);
 }

@@ -10,7 +10,8 @@ import { broadcastClass } from "./broadcast.mjs";
 import { Ends } from "./ends.mjs";
 import { installThreads } from "./install.mjs";
 import { lockManager } from "./locks.mjs";
-import { PortEvents, servePorts } from "./port-events.mjs";
+import { received } from "./message-values.mjs";
+import { NodePorts, servePorts } from "./port-events.mjs";
 import { KIND, channelClass, receiverOf } from "./ports.mjs";
 import { envOf, ignoringCase } from "./process-env.mjs";
 import { ProgramModules } from "./program-modules.mjs";
@@ -28,9 +29,9 @@ const { NODE_TEST_CONTEXT: _, ...firstEnv } = process.env;
  * @property {new (given: { refuse: (what: string, place?: string) => void }) => ProgramGraph} Graph makes the modules
  * @property {boolean} hasPhases whether the event loop has the phases of node's
  * @property {typeof Ends} Ends
- * @property {typeof PortEvents} PortEvents
+ * @property {typeof import("./ports.mjs").Ports} Ports
  * @property {(agent: number) => typeof Atomics} atomics the engine's own functions, for a thread
- * @property {(events: any) => void} serve puts methods in the place of those that the engine's ports have
+ * @property {(ports: any) => void} serve puts methods in the place of those that the engine's ports have
  * @property {(parts: any, graph: any) => void} install is called once in a thread, when all else is replaced
  * @property {(main: import("./control-channels.mjs").MainChannels) => any} mainStart what the first thread is to run
  * @property {(parts: any, start: any, parentPort: any) => void} begin is called for each run
@@ -59,7 +60,8 @@ function begin(parts, start, parentPort) {
   const { moves, ports, control, buffers, refuse } = parts;
   const { agent } = moves;
   /** @type {any} */
-  const { workerData, environment } = ports.unpacked({ workerData: start.workerData, environment: start.environment });
+  const given = { workerData: start.workerData, environment: start.environment };
+  const { workerData, environment } = received(given, buffers);
   const values = HERE.ignoresCase && agent === 0 ? ignoringCase(start.env) : start.env;
   const env = envOf(values, start.sharesEnv, refuse);
   const { execArgv, resourceLimits, threadName } = start;
@@ -79,7 +81,7 @@ export const NODE = {
   Graph: ProgramModules,
   hasPhases: true,
   Ends,
-  PortEvents,
+  Ports: NodePorts,
   atomics: () => Atomics,
   serve: servePorts,
   install,

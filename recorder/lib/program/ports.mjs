@@ -1,14 +1,13 @@
 // The ports of a program's thread. They are node's own, and messages go by node's own channels, so that what can be
 // cloned and transferred is as in node. But a port is never started for node. A message waits in it until the run
-// delivers it.
+// delivers it. What listens to ports is in `port-events.mjs`, and in `web/web-ports.mjs` for browsers.
 
 import threads from "node:worker_threads";
 import { described } from "../agent/described.mjs";
-import { mapForEach, put, uncurried, weakGet, weakHas, weakSet } from "../primordials.mjs";
+import { construct, mapForEach, proxyOf, put, uncurried, weakGet, weakHas, weakSet } from "../primordials.mjs";
 import { NOBODYS } from "../board/port-table.mjs";
 import { KnownPort, QueuedPort } from "./known-ports.mjs";
 import { toPort, toThread } from "./moves.mjs";
-import { nodeError } from "./node-error.mjs";
 import { demandOpen, demandTransferable, transferredOf } from "./transfer-list.mjs";
 import { received, sent } from "./message-values.mjs";
 
@@ -49,6 +48,7 @@ const isUrgent = (kind) => kind > KIND.CLOSE;
  * @property {(name: string, act: () => void) => void} later does something as a task of its own
  * @property {(number: number, kind: number, value: unknown) => void} noted notes what is in a message that is sent
  * @property {(text: string) => void} note notes what happens to the thread
+ * @property {import("./unwinding.mjs").DeferredServices} late what the thread has after its ports
  */
 
 /** So many objects can't be in each other so deep that the other side couldn't read them. */
@@ -64,7 +64,7 @@ export class Ports {
   /** @type {Map<number, any>} the ports that this thread has, by their numbers */
   mine = new Map();
 
-  /** @type {any} the port whose message the thread's code has got last, while its loop begins nothing else */
+  /** @type {KnownPort | undefined} of which the thread's code has got a message last, while its loop begins no more */
   latest = undefined;
 
   /** @param {PortContext} world */
@@ -90,15 +90,14 @@ export class Ports {
     return weakGet(this.#known, port);
   }
 
-  /** @returns {{ port1: any, port2: any }} a channel of node's, both ports of which this thread has */
-  channel() {
+  /** @param {any} [made] a channel of node's @returns {{ port1: any, port2: any }} it, whose ports this thread has */
+  channel(made = new EngineChannel()) {
     const { table, agent, refuse } = this.world;
     if (!table.hasRoom()) refuse("made more ports than a run of a program can have");
-    const { port1, port2 } = new EngineChannel();
     const first = table.addPair(agent);
-    this.adopt(port1, first);
-    this.adopt(port2, first + 1);
-    return { port1, port2 };
+    this.adopt(made.port1, first);
+    this.adopt(made.port2, first + 1);
+    return made;
   }
 
   /** @param {any} port of node's that this thread has now @param {number} id */
@@ -146,6 +145,13 @@ export class Ports {
     this.world.table.stop(id);
   }
 
+  /** @param {any} port that stays in this thread @param {any} clone what stands for it from now on */
+  clone(port, clone) {
+    const { id } = this.known(port);
+    this.leave(port);
+    this.adopt(clone, id);
+  }
+
   /**
    * @param {any[]} list what is transferred
    * @param {any} [source] the port that sends it
@@ -181,7 +187,11 @@ export class Ports {
       ports.forEach((each) => this.leave(each));
       return undefined;
     }
-    const number = called === undefined ? moves.sendNow() : moves.send(called, this.#goesTo(id ^ 1));
+    const peer = id ^ 1;
+    // A message goes to a thread, or to a port that no thread has.
+    const owner = table.owner(peer);
+    const number = called === undefined ? moves.sendNow()
+      : moves.send(called, owner === NOBODYS ? toPort(peer) : toThread(owner));
     const ids = ports.map((each) => this.known(each).id);
     this.world.noted(number, kind, bare);
     if (walked.objects <= FEW_OBJECTS) post(port, { value: bare, kind, number, ports, ids }, list);
@@ -191,7 +201,6 @@ export class Ports {
       post(port, { kind, number, ids });
     }
     for (let at = 0; at < ports.length; at += 1) this.leave(ports[at]);
-    const peer = id ^ 1;
     if (table.isClosed(peer)) return false;
     // Node gives up a message with the port that it goes to.
     if (ids.includes(peer)) ids.forEach((each) => this.#lose(each));
@@ -240,19 +249,41 @@ export class Ports {
     return known instanceof QueuedPort ? known.queue : [];
   }
 
-  /** @param {unknown} value that a thread was started with @returns {unknown} */
-  unpacked(value) {
-    return received(value, this.world.buffers);
-  }
-
-  /** @param {any} port whose messages are delivered from now on */
+  /** @param {any} port whose messages are delivered from now on, unless it is closed */
   start(port) {
-    this.world.table.start(this.known(port).id);
+    const { id, closed } = this.known(port);
+    if (!closed) this.world.table.start(id);
   }
 
   /** @param {any} port whose messages wait from now on */
   stop(port) {
     this.world.table.stop(this.known(port).id);
+  }
+
+  /** @param {any} port that has a message: what takes it, or its listeners, get it */
+  deliver(port) {
+    const known = this.known(port);
+    const envelope = this.take(port);
+    if (envelope === undefined) return;
+    known.left -= 1;
+    this.latest = known;
+    known.scope.runInAsyncScope(() => {
+      if (known.taker !== undefined) known.taker(envelope);
+      else if (envelope.kind !== KIND.CLOSE) this.give(port, envelope);
+      else if (!known.closed) this.closeNow(port);
+    });
+  }
+
+  /** @param {any} _port @param {Envelope} _envelope a message that its listeners get now */
+  give(_port, _envelope) {}
+
+  /** @param {any} _port that is closed: its listeners learn that now */
+  giveClose(_port) {}
+
+  /** @param {any} port that this thread or the other side has closed */
+  closeNow(port) {
+    this.close(port);
+    this.giveClose(port);
   }
 
   /** @param {any} port that is closed by this thread: the other side learns that after what was sent before */
@@ -284,9 +315,7 @@ export class Ports {
    */
   get closing() {
     const { latest } = this;
-    if (latest === undefined || !this.has(latest)) return undefined;
-    const { isClosing, left } = this.known(latest);
-    return isClosing && left > 0 && this.waiting(latest) > 0 ? latest : undefined;
+    return latest?.isClosing && latest.left > 0 && this.waiting(latest.port) > 0 ? latest.port : undefined;
   }
 
   /** @param {any} port of this thread @returns {number} how many messages wait there */
@@ -305,17 +334,6 @@ export class Ports {
     return keeping;
   }
 
-  /** @returns {string[]} what keeps this thread alive, in words */
-  liveHandles() {
-    return this.keeping().map(({ keeper }) => keeper);
-  }
-
-  /** @param {number} id of a port @returns {number} what a message to it goes to: its thread, or the port itself */
-  #goesTo(id) {
-    const owner = this.world.table.owner(id);
-    return owner === NOBODYS ? toPort(id) : toThread(owner);
-  }
-
   /** @param {number} id of a port that has got a message */
   rouse(id) {
     const { table, moves, agent } = this.world;
@@ -324,21 +342,12 @@ export class Ports {
   }
 }
 
-/**
- * The class by which the program makes channels.
- * @param {Ports} ports
- */
+/** @param {Ports} ports @returns {any} the class by which the program makes channels: node's own, but of the run */
 export function channelClass(ports) {
-  /** @this {any} */
-  function MessageChannel() {
-    if (new.target === undefined) {
-      throw nodeError("ERR_CONSTRUCT_CALL_REQUIRED", "Cannot call constructor without `new`", {}, TypeError);
-    }
-    const { port1, port2 } = ports.channel();
-    this.port1 = port1;
-    this.port2 = port2;
-  }
-  put(MessageChannel.prototype, Symbol.toStringTag, "MessageChannel");
+  const MessageChannel = proxyOf(EngineChannel, {
+    construct: (target, given, asked) => ports.channel(construct(target, given, asked)),
+  });
+  put(EngineChannel.prototype, "constructor", MessageChannel);
   return MessageChannel;
 }
 
@@ -350,11 +359,8 @@ export const receiverOf = (ports) => (/** @type {any} */ given) => {
   if (!ports.has(given)) return receive(given);
   ports.world.moves.yield();
   const envelope = ports.take(given);
-  if (envelope === undefined) return undefined;
-  if (envelope.kind === KIND.CLOSE) {
-    ports.close(given);
-    return undefined;
-  }
+  if (envelope?.kind === KIND.CLOSE) ports.close(given);
+  if (envelope === undefined || envelope.kind === KIND.CLOSE) return undefined;
   if (envelope.isUnread) throw envelope.value;
   return { message: envelope.value };
 };

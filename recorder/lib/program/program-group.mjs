@@ -85,7 +85,7 @@ export class ProgramGroup extends Group {
     this.memory = programMemory(plan, this.options.logEvents);
     this.board = new Board(this.memory.board, this.rules);
     const options = this.refereeOptions({ hasInit: false, hasCheck: false });
-    const asked = { ...options, stuck: this.options.stuck, isProgram: true, fresh: false };
+    const asked = { ...options, stuck: this.options.stuck, fresh: false };
     referee.give({ memory: this.memory, plan, rules: this.rules, options: asked });
     this.#prepare(1, FIRST_THREADS - 1);
     meanwhile();

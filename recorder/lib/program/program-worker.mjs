@@ -47,7 +47,6 @@ import { installMicrotasks } from "./microtasks.mjs";
 import { Moves } from "./moves.mjs";
 import { NODE } from "./node-surroundings.mjs";
 import { PortTable } from "../board/port-table.mjs";
-import { Ports } from "./ports.mjs";
 import { forgetError, lastError, printAtOnce } from "./printing.mjs";
 import { turnLater } from "./real-loop.mjs";
 import { RealWork } from "./real-work.mjs";
@@ -210,7 +209,8 @@ function partsOf(player, blocks, control) {
   /** @type {import("./ends.mjs").Leaving["note"]} */
   const note = (text, place) => late.loop?.note(text, place);
   const noted = notingOf(board, notes);
-  const ports = new Ports({ agent, table, moves, buffers, control, here, hereLater, refuse, later, note, noted });
+  const around = { here, hereLater, refuse, later, note, noted, late };
+  const ports = new surroundings.Ports({ agent, table, moves, buffers, control, ...around });
   const isShown = () => board.words[WORD.IS_SILENT] === 0 && isPlaying();
   const spawned = new Children(new Pids(shared.pids[agent]), isShown);
   const real = new RealWork(new Notes(shared.notes[agent]), spawned, here);
@@ -218,19 +218,17 @@ function partsOf(player, blocks, control) {
   const threadTexts = new ThreadTexts(shared.threadTexts[agent]);
   const about = { threadTexts, note, printed: lastError, closeSockets: () => real.close() };
   const ends = new surroundings.Ends({ agent, player, ports, threads: all, here, leave, ...about });
-  const drain = () => late.loop?.drain();
-  const events = new surroundings.PortEvents({ ports, uncaught: (thrown) => ends.uncaught(thrown), drain });
   const timers = new Timers({ now: () => board.clock.now(), here: sourceLater });
   const children = new Set();
   const locks = new Locks({ ports, moves, control, threads: all, later, refuse, isAtOnce: surroundings.hasPhases });
   const waits = new WaitAsync({ moves, buffers, isPlaying, refuse });
   const loop = new Loop({
-    moves, ports, events, timers, waits, locks, ends, threadTexts, children, refuse, leave, notes, here: sourceHere,
+    moves, ports, timers, waits, locks, ends, threadTexts, children, refuse, leave, notes, here: sourceHere,
     becomeIdle: () => late.becomeIdle?.(), hasPhases: surroundings.hasPhases, looking: new IoPolling(),
   });
   Object.assign(late, { loop, ends });
   return {
-    moves, waits, locks, buffers, ports, ends, events, timers, loop, children, threads: all, control, later, late,
+    moves, waits, locks, buffers, ports, ends, timers, loop, children, threads: all, control, later, late,
     threadTexts, here, refuse, real, spawned, isShown,
   };
 }
@@ -238,7 +236,7 @@ function partsOf(player, blocks, control) {
 /** @typedef {ReturnType<typeof partsOf>} ThreadServices */
 
 /** @param {ThreadServices} parts */
-function installReplacements({ moves, buffers, waits, ends, events, later, late, spawned, isShown }) {
+function installReplacements({ moves, buffers, waits, ends, ports, later, late, spawned, isShown }) {
   const listAgain = listingOf([globalThis, buffer, crypto, process, util]);
   printAtOnce(isShown, printedName, () => moves.board.vain?.news());
   simulateTime(() => (isPlaying() ? playing().look() : 0));
@@ -254,12 +252,12 @@ function installReplacements({ moves, buffers, waits, ends, events, later, late,
   watchRealm(watching);
   putAllSyncVersions({ later, isPlaying, here: sourceOfCall });
   installMemory((buffer) => buffers.made(buffer, sourceOfCall()));
-  installCloning(buffers, refuse);
+  installCloning(ports);
   installGrowing(buffers, moves, isPlaying);
   globalThis.Atomics = atomics;
   waits.install(Atomics);
   installMicrotasks(isPlaying);
-  surroundings.serve(events);
+  surroundings.serve(ports);
   installInput(refuse);
   spawned.install();
   installProcess((given) => ends.exit(given), moves.agent);

@@ -11,7 +11,6 @@
  * @typedef {object} Served
  * @property {import("./moves.mjs").Moves} moves
  * @property {import("./ports.mjs").Ports} ports
- * @property {import("./port-events.mjs").PortEvents} events
  * @property {import("./timers.mjs").Timers} timers
  * @property {import("./wait-async.mjs").WaitAsync} waits
  * @property {import("./locks.mjs").Locks} locks

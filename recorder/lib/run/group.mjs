@@ -7,6 +7,7 @@ import { memoryOf } from "../board/group-memory.mjs";
 import { waysOf } from "../board/strategy/ways.mjs";
 import { needsRightNames, planOf } from "../options/plan.mjs";
 import { Refused } from "../options/refused.mjs";
+import { runKindOf } from "../options/run-kinds.mjs";
 import { defaultsOf } from "../options/table.mjs";
 import { firstWorkers, learns } from "../processes/first-workers.cjs";
 import { framesOf } from "../processes/place-of-thread.mjs";
@@ -30,7 +31,8 @@ import { TextMaker } from "./run-snapshot.mjs";
 /**
  * @typedef {object} OwnOptions what a group is given besides options of the library, or in place of some
  * @property {string} module the URL of the agents' module, or of the program's main one
- * @property {boolean} [isProgram] whether the module is a program that starts its threads itself
+ * @property {unknown} [program] the same, if it is a program, which starts its threads itself
+ * @property {import("../options/run-kinds.mjs").RunKind} [kind] of its runs, which is made of these options
  * @property {string[]} args for the agents
  * @property {string} [strategy] how it is drawn who moves next, as `waysOf` takes it
  * @property {boolean} [inTurn] whether agents begin in turn under each seed; else some seeds draw their order
@@ -280,12 +282,9 @@ export class Group {
   refereeOptions({ hasInit, hasCheck }) {
     const { init, check, module, seconds, fresh, trace, isBrief, ordinary } = this.options;
     const { races, limits, unrecorded } = this.options;
-    /** @type {(own: OfBuffers | undefined, isProgramMemory: boolean) => "library" | "module" | undefined} */
-    const whose = (own, isProgramMemory) => {
-      if (own !== undefined) return "library";
-      return isProgramMemory ? "module" : undefined;
-    };
-    const asked = { init: whose(init, hasInit), check: whose(check, hasCheck) };
+    /** @type {(own: OfBuffers | undefined, hasOwn: boolean) => "library" | "module" | undefined} */
+    const whose = (own, hasOwn) => (own !== undefined ? "library" : hasOwn ? "module" : undefined);
+    const asked = { init: whose(init, hasInit), check: whose(check, hasCheck), kind: runKindOf(this.options) };
     return { module, seconds, fresh, trace, isBrief, ordinary, races, limits, unrecorded, ...asked };
   }
 

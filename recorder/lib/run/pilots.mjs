@@ -14,15 +14,12 @@ import { MessageOrder } from "./message-order.mjs";
 /** How many pilots there are. */
 export const PILOTS = 8;
 
-/** For how many seconds an agent of a pilot may make no call: then the pilots end, and nothing is known. */
-export const PILOT_SECONDS = 2;
-
 // After one pilot that has so many events, or ordinary accesses, there are no others: it has shown much, and another
 // one would take as long.
 const MANY_EVENTS = 50_000;
 const MANY_ACCESSES = 200_000;
 
-/** So many of a program's calls have to be private in each pilot, or nothing is gained by the next one. */
+/** So many of the calls beside messages have to be private in each pilot, or nothing is gained by the next one. */
 const WORTH = 0.25;
 
 /** All agents, as bits. */
@@ -46,12 +43,12 @@ export class Pilots {
   /**
    * @param {number} agents how many
    * @param {KnownPlaces} places that will learn all of it
-   * @param {boolean} [isProgram] whether the last block is for messages
+   * @param {boolean} [hasMessages] whether the last block is for messages, which order what is done
    */
-  constructor(agents, places, isProgram = false) {
+  constructor(agents, places, hasMessages = false) {
     this.agents = agents;
     this.places = places;
-    this.isProgram = isProgram;
+    this.hasMessages = hasMessages;
     /** For each place, which agents use it and which of them write, as bits. */
     this.users = new Uint16Array(PLACES);
     this.writers = new Uint16Array(PLACES);
@@ -69,8 +66,8 @@ export class Pilots {
   add(log) {
     this.order.begin(this.used);
     for (let event = 0; event < log.length; event += 1) this.#count(log, event);
-    // A program's agents often use a place in order. Only the calls of some come beside what others do.
-    const beside = Array.from({ length: this.agents }, (_, agent) => new Beside(this.isProgram ? 1 << agent : ALL));
+    // Agents that send messages often use a place in order. Only the calls of some come beside what others do.
+    const beside = Array.from({ length: this.agents }, (_, agent) => new Beside(this.hasMessages ? 1 << agent : ALL));
     for (let event = 0; event < log.length; event += 1) this.#mark(log, event, beside[log.agentAt(event)]);
   }
 
@@ -85,6 +82,7 @@ export class Pilots {
 
   /** @param {Log} log of the last pilot @returns {boolean} whether many of its calls need no draw, as far as shown */
   areWorth(log) {
+    if (!this.hasMessages) return true;
     let all = 0;
     let own = 0;
     for (let event = 0; event < log.length; event += 1) {
@@ -155,7 +153,7 @@ export class Pilots {
 
   /** @param {Log} log @param {number} event @returns {boolean} whether it sends or receives a message */
   #isMessage(log, event) {
-    return this.isProgram && log.blockAt(event) === MESSAGES && log.flagsAt(event) === FLAG.WAITERS;
+    return this.hasMessages && log.blockAt(event) === MESSAGES && log.flagsAt(event) === FLAG.WAITERS;
   }
 
   /** @param {number} from @param {number} to */

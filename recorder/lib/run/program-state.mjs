@@ -137,6 +137,11 @@ export class ProgramState {
     return Array.from({ length: this.plan.agents }, (_, agent) => agent);
   }
 
+  /** @param {string[]} bytes of each block @returns {string[]} of those that the program has made */
+  own(bytes) {
+    return bytes.slice(0, this.blocks.count);
+  }
+
   /**
    * Which threads have ended by an error or an exit code, and what keeps those alive that have nothing to do.
    * @param {string} ending of the run
@@ -156,10 +161,16 @@ export class ProgramState {
     return [...ended, ...idle];
   }
 
-  /** @param {string} detail @returns {string} with the place of an await that never settles, if it is about that */
-  placed(detail) {
+  /**
+   * @param {string} detail
+   * @param {boolean} _isFound
+   * @param {import("./source-names.mjs").SourceNames} names
+   * @returns {string} with the place of an await that never settles, if it is about that
+   */
+  named(detail, _isFound, names) {
     const place = this.threadTexts[0].awaited();
-    return place !== "" && /has a top-level await that never settles$/.test(detail) ? `${detail}, at ${place}` : detail;
+    const isAwait = place !== "" && /has a top-level await that never settles$/.test(detail);
+    return names.withNames(isAwait ? `${detail}, at ${place}` : detail);
   }
 
   /**

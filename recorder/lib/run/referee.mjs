@@ -2,7 +2,6 @@
 // wanted, the run is made once more by the same seed, and then each access notes its line.
 
 import { workerData } from "node:worker_threads";
-import { SCRIPT_LIMITS } from "../../script/limits.mjs";
 import { WORD } from "../memory/layout.mjs";
 import { Log } from "../memory/log.mjs";
 import { onceMore } from "../processes/garbage.mjs";
@@ -36,16 +35,16 @@ class Referee {
   /**
    * @param {import("./run-maker.mjs").RefereeWorkerData} given
    * @param {() => void} rest awaits another group, when this one ends
-   * @param {typeof import("./program-state.mjs").ProgramState} [ProgramState] for the runs of a program
+   * @param {typeof import("./program-state.mjs").ProgramState} [State] as `RunMaker` has it
    */
-  constructor(given, rest, ProgramState) {
+  constructor(given, rest, State) {
     const { port, plan, options } = given;
     const sourceNames = new SourceNames(options.module);
     this.port = port;
     this.rest = rest;
     this.plan = plan;
     this.options = options;
-    this.maker = new RunMaker(given, sourceNames, ProgramState);
+    this.maker = new RunMaker(given, sourceNames, State);
     this.reporter = new RunReporter(given, this.maker);
     /** Which lines of code the next run notes at once. If the run before raced, the next one may race there, too. */
     this.linesNext = this.#linesAfter(false, false);
@@ -92,10 +91,9 @@ class Referee {
    * pilots. A program's threads are kept from run to run, and so from pilots.
    */
   async #learn() {
-    const { maker, maker: { board, log }, plan } = this;
-    const isProgram = this.options.isProgram === true;
-    maker.program?.forget();
-    const pilots = new Pilots(isProgram ? SCRIPT_LIMITS.agents : plan.agents, board.places, isProgram);
+    const { maker, maker: { board, log, state }, options: { kind } } = this;
+    state.forget();
+    const pilots = new Pilots(board.rules.agents, board.places, kind.hasMessages);
     let isSeen = true;
     let isLong = false;
     for (let seed = 0; seed < PILOTS && isSeen && !isLong; seed += 1) {
@@ -103,13 +101,13 @@ class Referee {
       pilots.add(log);
       isLong = Pilots.isLong(log, maker.accessCount());
       // What is shared in one pilot is so in all.
-      isSeen &&= !isProgram || pilots.areWorth(log);
+      isSeen &&= pilots.areWorth(log);
       this.sinceFresh += 1;
     }
     board.words[WORD.IS_PILOT] = 0;
     if (isSeen) pilots.teach();
-    else maker.program?.forget();
-    if (!isProgram) await maker.replace(maker.agents);
+    else state.forget();
+    if (!kind.keepsThreads) await maker.replace(maker.agents);
   }
 
   /** @param {WantedRun} wanted @returns {Promise<Sent>} the outcome of a seed */
@@ -176,7 +174,7 @@ class Referee {
 
   /** All threads are started anew. */
   async #startAnew() {
-    await this.maker.replace(this.maker.all);
+    await this.maker.replace(this.maker.state.all);
     this.sinceFresh = 0;
   }
 
@@ -187,9 +185,9 @@ class Referee {
    * @param {RunResult} found
    */
   #mayRemember({ row }, { endless }) {
-    const { isProgram, fresh } = this.options;
+    const { kind, fresh } = this.options;
     // An agent that made no call for long would take as long again.
-    return isProgram === true && !fresh && this.sinceFresh > 0 && row === undefined && endless.length === 0;
+    return kind.keepsThreads && !fresh && this.sinceFresh > 0 && row === undefined && endless.length === 0;
   }
 
   /**
@@ -256,8 +254,7 @@ class Referee {
     if (wantsTrace) maker.board.noted.clear();
     if (found.racy) this.#noteRaces();
     if (wanted.isFresh) await this.#startAnew();
-    // A program's output is shown once.
-    const isSilent = wanted.isSilent || this.options.isProgram;
+    const isSilent = wanted.isSilent || this.options.kind.printsOnce;
     const how = wantsTrace ? LINES.OF_FIRST : LINES.OF_RACES;
     const again = await maker.made({ ...againAs(wanted, outcome), isSilent }, how);
     this.mayLackLines ||= found.racy && this.#lacksLines();
@@ -271,7 +268,7 @@ class Referee {
 
   /** @param {RunResult} run after which workers that can't run again are started anew, or all if the option says so */
   async #replace({ gone }) {
-    await this.maker.replace(this.options.fresh ? this.maker.all : gone);
+    await this.maker.replace(this.options.fresh ? this.maker.state.all : gone);
   }
 
   /** @param {WantedRun} wanted @param {boolean} isFirst as above @returns {boolean} whether a run's trace is made */
@@ -312,7 +309,7 @@ const asideOf = ({ waiting, divergence }) => ({ waiting, divergence });
 export function main() {
   const { port } = workerData;
   port.once("message", async (/** @type {Omit<import("./run-maker.mjs").RefereeWorkerData, "port">} */ given) => {
-    const State = given.options.isProgram ? (await import("./program-state.mjs")).ProgramState : undefined;
+    const State = given.options.kind.isPlain ? undefined : (await import("./program-state.mjs")).ProgramState;
     new Referee({ port, ...given }, main, State).awaitWork();
   });
 }

@@ -8,8 +8,8 @@ import { Log } from "../memory/log.mjs";
 import { RecordedMemory } from "../memory/recorded-memory.mjs";
 import { Notes } from "../memory/notes.mjs";
 import { Stores } from "../memory/stores.mjs";
+import { agentsState } from "./agents-state.mjs";
 import { initialStores } from "./initial.mjs";
-import { PILOT_SECONDS } from "./pilots.mjs";
 import { isRacy } from "./races.mjs";
 import { unseenText } from "./unseen-text.mjs";
 
@@ -51,7 +51,7 @@ import { unseenText } from "./unseen-text.mjs";
  * @property {"library" | "module" | undefined} init whose it is, if there is one
  * @property {"library" | "module" | undefined} check whose it is, if there is one
  * @property {"fail" | "allow"} [stuck] whether a run of a program that is stuck fails
- * @property {boolean} [isProgram] whether a program of several threads is run, and no module of agents
+ * @property {import("../options/run-kinds.mjs").RunKind} kind of the runs
  */
 
 /**
@@ -67,11 +67,6 @@ import { unseenText } from "./unseen-text.mjs";
 const GRACE_MILLISECONDS = 200;
 const ENDLESS = "didn't come to its end";
 
-/**
- * A message about code that isn't synchronous has a place in it, if one is known. What was thrown has its own stack.
- */
-const NOT_SYNCHRONOUS = /^(?:agent \d+ )?(?:goes on later|returned a promise), /;
-
 const NOTHING_TRIED = "no agent has made a call of Atomics, or another access that is seen, on the recorded buffers: "
   + "nothing was tried";
 
@@ -85,9 +80,9 @@ export class RunMaker {
   /**
    * @param {RefereeWorkerData} given
    * @param {import("./source-names.mjs").SourceNames} sourceNames
-   * @param {typeof import("./program-state.mjs").ProgramState} [ProgramState] for the runs of a program
+   * @param {typeof import("./program-state.mjs").ProgramState} [State] of the runs; that of agents if it isn't given
    */
-  constructor({ port, memory, plan, rules, options }, sourceNames, ProgramState) {
+  constructor({ port, memory, plan, rules, options }, sourceNames, State) {
     this.port = port;
     this.plan = plan;
     this.options = options;
@@ -98,7 +93,9 @@ export class RunMaker {
     this.stores = new Stores(memory.stores, this.board.words, this.memory);
     this.notes = memory.notes.map((each) => new Notes(each));
     this.agents = plan.canBlock.map((_, agent) => agent);
-    this.program = ProgramState && new ProgramState(/** @type {any} */ (memory), this.board, this.memory, plan);
+    /** @type {import("./agents-state.mjs").RunState} */
+    this.state = State === undefined ? agentsState(this.memory, this.agents)
+      : new State(/** @type {any} */ (memory), this.board, this.memory, plan);
   }
 
   /**
@@ -108,7 +105,7 @@ export class RunMaker {
    * @returns {Promise<RunResult>}
    */
   async made(wanted, lines) {
-    const { board, memory, plan, options, sourceNames } = this;
+    const { board, memory, plan, options, sourceNames, state } = this;
     this.#clear(wanted);
     board.words[WORD.IS_SILENT] = wanted.isSilent === true ? 1 : 0;
     const problem = options.init === undefined ? "" : await this.#asked("init");
@@ -122,7 +119,7 @@ export class RunMaker {
     board.words[WORD.LINES_LEFT] = lines;
     board.begin(wanted.seed);
     const result = await this.#ended();
-    if (this.program !== undefined) this.agents = this.program.learn();
+    this.agents = state.learn();
     const divergence = board.row.diverged();
     const bytes = memory.hex();
     const isAtLimit = result.ending === "limit";
@@ -132,16 +129,15 @@ export class RunMaker {
     const gone = this.#cancelled();
     const endless = gone.filter((agent) => !board.turn.isParked(agent));
     const racy = options.ordinary === "watch" && isRacy(this.log, plan.agents, plan.buffers.length);
-    const placed = this.program?.placed(result.detail) ?? (isAtLimit ? result.detail : undefined);
-    const named = placed === undefined ? this.#named(result.detail) : sourceNames.withNames(placed);
-    const still = this.program?.standstill(result.ending, sourceNames) ?? [];
+    const named = state.named(result.detail, isAtLimit, sourceNames);
+    const still = state.standstill(result.ending, sourceNames);
     const told = [named, ...still].filter((line) => line !== "");
     const detail = divergence === undefined ? told.join("\n") : divergenceText(divergence, named);
     const notes = this.agents.flatMap((agent) => this.notes[agent].read().map((note) => ({ ...note, agent })));
     const unseen = notes.filter(({ kind }) => kind !== "real");
     const real = notes.filter(({ kind }) => kind === "real");
-    const names = this.program?.names((text) => sourceNames.withNames(text));
-    const more = this.program?.moreBytes();
+    const names = state.names((text) => sourceNames.withNames(text));
+    const more = state.moreBytes();
     const { ending } = result;
     const ended = { ending, detail, bytes, gone, endless, racy, initial, waiting, asking, met };
     return { ...ended, unseen, real, divergence, names, more };
@@ -152,11 +148,11 @@ export class RunMaker {
    * @returns {Promise<RunResult>} how a run ends, with what is known when its agents are idle
    */
   async judged(found) {
-    const { check, races, unrecorded } = this.options;
+    const { check, races, unrecorded, kind } = this.options;
     const unseen = unseenText(found.unseen, unrecorded, this.sourceNames.placeName);
     if (unseen !== "" && found.divergence === undefined) return failedFor(unseen, found);
     if (found.ending !== "finished") return found;
-    if (this.#triedNothing()) return { ...found, ending: "failed", detail: NOTHING_TRIED };
+    if (kind.mustCall && this.#triedNothing()) return { ...found, ending: "failed", detail: NOTHING_TRIED };
     const problem = check === undefined ? "" : await this.#asked("check");
     if (problem !== "") return { ...found, ending: "check", detail: `check ${problem}` };
     return found.racy && races === "fail" ? { ...found, ending: "race" } : found;
@@ -189,10 +185,8 @@ export class RunMaker {
     board.words[WORD.NOTES_SOURCES] = 0;
     board.words[WORD.IS_SILENT] = 1;
     board.begin(seed, true);
-    // A program may well make no call for a while, and what is known mustn't depend on how fast it is.
-    const seconds = this.program === undefined ? Math.min(options.seconds, PILOT_SECONDS) : options.seconds;
-    const isSilent = board.turn.awaitEnd(seconds);
-    if (this.program !== undefined) this.agents = this.program.learn();
+    const isSilent = board.turn.awaitEnd(Math.min(options.seconds, options.kind.pilotSeconds));
+    this.agents = this.state.learn();
     await this.replace(this.#cancelled());
     // If ordinary reads aren't seen, nobody knows what an agent does between its calls.
     const isHidden = options.ordinary !== "watch" && board.words[WORD.STORES] > 0;
@@ -207,20 +201,9 @@ export class RunMaker {
     if (gone.length > 0) await this.#answered({ replace: gone });
   }
 
-  /** Whether a module's agents made no call and no access, as far as it is seen, on recorded memory. */
+  /** Whether the agents made no call and no access, as far as it is seen, on recorded memory. */
   #triedNothing() {
-    const made = this.callCount() + this.accessCount() + this.board.words[WORD.STORES];
-    return this.program === undefined && made === 0;
-  }
-
-  /** @param {string[]} bytes of each block @returns {string[]} of those that the code that is run has made */
-  ownBytes(bytes) {
-    return this.program === undefined ? bytes : bytes.slice(0, this.program.blocks.count);
-  }
-
-  /** @returns {number[]} all agents whose threads can be replaced */
-  get all() {
-    return this.program === undefined ? this.agents : this.program.all;
+    return this.callCount() + this.accessCount() + this.board.words[WORD.STORES] === 0;
   }
 
   /** How many calls of Atomics were begun. */
@@ -238,8 +221,7 @@ export class RunMaker {
    * @param {WantedRun} wanted
    */
   #clear(wanted) {
-    if (this.program === undefined) this.memory.reset();
-    this.program?.begin();
+    this.state.begin();
     this.board.row.begin(wanted);
     this.log.begin();
     this.stores.begin();
@@ -259,12 +241,8 @@ export class RunMaker {
     board.order(name === "init" ? ORDER.INIT : ORDER.CHECK);
     const { ending, detail } = await this.#ended();
     if (!board.turn.isBack(0, GRACE_MILLISECONDS)) await this.replace([0]);
-    return ending === "finished" ? this.#named(detail) : `${ENDLESS}: ${this.sourceNames.withNames(detail)}`;
-  }
-
-  /** @param {string} detail of code that failed @returns {string} in which places that the recorder found are named */
-  #named(detail) {
-    return NOT_SYNCHRONOUS.test(detail) ? this.sourceNames.withNames(detail) : detail;
+    const named = this.state.named(detail, ending !== "finished", this.sourceNames);
+    return ending === "finished" ? named : `${ENDLESS}: ${named}`;
   }
 
   /**

@@ -60,7 +60,7 @@ export class RunReporter {
       || (ending === "stuck" && options.stuck === "allow");
     const fails = ending !== "finished" && !isAllowed;
     const early = deadlines.early();
-    const missed = maker.program?.whyMissed;
+    const missed = maker.state.whyMissed;
     return {
       seed,
       ending,
@@ -70,7 +70,7 @@ export class RunReporter {
       calls: maker.callCount(),
       ordinary: maker.accessCount(),
       progress: maker.agents.map((agent) => journal.progress(agent)),
-      state: this.states.of(ending, maker.ownBytes(found.bytes), found.more),
+      state: this.states.of(ending, maker.state.own(found.bytes), found.more),
       races: [],
       ...(draws === undefined || (options.isBrief && !fails) ? {} : { row: draws }),
       ...(missed === undefined ? {} : { noScript: missed }),
@@ -103,10 +103,10 @@ export class RunReporter {
       outcome.noScript = NO_SCRIPT;
       return;
     }
-    const { maker: { program, agents }, options, run } = this;
+    const { maker: { state, agents }, options, run } = this;
     const written = this.#writtenOf(found);
     if (written?.windows !== undefined) outcome.windows = written.windows;
-    const why = outcome.noScript ?? program?.whyNoScript(written);
+    const why = outcome.noScript ?? state.whyNoScript(written);
     if (written === undefined || why !== undefined) {
       this.#addFailure(outcome, found, transcriptOf(run, []));
       outcome.noScript = why;
@@ -133,9 +133,9 @@ export class RunReporter {
    * @returns {Written | undefined} the run of the log, as its script and its trace have it, if they can
    */
   #written(bytes, windows) {
-    const { maker: { program, stores }, run, sourceNames } = this;
+    const { maker: { state, stores }, run, sourceNames } = this;
     const made = { run: { ...run, isOrdinary: this.#isOrdinary() }, stores, bytes };
-    return program === undefined ? made : program.inWindows(made, (text) => sourceNames.withNames(text), windows);
+    return state.inWindows(made, (text) => sourceNames.withNames(text), windows);
   }
 
   /**
@@ -147,7 +147,7 @@ export class RunReporter {
    */
   taken({ ending, fails }, { initial, bytes }) {
     const { maker, maker: { stores }, run: { log, records } } = this;
-    const isPlain = maker.program === undefined && initial.length === 0 && stores.isWhole();
+    const isPlain = this.options.kind.isPlain && initial.length === 0 && stores.isWhole();
     if (!isPlain || fails || ending !== "finished") return undefined;
     const calls = maker.agents.map((agent) => maker.board.journal.progress(agent).calls);
     return { copy: this.copies.copy(log, records, stores, calls), bytes, isOrdinary: this.#isOrdinary() };
@@ -196,7 +196,7 @@ export class RunReporter {
     if (!wantsTrace) return;
     const written = this.#written([], outcome.windows);
     if (written === undefined) {
-      outcome.noTrace = this.maker.program?.whyNoScript(written);
+      outcome.noTrace = this.maker.state.whyNoScript(written);
       return;
     }
     if (written.windows !== undefined) outcome.windows = written.windows;
@@ -208,21 +208,20 @@ export class RunReporter {
     outcome.accesses = accessesIn(written.run.log, written.run.lengths);
     const tasks = this.#tasks();
     outcome.sources = sourceNames.textsOf([...placesIn(log, names), ...tasks.flatMap(({ source }) => source ?? [])]);
-    if (this.maker.program === undefined) return;
-    outcome.tasks = tasks;
-    outcome.messages = this.maker.program.tasks.messages();
+    const { tasks: begun } = this.maker.state;
+    if (begun !== undefined) Object.assign(outcome, { tasks, messages: begun.messages() });
   }
 
   /** @returns {string} what a trace begins with if a verdict on its events could be wrong, or else nothing */
   #firstLine() {
-    const { maker: { program }, run: { log } } = this;
-    if (program?.whyMissed !== undefined) return unseenLine(program.whyMissed);
+    const { maker: { state: { whyMissed } }, run: { log } } = this;
+    if (whyMissed !== undefined) return unseenLine(whyMissed);
     return this.seesAll && log.hasRoom() ? "" : UNSEEN_LINE;
   }
 
   /** @returns {import("./outcome.mjs").LoopTask[]} those that a program's event loops have begun */
   #tasks() {
-    const tasks = this.maker.program?.tasks.list() ?? [];
+    const tasks = this.maker.state.tasks?.list() ?? [];
     const sourceOf = (/** @type {string} */ place) => (place === "" ? null : this.sourceNames.nameOf(place));
     return tasks.map(({ place, ...task }) => ({ ...task, source: sourceOf(place) }));
   }
@@ -237,7 +236,7 @@ export class RunReporter {
   judgement({ script }, found, taken) {
     const hasScript = script !== undefined || taken !== undefined;
     if (found.isUnseen || this.options.ordinary !== "watch") return undefined;
-    if (!hasScript && this.maker.program === undefined) return undefined;
+    if (!hasScript && this.options.kind.isPlain) return undefined;
     const { racy, initial } = found;
     const written = taken === undefined ? this.#writtenOf(found) : undefined;
     if (taken === undefined && written === undefined) return undefined;

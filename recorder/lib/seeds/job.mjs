@@ -52,8 +52,8 @@ function lightened({ script, report, trace, accesses, sources, tasks, messages, 
  * @returns {Promise<Group>}
  */
 async function openGroup(options, meanwhile) {
-  const Kind = options.isProgram ? (await import("../program/program-group.mjs")).ProgramGroup : Group;
-  return Kind.open(options, meanwhile);
+  const Own = options.program === undefined ? Group : (await import("../program/program-group.mjs")).ProgramGroup;
+  return Own.open(options, meanwhile);
 }
 
 export class Job {

@@ -107,10 +107,10 @@ export class Runs {
    * @param {CheckedOutcome} [shortest] that is kept in its place
    */
   async showOutput(found, shortest) {
-    const { first, isProgram, programOutput } = this.options;
+    const { first, kind, programOutput } = this.options;
     const { seed, row } = shortest ?? found;
     const wasShown = shortest === undefined && seed === first;
-    if (!isProgram || programOutput !== undefined || row === undefined || wasShown) return;
+    if (!kind?.printsOnce || programOutput !== undefined || row === undefined || wasShown) return;
     const wanted = { seed, row, whole: false, isExact: true, isTrial: true, isShown: true };
     await this.#atRest(() => this.jobs[0].run([wanted], () => {}));
   }

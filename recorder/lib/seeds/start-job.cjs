@@ -40,7 +40,7 @@ function jobWords(words) {
 
 /**
  * @typedef {object} ExpectedRuns what is known of the runs, so that no more workers begin than are needed
- * @property {boolean} [isProgram] whether it runs a program of several threads, whose workers begin in another way
+ * @property {unknown} [program] that is run, if it is one: its workers begin in another way
  * @property {number} [agents] how many; undefined: the module says it
  * @property {boolean} [everywhere] whether no pilots are made
  */
@@ -54,7 +54,7 @@ function jobWords(words) {
 function startJob(known = {}, { hasGroups } = HERE) {
   const stdio = ["ignore", "inherit", "inherit", "ipc"];
   const execArgv = jobWords(process.execArgv);
-  const workers = known.isProgram ? THREADS : [AGENT, String(firstWorkers(known))];
+  const workers = known.program === undefined ? [AGENT, String(firstWorkers(known))] : THREADS;
   const how = { serialization: /** @type {const} */ ("advanced"), detached: hasGroups, windowsHide: true };
   return fork(PROGRAM, [MODULE, REFEREE, ...workers], { stdio, execArgv, ...how });
 }

@@ -3,10 +3,8 @@
 import { resolve } from "node:path";
 import { OnlyByTimeWaits, onlyByTimeLines } from "../command/only-by-time.mjs";
 import { isExpected, messageOf } from "../command/problems.mjs";
-import { howMade } from "../keeping/how-made.mjs";
+import { keepBesides } from "../keeping/kept-besides.mjs";
 import { RunStore, missingFiles } from "../keeping/run-store.mjs";
-import { keepProgram } from "../keeping/kept-program.mjs";
-import { keepPictures, notesOn } from "../keeping/pictures.mjs";
 import { runsOf } from "../library/explore.mjs";
 import { checkedOwn } from "../library/library-options.mjs";
 import { needFittingAll } from "../options/of-all.mjs";
@@ -162,11 +160,9 @@ function keptLines({ failing, outcome }, options, folder, simulator) {
     const keeper = new RunStore(resolve(folder()), "`out`");
     keeper.keepFirst(failing);
     if (outcome !== failing) keeper.keepShortest(failing, outcome);
-    const noRow = keepProgram(keeper, outcome, options);
-    const pictures = keepPictures(keeper, outcome, { simulator, ...howMade(options) });
-    const notKept = [...noRow, ...pictures, ...missingFiles(outcome)];
+    const { notKept, notes } = keepBesides(keeper, outcome, options, simulator);
     const kept = keeper.names.length === 0 ? [] : [`kept in ${keeper.folder}: ${keeper.names.join(", ")}`];
-    return [...kept, ...notesOn(keeper, outcome), ...notKept];
+    return [...kept, ...notes, ...notKept, ...missingFiles(outcome)];
   } catch (problem) {
     return [`not kept: ${messageOf(problem)}`];
   }

@@ -25,9 +25,11 @@ const whole = (buffer) => buffer;
 
 const PART = range(8, 24);
 const ALL = range(0, BYTES);
-const read = { reads: PART, writes: [] };
-const written = { reads: [], writes: PART };
-const untouched = { reads: [], writes: [] };
+const reads = (list) => ({ reads: list, writes: [] });
+const writes = (list) => ({ reads: [], writes: list });
+const read = reads(PART);
+const written = writes(PART);
+const untouched = reads([]);
 
 /** Whether this node's Response takes an array on shared memory, as a text; else it throws. */
 const TAKES_SHARED = Object.getOwnPropertyDescriptor(globalThis, "Response").get === undefined;
@@ -37,16 +39,12 @@ const COPIES_ANY = doesNotThrow(() => Buffer.from("ab").copy(new Uint16Array(1))
 
 /** What the cases that work do, what they are tried on, and which accesses must be seen. */
 const WORKING = {
-  "copy into words": [
-    words, (array) => Buffer.from("abcdef").copy(array, 2), { reads: [], writes: COPIES_ANY ? range(10, 16) : [] },
-  ],
+  "copy into words": [words, (array) => Buffer.from("abcdef").copy(array, 2), writes(COPIES_ANY ? range(10, 16) : [])],
   ...(TAKES_SHARED ? { "Response": [bytes, (array) => new Response(array).headers.get("content-type"), read] } : {}),
   "TextDecoder.decode": [bytes, (array) => new TextDecoder().decode(array), read],
   "TextDecoder.decode of a DataView": [view, (array) => new TextDecoder().decode(array), read],
-  "TextDecoder.decode of a buffer": [whole, (buffer) => new TextDecoder().decode(buffer), { reads: ALL, writes: [] }],
-  "TextEncoder.encodeInto": [
-    bytes, (array) => new TextEncoder().encodeInto("äbc", array), { reads: [], writes: range(8, 12) },
-  ],
+  "TextDecoder.decode of a buffer": [whole, (buffer) => new TextDecoder().decode(buffer), reads(ALL)],
+  "TextEncoder.encodeInto": [bytes, (array) => new TextEncoder().encodeInto("äbc", array), writes(range(8, 12))],
   "StringDecoder.write": [bytes, (array) => new StringDecoder("utf8").write(array), read],
   "Buffer.from of a view": [bytes, (array) => Buffer.from(array), read],
   "Buffer.from of words": [words, (array) => Buffer.from(array), read],
@@ -101,13 +99,9 @@ const WORKING = {
   "assert.deepEqual of a DataView": [
     view, (array) => assert.deepEqual(array, new DataView(new SharedArrayBuffer(16))), read,
   ],
-  "assert.deepEqual of buffers": [
-    whole, (buffer) => assert.deepEqual(buffer, new SharedArrayBuffer(64)), { reads: ALL, writes: [] },
-  ],
+  "assert.deepEqual of buffers": [whole, (buffer) => assert.deepEqual(buffer, new SharedArrayBuffer(64)), reads(ALL)],
   "isDeepStrictEqual": [words, (array) => isDeepStrictEqual([array], [new Int32Array([...array])]), read],
-  "util.types": [
-    words, (array) => Object.keys(util.types).filter((name) => util.types[name](array)), untouched,
-  ],
+  "util.types": [words, (array) => Object.keys(util.types).filter((name) => util.types[name](array)), untouched],
   "util.types of a DataView": [
     view, (array) => Object.keys(util.types).filter((name) => util.types[name](array)), untouched,
   ],
@@ -118,8 +112,8 @@ const WORKING = {
   "inspect without a way of its own": [words, (array) => inspect({ array }, { customInspect: false }), read],
   "inspect of proxies": [words, (array) => inspect(array, { showProxy: false }), read],
   "inspect of what is hidden": [words, (array) => inspect(array, { showHidden: true }).replace(/<[^>]*>/, ""), read],
-  "inspect of a DataView": [view, (array) => inspect(array), { reads: ALL, writes: [] }],
-  "inspect of a buffer": [whole, (buffer) => inspect(buffer), { reads: ALL, writes: [] }],
+  "inspect of a DataView": [view, (array) => inspect(array), reads(ALL)],
+  "inspect of a buffer": [whole, (buffer) => inspect(buffer), reads(ALL)],
   "inspect of a Buffer": [node, (array) => inspect(array), read],
   "inspect of a Buffer with more": [node, (array) => inspect(Object.assign(array, { more: 1 })), read],
   "inspect of a class": [
@@ -156,8 +150,8 @@ const WORKING = {
     return [first(buffer), vm.runInThisContext("(buffer) => new Uint8Array(buffer)[3]")(buffer),
       new Own("1") instanceof vm.Script, new vm.Script("7", { cachedData }).cachedDataRejected,
       vm.compileFunction("return 7")(), vm.compileFunction("return a", ["a"], { cachedData: undefined })(5)];
-  }, { reads: [0, 3], writes: [] }],
-  "a buffer's slice": [whole, (buffer) => new Uint8Array(buffer.slice(3, -50)), { reads: range(3, 14), writes: [] }],
+  }, reads([0, 3])],
+  "a buffer's slice": [whole, (buffer) => new Uint8Array(buffer.slice(3, -50)), reads(range(3, 14))],
   "a buffer's slice of nothing": [whole, (buffer) => buffer.slice(9, 3), untouched],
 };
 
@@ -165,37 +159,37 @@ const WORKING = {
 const BUFFER = {
   "Buffer.from of a buffer": [node, (array) => [
     array[0], array.length, array.buffer.byteLength, array.parent.byteLength, array.offset, array.constructor.name,
-  ], { reads: [8], writes: [] }],
+  ], reads([8])],
   // Node looks at the first and the last byte that it is going to write.
   "a Buffer's numbers": [node, (array) => [array.readInt32LE(0), array.readUInt16BE(4), array.readDoubleLE(8),
     array.writeInt16LE(7, 2), array.writeFloatBE(1.5, 4), array.readBigUInt64LE(8)],
   { reads: range(8, 24).filter((byte) => byte !== 14), writes: range(10, 16) }],
   "toString": [node, (array) => [array.toString(), String(array)], read],
-  "toString of a part": [node, (array) => array.toString("latin1", 2, 5), { reads: range(10, 13), writes: [] }],
+  "toString of a part": [node, (array) => array.toString("latin1", 2, 5), reads(range(10, 13))],
   "toString of nothing": [node, (array) => [array.toString("hex", 5, 5), array.toString("hex", 90)], untouched],
   "toString in no encoding": [node, (array) => array.toString("nothing", 1)],
-  "utf8Slice": [node, (array) => array.utf8Slice(1, 3), { reads: range(9, 11), writes: [] }],
+  "utf8Slice": [node, (array) => array.utf8Slice(1, 3), reads(range(9, 11))],
   "utf8Slice out of range": [node, (array) => array.utf8Slice(1, 99), untouched],
   "write": [node, (array) => [array.write("äb"), array.write("ff00", 4, "hex"), array.write("abc", 6, 2)],
-    { reads: [], writes: [...range(8, 11), ...range(12, 16)] }],
+    writes([...range(8, 11), ...range(12, 16)])],
   "write out of range": [node, (array) => array.write("abc", 99), untouched],
-  "latin1Write": [node, (array) => array.latin1Write("abc", 1, 2), { reads: [], writes: range(9, 11) }],
+  "latin1Write": [node, (array) => array.latin1Write("abc", 1, 2), writes(range(9, 11))],
   "toJSON": [node, (array) => JSON.stringify(array), read],
   "subarray": [node, (array) => {
     const part = array.subarray(2, 4);
     part[0] = 9;
     return [array[2], part.length, Buffer.isBuffer(part), part.toString("hex")];
   }, { reads: range(10, 12), writes: [10] }],
-  "slice": [node, (array) => array.slice(-3)[0], { reads: [21], writes: [] }],
+  "slice": [node, (array) => array.slice(-3)[0], reads([21])],
   "fill": [node, (array) => [array.fill(1, 2, 4) === array, array.fill("ab", 8) === array],
-    { reads: [], writes: [...range(10, 12), ...range(16, 24)] }],
+    writes([...range(10, 12), ...range(16, 24)])],
   "fill with itself": [node, (array) => array.fill(array) === array, { reads: PART, writes: PART }],
   "copy": [node, (array) => array.copy(array, 4, 1, 3), { reads: range(9, 11), writes: range(12, 14) }],
   "copy to another": [node, (array) => {
     const other = Buffer.alloc(4);
     return [array.copy(other, 1), other.toString("hex")];
-  }, { reads: range(8, 11), writes: [] }],
-  "copy from another": [node, (array) => Buffer.from("abcdef").copy(array, 14), { reads: [], writes: range(22, 24) }],
+  }, reads(range(8, 11))],
+  "copy from another": [node, (array) => Buffer.from("abcdef").copy(array, 14), writes(range(22, 24))],
   "copy out of range": [node, (array) => array.copy(array, -1), untouched],
   "equals": [node, (array) => [array.equals(array), array.equals(Buffer.from([...array]))], read],
   "another equals it": [node, (array) => Buffer.alloc(16).equals(array), read],
@@ -204,23 +198,23 @@ const BUFFER = {
     node, (array) => [array.indexOf(array[3]), array.includes("zz"), array.lastIndexOf(Buffer.from([7]))], read,
   ],
   "a Buffer's method for other bytes": [
-    bytes, (array) => Buffer.prototype.latin1Slice.call(array, 1, 3), { reads: range(9, 11), writes: [] },
+    bytes, (array) => Buffer.prototype.latin1Slice.call(array, 1, 3), reads(range(9, 11)),
   ],
   "indexOf in another": [node, (array) => Buffer.from(array).indexOf(array), read],
   "swap16": [node, (array) => array.swap16() === array, { reads: PART, writes: PART }],
   "swap64": [node, (array) => array.swap64() === array, { reads: PART, writes: PART }],
   "swap32 of a wrong length": [(buffer) => Buffer.from(buffer, 0, 6), (array) => array.swap32(), untouched],
   "keys and values": [(buffer) => Buffer.from(buffer, 8, 2), (array) => [[...array.keys()], [...array]],
-    { reads: [8, 9], writes: [] }],
+    reads([8, 9])],
   "a Buffer's map": [node, (array) => Buffer.isBuffer(array.map((byte) => byte + 1)), read],
   "Buffer.from of its buffer": [node, (array) => Buffer.from(array.buffer, array.byteOffset, 1)[0], { reads: [8] }],
   "Buffer.from of what has a buffer as its value": [
-    whole, (buffer) => Buffer.from({ valueOf: () => buffer })[9], { reads: [9], writes: [] },
+    whole, (buffer) => Buffer.from({ valueOf: () => buffer })[9], reads([9]),
   ],
-  "Buffer's parent": [whole, (buffer) => new (Object.getPrototypeOf(Buffer))(buffer)[1], { reads: [1], writes: [] }],
+  "Buffer's parent": [whole, (buffer) => new (Object.getPrototypeOf(Buffer))(buffer)[1], reads([1])],
   "a Buffer's class": [
     node, (array) => new (Object.getPrototypeOf(NodeBuffer.prototype).constructor)(array.buffer)[1],
-    { reads: [1], writes: [] },
+    reads([1]),
   ],
 };
 

@@ -3,15 +3,15 @@
 // checks every run.
 
 import assert from "node:assert/strict";
-import { mkdtempSync, readFileSync, readdirSync, rmSync, writeFileSync } from "node:fs";
-import { tmpdir } from "node:os";
+import { readFileSync, readdirSync, writeFileSync } from "node:fs";
 import { join } from "node:path";
 import { after, describe, test } from "node:test";
 import { pathToFileURL } from "node:url";
 import { Job } from "../../lib/seeds/job.mjs";
 import { Runs, outcomesOf as taken } from "../../lib/seeds/runs.mjs";
+import { temporaryFolder } from "../helpers/common.mjs";
 import { CHECKER } from "../helpers/needs.mjs";
-import { Opinions } from "../helpers/opinions.mjs";
+import { AskedProcesses } from "../helpers/asked-processes.mjs";
 import { pathOf } from "../helpers/programs.mjs";
 import { whereNodeHasIt } from "../helpers/where-node-has-it.mjs";
 
@@ -20,7 +20,7 @@ const SEEDS = 200;
 const BY_THE_ENGINE = 10;
 
 // About ten scripts of each example: for so few further processes aren't worth their start.
-const opinions = new Opinions(1);
+const opinions = new AskedProcesses("recorder/tests/helpers/opinion-process.mjs", 1);
 after(() => opinions.end());
 
 /**
@@ -160,7 +160,7 @@ describe("examples", () => {
       const calls = outcomes.flatMap(({ progress }) => progress.map((agent) => agent.calls));
       assert.ok(Math.max(...calls) <= 1_000);
       const compare = async ({ seed, script, report }) => {
-        const opinion = await opinions.of(script);
+        const opinion = await opinions.ask(script);
         assert.equal(opinion.report, report, `the engine (actual) and the recorder (expected) differ at seed ${seed}`);
       };
       await Promise.all([...outcomes.slice(0, BY_THE_ENGINE), ...failing.slice(0, 1)].map(compare));
@@ -175,8 +175,7 @@ describe("examples", () => {
 });
 
 describe("the checks of the agents find a lock that isn't one", () => {
-  const folder = mkdtempSync(join(tmpdir(), "examples-"));
-  after(() => rmSync(folder, { recursive: true, force: true }));
+  const folder = temporaryFolder();
 
   const broken = {
     "mutex-naive": "class NaiveMutex { lock() {} unlock() {} }",

@@ -2,13 +2,13 @@
 // ones are found.
 
 import assert from "node:assert/strict";
-import { mkdtempSync, readFileSync, rmSync, writeFileSync } from "node:fs";
-import { tmpdir } from "node:os";
+import { readFileSync, writeFileSync } from "node:fs";
 import { join } from "node:path";
-import { after, test } from "node:test";
+import { test } from "node:test";
 import { fileURLToPath, pathToFileURL } from "node:url";
 import { EDITS, HIDDEN, RIGHT, STARVES, editedText, fileOf } from "../../bench/edits.mjs";
 import { PIECES, counted } from "../../bench/wrong.mjs";
+import { temporaryFolder } from "../helpers/common.mjs";
 
 const README = readFileSync(new URL("../../bench/README.md", import.meta.url), "utf8");
 const AMOUNT = { seeds: 20, jobs: 1 };
@@ -30,8 +30,7 @@ const OFTEN = [
   "queue-lock-by-store", "mutex-2-no-store", "stack-pops-by-store", "filter-greater", "philosophers-no-order",
 ];
 
-const folder = mkdtempSync(join(tmpdir(), "sabsim-wrong-"));
-after(() => rmSync(folder, { recursive: true }));
+const folder = temporaryFolder();
 
 /** Writes a wrong program. @param {import("../../bench/edits.mjs").Edit} edit @returns {string} its file */
 function written(edit) {

@@ -3,17 +3,21 @@
 
 import { readFileSync } from "node:fs";
 
-/** @param {string} file @returns {[string, string][]} its parts, each with its name */
-function partsOf(file) {
-  const text = readFileSync(new URL(file, import.meta.url), "utf8");
-  return text.split(/^## /m).slice(1).map((part) => {
+/** @param {string} text @param {RegExp} head what each part begins with @returns {[string, string][]} with its name */
+function partsOf(text, head) {
+  return text.split(head).slice(1).map((part) => {
     const end = part.indexOf("\n");
     return [part.slice(0, end), part.slice(end + 1).trimEnd()];
   });
 }
 
+/** @param {string} name of a file beside this one @returns {string} */
+const textOf = (name) => readFileSync(new URL(name, import.meta.url), "utf8");
+
 /** Each is the body of an agent's function, by its name. `ld(i)` loads word i, `out(value)` stores word 2. */
-export const BODIES = /** @type {Record<string, string>} */ (Object.freeze(Object.fromEntries(partsOf("bodies.txt"))));
+export const BODIES = /** @type {Record<string, string>} */ (Object.freeze(Object.fromEntries(
+  textOf("bodies.txt").trimEnd().split(/\n(?! )/).map((row) => /^(.*?):\s+([^]*)$/.exec(row)?.slice(1) ?? []),
+)));
 
 /** What the agents of modules do, after the line `AGENT` with the body of the one that loads. */
 const AGENT = `export const setup = { agents: 2, buffers: [16] };
@@ -26,13 +30,9 @@ export default function agent({ buffers, agent: self }) {
 }`;
 
 /** Modules that keep something: of each the texts of its files, the agents' own first. */
-export const MODULES = Object.freeze(Object.fromEntries(partsOf("modules.txt").map(([name, part]) => {
-  const files = part.split(/^# /m).slice(1).map((text) => {
-    const end = text.indexOf("\n");
-    const code = text.slice(end + 1).replace(/^AGENT (.*)$/m, (_, body) => AGENT.replace("BODY", () => body));
-    return /** @type {[string, string]} */ ([text.slice(0, end), code]);
-  });
-  return [name, files];
+export const MODULES = Object.freeze(Object.fromEntries(partsOf(textOf("modules.txt"), /^## /m).map(([name, part]) => {
+  const ofAgent = (/** @type {string} */ _, /** @type {string} */ body) => AGENT.replace("BODY", () => body);
+  return [name, partsOf(part, /^# /m).map(([file, text]) => [file, text.replace(/^AGENT (.*)$/m, ofAgent)])];
 })));
 
 /** @param {string} body @returns {string} the text of a module of two agents */

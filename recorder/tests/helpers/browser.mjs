@@ -1,6 +1,7 @@
 // A real browser, for tests of pages: Chromium without a screen, by its own protocol over two pipes.
 
 import { spawn, spawnSync } from "node:child_process";
+import { once } from "node:events";
 import { mkdtempSync, rmSync } from "node:fs";
 import { tmpdir } from "node:os";
 import { join } from "node:path";
@@ -9,7 +10,7 @@ import { hasSabsim, needing, withSabsim } from "./needs.mjs";
 
 const NAMES = ["chromium", "chromium-browser", "google-chrome", "google-chrome-stable"];
 /** What takes longer hangs. */
-const MOST_MILLISECONDS = 300_000;
+export const MOST_MILLISECONDS = 300_000;
 
 /** The browser of this machine, or undefined. */
 export const BROWSER = NAMES.find((name) => spawnSync(name, ["--version"]).status === 0);
@@ -28,38 +29,46 @@ const KEY_CODES = {
   Enter: 13,
 };
 
-// So many times, and so many milliseconds apart.
-const REMOVALS = 50;
-const REMOVAL_MILLISECONDS = 100;
+/** A browser that is started here with a folder of its own, and that is asked for things. */
+export class StartedBrowser {
+  room = mkdtempSync(join(tmpdir(), "recorder-browser-"));
+  count = 0;
+  /** @type {Map<number, (answer: any) => void>} */
+  asked = new Map();
 
-/**
- * Removes the folder of a browser that has ended. Processes that it began may still write there for a moment.
- * @param {string} room
- */
-export async function removed(room) {
-  for (let left = REMOVALS; ; left -= 1) {
-    try {
-      rmSync(room, { recursive: true, force: true });
-      return;
-    } catch (error) {
-      if (error.code !== "ENOTEMPTY" || left === 0) throw error;
-      await sleep(REMOVAL_MILLISECONDS);
-    }
+  /** @param {string} program @param {string[]} words @param {object} [env] @param {any} [stdio] */
+  start(program, words, env = {}, stdio = "ignore") {
+    this.child = spawn(program, words, { stdio, env: { ...process.env, HOME: this.room, ...env } });
+    this.ended = once(this.child, "exit");
+  }
+
+  /** The answer to what is asked for. @param {number} id @param {string} what @returns {Promise<any>} */
+  answerTo(id, what) {
+    return new Promise((done, fail) => {
+      const timer = setTimeout(() => fail(new Error(`${what} took too long`)), MOST_MILLISECONDS);
+      this.asked.set(id, (message) => {
+        clearTimeout(timer);
+        done(message);
+      });
+    });
+  }
+
+  /** Ends it. @param {number} milliseconds after which it is killed */
+  async end(milliseconds) {
+    const timer = setTimeout(() => this.child.kill("SIGKILL"), milliseconds);
+    this.child.kill();
+    await this.ended;
+    clearTimeout(timer);
+    // Processes that it began may still write there for a moment.
+    rmSync(this.room, { recursive: true, force: true, maxRetries: 10, retryDelay: 100 });
   }
 }
 
-export class Browser {
+export class Browser extends StartedBrowser {
   constructor() {
-    this.room = mkdtempSync(join(tmpdir(), "recorder-browser-"));
+    super();
     const stdio = ["ignore", "ignore", "ignore", "pipe", "pipe"];
-    const env = { ...process.env, HOME: this.room };
-    this.child = spawn(BROWSER, [...WORDS, `--user-data-dir=${this.room}`], { stdio, env });
-    this.ended = new Promise((done) => {
-      this.child.on("exit", done);
-    });
-    this.count = 0;
-    /** @type {Map<number, (answer: object) => void>} */
-    this.asked = new Map();
+    this.start(BROWSER, [...WORDS, `--user-data-dir=${this.room}`], {}, stdio);
     /** @type {{ method: string, params: any, sessionId?: string }[]} */
     this.events = [];
     let text = "";
@@ -82,15 +91,9 @@ export class Browser {
   async send(method, params = {}, sessionId) {
     this.count += 1;
     const id = this.count;
-    const answer = new Promise((done, fail) => {
-      const timer = setTimeout(() => fail(new Error(`${method} took too long`)), MOST_MILLISECONDS);
-      this.asked.set(id, (message) => {
-        clearTimeout(timer);
-        done(message);
-      });
-    });
+    const answer = this.answerTo(id, method);
     this.child.stdio[3].write(`${JSON.stringify({ id, method, params, sessionId })}\0`);
-    const { result, error } = /** @type {any} */ (await answer);
+    const { result, error } = await answer;
     if (error !== undefined) throw new Error(`${method}: ${error.message}`);
     return result;
   }
@@ -107,13 +110,9 @@ export class Browser {
     return page;
   }
 
-  async close() {
+  close() {
     this.child.stdio[3].end();
-    const timer = setTimeout(() => this.child.kill("SIGKILL"), 5_000);
-    this.child.kill();
-    await this.ended;
-    clearTimeout(timer);
-    await removed(this.room);
+    return this.end(5_000);
   }
 }
 
@@ -135,9 +134,7 @@ class Tab {
     await this.send("Page.navigate", { url });
     for (const end = Date.now() + MOST_MILLISECONDS; this.#eventsOf("Page.loadEventFired").length === before;) {
       if (Date.now() > end) throw new Error(`${url} wasn't loaded`);
-      await new Promise((done) => {
-        setTimeout(done, 10);
-      });
+      await sleep(10);
     }
   }
 

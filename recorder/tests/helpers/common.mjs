@@ -1,12 +1,14 @@
 // What the tests share.
 
+import assert from "node:assert/strict";
 import { execFile, spawnSync } from "node:child_process";
 import { mkdtempSync, readFileSync, readdirSync, rmSync, writeFileSync } from "node:fs";
 import { tmpdir } from "node:os";
 import { join } from "node:path";
+import { after } from "node:test";
 import { setTimeout as sleep } from "node:timers/promises";
 import { fileURLToPath } from "node:url";
-import { record } from "../../recorder.mjs";
+import { Refused, record } from "../../recorder.mjs";
 import { NOWHERE } from "./needs.mjs";
 
 /** An environment that chooses a program which isn't there. */
@@ -21,16 +23,24 @@ export const RECORD = fileURLToPath(new URL("../../record.mjs", import.meta.url)
 /** @typedef {{ status: number, stdout: string, stderr: string }} Ended */
 
 /**
- * Runs the command line in a process of its own, beside others.
+ * Runs node in a process of its own, beside others.
  * @param {string[]} words
- * @param {object} [options] of execFile
+ * @param {{ input?: string } & object} [options] its standard input, and those of execFile
  * @returns {Promise<Ended>}
  */
-export const commandThere = (words, options = {}) => new Promise((done) => {
-  execFile(process.execPath, [RECORD, ...words], options, (error, stdout, stderr) => {
+export const nodeThere = (words, { input = "", ...options } = {}) => new Promise((done) => {
+  const child = execFile(process.execPath, words, { maxBuffer: 2 ** 28, ...options }, (error, stdout, stderr) => {
     done({ status: Number(error?.code ?? 0), stdout, stderr });
   });
+  child.stdin.end(input);
 });
+
+/**
+ * Runs the command line so.
+ * @param {string[]} words
+ * @param {object} [options]
+ */
+export const commandThere = (words, options) => nodeThere([RECORD, ...words], options);
 
 /**
  * Runs node to its end, while nothing else goes on here.
@@ -51,13 +61,22 @@ export function nodeNow(words, options = {}) {
 export const commandNow = (words, options) => nodeNow([RECORD, ...words], options);
 
 /**
+ * What node has printed as JSON, without an error.
+ * @param {Ended} ended
+ */
+export function jsonOf({ stdout, stderr }) {
+  assert.equal(stderr, "");
+  return JSON.parse(stdout);
+}
+
+/**
  * What a process prints, and how it ends.
  * @param {import("node:child_process").ChildProcess} child
  * @returns {Promise<Ended & { signal: string | null }>}
  */
 export function endOf(child) {
   const texts = { stdout: "", stderr: "" };
-  for (const name of ["stdout", "stderr"]) child[name].setEncoding("utf8").on("data", (text) => (texts[name] += text));
+  for (const name of ["stdout", "stderr"]) child[name]?.setEncoding("utf8").on("data", (text) => (texts[name] += text));
   return new Promise((done) => {
     child.on("close", (status, signal) => done({ ...texts, status, signal }));
   });
@@ -78,10 +97,10 @@ export function recordCase(name, options = {}) {
 }
 
 /**
- * A folder that is gone after the test.
- * @param {import("node:test").TestContext} test
+ * A folder that is gone after the test, or without one after the tests of the file or of the suite.
+ * @param {{ after: (act: () => void) => void }} [test]
  */
-export function temporaryFolder(test) {
+export function temporaryFolder(test = { after }) {
   const folder = mkdtempSync(join(tmpdir(), "recorder-"));
   test.after(() => rmSync(folder, { recursive: true, force: true }));
   return folder;
@@ -110,10 +129,37 @@ export function moduleOf(test, text) {
   return path;
 }
 
+/**
+ * Writes a program of the shell's.
+ * @param {string} folder
+ * @param {string} code
+ * @returns {string} its path
+ */
+export function shellProgram(folder, code) {
+  const path = join(folder, "program");
+  writeFileSync(path, `#!/bin/sh\n${code}\n`, { mode: 0o755 });
+  return path;
+}
+
+/** What a program does that always reports one begin, which no run has alone. */
+export const LIES = "cat > /dev/null\necho '0 0 0 begin'";
+
 /** A module of two agents, each of which adds 1. */
 export const COUNTS = `export const setup = { agents: 2, buffers: [4] };
 export default ({ buffers }) => void Atomics.add(new Int32Array(buffers[0]), 0, 1);
 `;
+
+/**
+ * What `assert.throws` demands of a refusal: it says why, in one line.
+ * @param {RegExp} why
+ * @param {string} [what] was asked for
+ * @returns {(error: Error) => boolean}
+ */
+export const refusedInALine = (why, what = "") => (error) => {
+  assert.ok(error instanceof Refused, `${what}: ${error.stack}`);
+  assert.match(error.message, why);
+  return !error.message.includes("\n");
+};
 
 /** The processes whose environment has a word, which all children of a process inherit. */
 export function processesWith(word) {

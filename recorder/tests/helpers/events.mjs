@@ -16,7 +16,7 @@ const SIZES = [1, 2, 4, 4, 4, 8];
 /**
  * The events of a seed, each with a source of its own.
  * @param {number} seed
- * @returns {import("./second-detector.mjs").Event[]}
+ * @returns {import("./slow-judge.mjs").Event[]}
  */
 export function randomEvents(seed) {
   const dice = new Dice(seed);

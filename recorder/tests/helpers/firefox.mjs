@@ -1,17 +1,14 @@
 // Firefox without a screen, for tests of pages, by its own protocol (Marionette) over a socket. It can do what
 // `browser.mjs` can, except for what a screen reader gets.
 
-import { spawn, spawnSync } from "node:child_process";
-import { existsSync, mkdtempSync, readFileSync, writeFileSync } from "node:fs";
+import { spawnSync } from "node:child_process";
+import { existsSync, readFileSync, writeFileSync } from "node:fs";
 import { connect } from "node:net";
-import { tmpdir } from "node:os";
 import { join } from "node:path";
 import { setTimeout as sleep } from "node:timers/promises";
-import { removed } from "./browser.mjs";
+import { MOST_MILLISECONDS, StartedBrowser } from "./browser.mjs";
 
 const NAMES = ["firefox-esr", "firefox"];
-/** What takes longer hangs. */
-const MOST_MILLISECONDS = 300_000;
 
 /** The Firefox of this machine, or undefined. */
 export const FIREFOX = NAMES.find((name) => spawnSync(name, ["--version"]).status === 0);
@@ -34,7 +31,7 @@ const settingsOf = (room) => ({
 
 const BACKGROUNDS = { dark: 0, light: 1 };
 
-export class Firefox {
+export class Firefox extends StartedBrowser {
   /** Starts one. */
   static async begun() {
     const firefox = new Firefox();
@@ -43,20 +40,13 @@ export class Firefox {
   }
 
   constructor() {
-    this.room = mkdtempSync(join(tmpdir(), "recorder-firefox-"));
+    super();
     const lines = Object.entries(settingsOf(this.room)).map(([name, value]) => {
       return `user_pref(${JSON.stringify(name)}, ${JSON.stringify(value)});\n`;
     });
     writeFileSync(join(this.room, "user.js"), lines.join(""));
     const words = ["--headless", "--no-remote", "--marionette", "--remote-allow-system-access", "--profile", this.room];
-    const env = { ...process.env, HOME: this.room, MOZ_HEADLESS: "1" };
-    this.child = spawn(FIREFOX, words, { stdio: "ignore", env });
-    this.ended = new Promise((done) => {
-      this.child.on("exit", done);
-    });
-    this.count = 0;
-    /** @type {Map<number, (answer: any[]) => void>} */
-    this.asked = new Map();
+    this.start(FIREFOX, words, { MOZ_HEADLESS: "1" });
   }
 
   async #connect() {
@@ -95,15 +85,9 @@ export class Firefox {
   async send(name, params = {}) {
     this.count += 1;
     const text = JSON.stringify([0, this.count, name, params]);
-    const answer = new Promise((done, fail) => {
-      const timer = setTimeout(() => fail(new Error(`${name} took too long`)), MOST_MILLISECONDS);
-      this.asked.set(this.count, (message) => {
-        clearTimeout(timer);
-        done(message);
-      });
-    });
+    const answer = this.answerTo(this.count, name);
     this.socket.write(`${Buffer.byteLength(text)}:${text}`);
-    const [, , error, result] = /** @type {any} */ (await answer);
+    const [, , error, result] = await answer;
     if (error !== null) throw new Error(`${name}: ${error.message}`);
     return result;
   }
@@ -161,12 +145,8 @@ export class Firefox {
     return Buffer.from((await this.send("WebDriver:TakeScreenshot", { full: false })).value, "base64");
   }
 
-  async close() {
-    const timer = setTimeout(() => this.child.kill("SIGKILL"), 10_000);
+  close() {
     this.socket?.destroy();
-    this.child.kill();
-    await this.ended;
-    clearTimeout(timer);
-    await removed(this.room);
+    return this.end(10_000);
   }
 }

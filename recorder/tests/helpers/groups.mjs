@@ -5,8 +5,8 @@ import { moduleUrl } from "../../lib/library/module-url.mjs";
 import { Group } from "../../lib/run/group.mjs";
 
 /**
- * A group that ends with the test.
- * @param {import("node:test").TestContext} context
+ * A group that ends with the test, or with all tests of the file.
+ * @param {{ after: (act: () => Promise<void>) => void }} context
  * @param {string | URL} module of agents
  * @param {object} [options]
  */

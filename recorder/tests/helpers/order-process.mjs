@@ -10,7 +10,7 @@ const [seeds, own, ...urls] = process.argv.slice(2);
 const STDERR = 2;
 // In node what these programs do takes nearly no time. So no timer of theirs is up while something else can be done.
 const timeouts = 0;
-const always = { ...defaultsOf("record"), timeouts, isProgram: true, seconds: 20, args: [], module: urls[0] };
+const always = { ...defaultsOf("record"), timeouts, program: true, seconds: 20, args: [], module: urls[0] };
 const options = { ...always, ...JSON.parse(own) };
 const group = /** @type {ProgramGroup} */ (await ProgramGroup.open(options));
 for (const url of urls) {

@@ -22,7 +22,7 @@ const FIRST_PART = 5;
 export class TableRuns {
   /** @param {object} [own] options besides @returns {Promise<TableRuns>} */
   static async open(own = {}) {
-    const options = { ...defaultsOf("record"), isProgram: true, seconds: 20, args: [],
+    const options = { ...defaultsOf("record"), program: true, seconds: 20, args: [],
       module: new URL("main.mjs", FOLDER).href };
     const group = await ProgramGroup.open({ ...options, ...own });
     return new TableRuns(/** @type {ProgramGroup} */ (group));

@@ -45,7 +45,7 @@ async function runsOf(group, module, { seeds, isFresh }) {
  * @returns {Promise<Record<string, OfProgram>>} by their names
  */
 export async function sameRuns(names, seeds, { isFresh = false } = {}) {
-  const options = { ...defaultsOf("record"), isProgram: true, seconds: 20, args: [],
+  const options = { ...defaultsOf("record"), program: true, seconds: 20, args: [],
     module: new URL("main.mjs", FOLDER).href };
   const group = /** @type {ProgramGroup} */ (await ProgramGroup.open(/** @type {any} */ (options)));
   /** @type {Record<string, OfProgram>} */

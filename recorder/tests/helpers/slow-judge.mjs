@@ -9,6 +9,8 @@ export const MEMBERS = [
 /**
  * @typedef {object} Event a line of a trace (docs/FORMATS.md, A trace of the recorder)
  * @property {number} agent
+ * @property {number} call
+ * @property {string} does
  * @property {number} block
  * @property {number} byte
  * @property {number} size
@@ -16,6 +18,7 @@ export const MEMBERS = [
  * @property {boolean} write
  * @property {boolean} atomic
  * @property {boolean} waiters
+ * @property {any} source
  */
 
 /**
@@ -207,6 +210,25 @@ function raceOf(events, writers, before, i, j) {
   const seen = lastSeen(events, before, i, j);
   const parts = { block: events[i].block, byte, data_race: isDataRace(events, writers, before, i, j), first, second };
   return seen < 0 ? { ...parts, size } : { ...parts, seen, size };
+}
+
+/**
+ * The pairs of events that race.
+ * @param {Event[]} events in their order
+ * @returns {[number, number][]} their indices, the smaller one first
+ */
+export function slowRaces(events) {
+  const pairs = slowJudge(events).races.map(({ first, second }) => /** @type {const} */ ([first.event, second.event]));
+  return pairs.sort(([one, other], [first, second]) => one - first || other - second);
+}
+
+/**
+ * The different pairs of lines that race, in the words of a summary.
+ * @param {Event[]} events in their order
+ */
+export function racingLines(events) {
+  const lineOf = (/** @type {number} */ at) => events[at].source.split("/").at(-1);
+  return [...new Set(slowRaces(events).map((pair) => pair.map(lineOf).sort().join(" and ")))].sort();
 }
 
 /** The events of a trace. @param {string} trace lines of JSON @returns {Event[]} */

@@ -21,7 +21,19 @@ import { CHECKER } from "./needs.mjs";
 export const endingsOf = (outcomes) => [...new Set(outcomes.map(({ ending, detail }) => `${ending}: ${detail}`))];
 
 /** What is left of the recorder's own defaults. */
-const OPTIONS = Object.freeze({ ...defaultsOf("record"), isProgram: true, seconds: 20 });
+const OPTIONS = Object.freeze({ ...defaultsOf("record"), program: true, seconds: 20 });
+
+/**
+ * How main begins that shares `words` with a worker, which `started` starts.
+ * @param {number} bytes how many the words take
+ */
+export const mainWith = (bytes) => `import { Worker } from "node:worker_threads";
+const words = new Int32Array(new SharedArrayBuffer(${bytes}));
+const started = (more) => new Worker(new URL("./worker.mjs", import.meta.url), { workerData: words, ...more });
+`;
+
+/** How the worker begins that gets these words. */
+export const WORKER = 'import { parentPort, workerData as words } from "node:worker_threads";\n';
 
 /**
  * Writes the files of a program.

@@ -1,27 +1,8 @@
 // Right: Peterson's lock for two. Who comes in reads what the other one wrote when it left, or when it came again.
 
+import { Peterson } from "./shared/peterson.mjs";
+
 export const setup = { agents: 2, buffers: [12, 4] };
-
-const TURN = 2;
-
-class Peterson {
-  constructor(words, self) {
-    this.words = words;
-    this.self = self;
-  }
-
-  lock() {
-    const { words, self } = this;
-    const other = 1 - self;
-    Atomics.store(words, self, 1);
-    Atomics.store(words, TURN, other);
-    while (Atomics.load(words, other) === 1 && Atomics.load(words, TURN) === other);
-  }
-
-  unlock() {
-    Atomics.store(this.words, this.self, 0);
-  }
-}
 
 export default function agent({ buffers, agent }) {
   const lock = new Peterson(new Int32Array(buffers[0]), agent);

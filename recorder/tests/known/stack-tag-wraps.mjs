@@ -1,8 +1,9 @@
 // Wrong: the number beside the top has two bits: after four changes it is the same, so a late compareExchange succeeds.
 
+import { Stack, TOP } from "./shared/stack.mjs";
+
 export const setup = { agents: 2, buffers: [16, 4] };
 
-const TOP = 0;
 const NODES = 4;
 const NUMBERS = 4;
 const IS_MINE = 1;
@@ -12,36 +13,8 @@ export function init(buffers) {
   new Int32Array(buffers[0]).set([1, 2, 3, 0]);
 }
 
-class Stack {
-  constructor(words) {
-    this.words = words;
-  }
-
-  #swap(top, node) {
-    const number = (Math.floor(top / NODES) + 1) % NUMBERS;
-    return Atomics.compareExchange(this.words, TOP, top, number * NODES + node) === top;
-  }
-
-  pop() {
-    for (;;) {
-      const top = Atomics.load(this.words, TOP);
-      const node = top % NODES;
-      if (node === 0) return 0;
-      if (this.#swap(top, Atomics.load(this.words, node))) return node;
-    }
-  }
-
-  push(node) {
-    for (;;) {
-      const top = Atomics.load(this.words, TOP);
-      Atomics.store(this.words, node, top % NODES);
-      if (this.#swap(top, node)) return;
-    }
-  }
-}
-
 export default function agent({ buffers, agent }) {
-  const stack = new Stack(new Int32Array(buffers[0]));
+  const stack = new Stack(new Int32Array(buffers[0]), NODES, NUMBERS);
   if (agent === 0) {
     stack.pop();
     return;

@@ -1,32 +1,11 @@
 // Right: who comes draws a ticket, and waits until it is served.
 
+import { TicketLock } from "./shared/ticket-lock.mjs";
+
 export const setup = { agents: 3, buffers: [8, 6] };
 
-const NEXT = 0;
-const SERVED = 1;
-
-class TicketLock {
-  constructor(words) {
-    this.words = words;
-  }
-
-  lock() {
-    const ticket = Atomics.add(this.words, NEXT, 1);
-    for (;;) {
-      const served = Atomics.load(this.words, SERVED);
-      if (served === ticket) return;
-      Atomics.wait(this.words, SERVED, served);
-    }
-  }
-
-  unlock() {
-    Atomics.add(this.words, SERVED, 1);
-    Atomics.notify(this.words, SERVED);
-  }
-}
-
 export default function agent({ buffers, agent }) {
-  const lock = new TicketLock(new Int32Array(buffers[0]));
+  const lock = new TicketLock(new Int32Array(buffers[0]), (words, at) => Atomics.add(words, at, 1));
   const names = new Uint16Array(buffers[1]);
   lock.lock();
   names.copyWithin(1, 0);

@@ -50,7 +50,7 @@ async function made(context, way, options = {}) {
   const job = new Job();
   const outcomes = [];
   const module = pathToFileURL(programOf(context, FILES)).href;
-  const asked = { ...defaultsOf("record"), isProgram: true, seconds: 20, checks: true, checkEvery: 1, module,
+  const asked = { ...defaultsOf("record"), program: true, seconds: 20, checks: true, checkEvery: 1, module,
     args: [way] };
   const seeds = Array.from({ length: 8 }, (_, at) => ({ seed: at + 1, whole: true, isSilent: true }));
   try {

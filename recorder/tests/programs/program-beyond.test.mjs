@@ -6,7 +6,7 @@ import { readdirSync, readFileSync } from "node:fs";
 import { dirname, join } from "node:path";
 import { describe, it } from "node:test";
 import { commandThere } from "../helpers/common.mjs";
-import { programOf, runsOf } from "../helpers/whole-programs.mjs";
+import { WORKER, mainWith, programOf, runsOf } from "../helpers/whole-programs.mjs";
 
 const BEYOND = "a thread made more than 1000 calls, which no script can have: "
   + "sabsim judges only the trace of such a run";
@@ -15,13 +15,10 @@ const MISSED = "it has more than 16,384 messages, the most that can be told apar
 
 /** @param {string} act of the worker, done again and again @param {string} last what main does at the end */
 const filesOf = (act, last) => ({
-  "main.mjs": `import { Worker } from "node:worker_threads";
-const words = new Int32Array(new SharedArrayBuffer(8));
-new Worker(new URL("./worker.mjs", import.meta.url), { workerData: words }).on("exit", () => {
+  "main.mjs": `${mainWith(8)}started().on("exit", () => {
   ${last}
 });`,
-  "worker.mjs": `import { workerData as words } from "node:worker_threads";
-${act}`,
+  "worker.mjs": `${WORKER}${act}`,
 });
 
 const ADDS = "for (let at = 0; at < 1_200; at += 1) Atomics.add(words, 0, 1);";
@@ -58,14 +55,14 @@ describe("more than 1,000 calls of a thread", { concurrency: 3 }, () => {
     const main = files["main.mjs"].replace('.on("exit"', ";\nwords[1] = 8;\nprocess.once(\"exit\"");
     const [outcome] = await runsOf(context, { ...files, "main.mjs": main });
     assert.deepEqual([outcome.ending, outcome.noScript], ["race", BEYOND]);
-    assert.deepEqual(outcome.races.map(({ lines }) => [...lines].sort()), [["main.mjs:4:10", "worker.mjs:3:10"]]);
+    assert.deepEqual(outcome.races.map(({ lines }) => [...lines].sort()), [["main.mjs:5:10", "worker.mjs:3:10"]]);
   });
 
   it("are a spin if they are the same again and again", async (context) => {
     const spins = `${ADDS}\nwhile (Atomics.load(words, 1) === 0);`;
     const [outcome] = await runsOf(context, filesOf(spins, ""));
     assert.equal(outcome.ending, "limit");
-    assert.match(outcome.detail, new RegExp("^agent 1 \\(worker\\.mjs, started at main\\.mjs:3:1\\) spins at "
+    assert.match(outcome.detail, new RegExp("^agent 1 \\(worker\\.mjs, started at main\\.mjs:3:27\\) spins at "
       + "worker\\.mjs:3:16: it has made 2000 calls, and goes on"));
   });
 
@@ -94,7 +91,7 @@ describe("more than 1,000 calls of a thread", { concurrency: 3 }, () => {
     for (const outcome of await runsOf(context, { ...files, "main.mjs": main }, { seeds: [1, 2, 3] })) {
       assert.equal(outcome.ending, "limit");
       assert.match(outcome.detail,
-        /^agent \d (\(.*\) )?spins at (main\.mjs:6:16|worker\.mjs:2:16): it has made [23]000 calls/);
+        /^agent \d (\(.*\) )?spins at (main\.mjs:7:16|worker\.mjs:2:16): it has made [23]000 calls/);
     }
   });
 

@@ -23,7 +23,7 @@ after(async () => (await opened)?.close());
 
 /** @param {string} module of the first program @returns {Promise<ProgramGroup>} */
 async function groupWith(module) {
-  const options = { ...defaultsOf("record"), isProgram: true, seconds: 20, module, args: [], programOutput: "none" };
+  const options = { ...defaultsOf("record"), program: true, seconds: 20, module, args: [], programOutput: "none" };
   return /** @type {ProgramGroup} */ (await ProgramGroup.open(/** @type {any} */ (options)));
 }
 

@@ -2,39 +2,26 @@
 // print the same each time.
 
 import assert from "node:assert/strict";
-import { execFile } from "node:child_process";
-import { mkdirSync, mkdtempSync, readFileSync, realpathSync, rmSync, writeFileSync } from "node:fs";
-import { tmpdir } from "node:os";
-import { dirname, join } from "node:path";
-import { after, test } from "node:test";
+import { readFileSync, realpathSync, writeFileSync } from "node:fs";
+import { join } from "node:path";
+import { test } from "node:test";
 import { fileURLToPath, pathToFileURL } from "node:url";
-import { promisify } from "node:util";
 import { Worker } from "node:worker_threads";
 import { GRAPH_FLAGS } from "../../lib/program/graph-flags.cjs";
+import { jsonOf, nodeThere, temporaryFolder } from "../helpers/common.mjs";
+import { programIn } from "../helpers/whole-programs.mjs";
 
 const FLAGS = ["--no-warnings", ...GRAPH_FLAGS];
 const PROCESS = fileURLToPath(new URL("../helpers/graph-process.mjs", import.meta.url));
 
-function programIn(folder, files) {
-  for (const [name, text] of Object.entries(files)) {
-    mkdirSync(dirname(join(folder, name)), { recursive: true });
-    writeFileSync(join(folder, name), text);
-  }
-}
-
-const execute = promisify(execFile);
-
 /** What each of some runs in one thread prints, for each of some programs. */
 async function ownRuns(urls, runs = 3, flags = []) {
-  const words = [...FLAGS, ...flags, PROCESS, JSON.stringify(urls), String(runs)];
-  const { stdout, stderr } = await execute(process.execPath, words, { maxBuffer: 2 ** 24 });
-  assert.equal(stderr, "");
-  return JSON.parse(stdout);
+  return jsonOf(await nodeThere([...FLAGS, ...flags, PROCESS, JSON.stringify(urls), String(runs)]));
 }
 
 /** What node itself prints. */
 async function realRun(file) {
-  const { stdout, stderr } = await execute(process.execPath, ["--no-warnings", file]);
+  const { stdout, stderr } = await nodeThere(["--no-warnings", file]);
   assert.equal(stderr, "");
   return stdout.slice(0, -1).split("\n");
 }
@@ -332,13 +319,10 @@ notThere();`,
   },
 };
 
-const folder = mkdtempSync(join(tmpdir(), "recorder-"));
-after(() => rmSync(folder, { recursive: true, force: true }));
+const folder = temporaryFolder();
 
-const mains = Object.entries(PROGRAMS).map(([name, files], at) => {
-  programIn(join(folder, String(at)), files);
-  return { name, main: join(folder, String(at), Object.keys(files).find((file) => /^main\./.test(file))) };
-});
+const mains = Object.entries(PROGRAMS).map(([name, files], at) =>
+  ({ name, main: programIn(join(folder, String(at)), files) }));
 const own = ownRuns(mains.map(({ main }) => pathToFileURL(main).href));
 const real = Promise.all(mains.map(({ main }) => realRun(main)));
 
@@ -478,8 +462,7 @@ test("graphs that are over are garbage: memory and time of a run stay", async ()
     console.log(JSON.stringify({ heaps, times }));`;
   const file = join(folder, "memory/counts.mjs");
   writeFileSync(file, code);
-  const words = ["--expose-gc", ...FLAGS, file];
-  const { heaps, times } = JSON.parse((await execute(process.execPath, words)).stdout);
+  const { heaps, times } = jsonOf(await nodeThere(["--expose-gc", ...FLAGS, file]));
   assert.ok(heaps[3] < heaps[0] * 1.2, `bytes after each 150 runs: ${heaps}`);
   assert.ok(times[3] < times[0] * 2, `milliseconds of the quickest of each 150 runs: ${times}`);
 });

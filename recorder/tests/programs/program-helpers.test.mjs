@@ -13,7 +13,7 @@ import { Run } from "../../page/model.mjs";
 import { readReport } from "../../schedule/report-entries.mjs";
 import { TableRuns } from "../helpers/program-findings.mjs";
 import { simulated } from "../helpers/simulate.mjs";
-import { runsOf } from "../helpers/whole-programs.mjs";
+import { WORKER, mainWith, runsOf } from "../helpers/whole-programs.mjs";
 import { PROGRAMS, urlOf } from "../programs/table.mjs";
 
 const SEEDS = 200;
@@ -21,7 +21,6 @@ const SEEDS = 200;
 /** Memory that another thread could reach: it is block 0. */
 const SHARED = `const words = new Int32Array(new SharedArrayBuffer(16));
 new MessageChannel().port1.postMessage(words);\n`;
-const WORKER = 'import { workerData as words } from "node:worker_threads";\n';
 
 /** The script's calls of that message, and of an agent at a word. */
 const MESSAGE = ["notify", "Int32_b3", 0, 0];
@@ -202,12 +201,10 @@ it("a run with helpers is judged by its trace: no script orders a thread's acces
 describe("a notify in a script", () => {
   it("wakes threads that sleep and helpers in the order in which they came, and counts both", async (context) => {
     const outcomes = await runsOf(context, {
-      "main.mjs": `import { Worker } from "node:worker_threads";
-        const words = new Int32Array(new SharedArrayBuffer(16));
-        new MessageChannel().port1.postMessage(words);
+      "main.mjs": `${mainWith(16)}new MessageChannel().port1.postMessage(words);
         const wait = () => Atomics.waitAsync(words, 0, 0).value;
         const waits = [wait(), wait()];
-        new Worker(new URL("./worker.mjs", import.meta.url), { workerData: words });
+        started();
         // The worker sleeps when nothing else can move. A thread that is woken goes on before the next notify.
         const others = () => new Promise((done) => setTimeout(done, 5_000));
         await others();
@@ -227,9 +224,7 @@ describe("a notify in a script", () => {
 
   it("would wake helpers of a thread that has ended: then no script, sabsim judges the trace", async (context) => {
     const files = (/** @type {string} */ then) => ({
-      "main.mjs": `import { Worker } from "node:worker_threads";
-        const words = new Int32Array(new SharedArrayBuffer(16));
-        new Worker(new URL("./worker.mjs", import.meta.url), { workerData: words }).on("exit", () => { ${then} });`,
+      "main.mjs": `${mainWith(16)}started().on("exit", () => { ${then} });`,
       "worker.mjs": `${WORKER}Atomics.waitAsync(words, 0, 0);`,
     });
     const [[there], [elsewhere]] = [
@@ -347,9 +342,7 @@ throw new Error("mine");`,
 
 it("a deadlock's step on the page is the wait of a thread", async (context) => {
   const [outcome] = await runsOf(context, {
-    "main.mjs": `import { Worker } from "node:worker_threads";
-      const words = new Int32Array(new SharedArrayBuffer(16));
-      new Worker(new URL("./worker.mjs", import.meta.url), { workerData: words });
+    "main.mjs": `${mainWith(16)}started();
       setTimeout(() => Atomics.waitAsync(words, 1, 0), 5_000);`,
     "worker.mjs": `${WORKER}Atomics.wait(words, 0, 0);`,
   }, { options: { timeouts: 0 } });

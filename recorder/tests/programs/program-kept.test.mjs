@@ -89,7 +89,7 @@ describe("threads that are kept", () => {
     });
     const module = pathToFileURL(main).href;
     // Pilots would be runs of these threads, too.
-    const options = { ...defaultsOf("record"), isProgram: true, seconds: 20, args: [], module, everywhere: true };
+    const options = { ...defaultsOf("record"), program: true, seconds: 20, args: [], module, everywhere: true };
     const group = await ProgramGroup.open(options);
     context.after(() => group.close());
     const moves = [];

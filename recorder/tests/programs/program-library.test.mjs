@@ -1,8 +1,7 @@
 // Whole programs by the library and by `sabsim/test`: the same runs as those of the command line.
 
 import assert from "node:assert/strict";
-import { spawn } from "node:child_process";
-import { mkdirSync, readFileSync, readdirSync, realpathSync, writeFileSync } from "node:fs";
+import { readFileSync, readdirSync, realpathSync, writeFileSync } from "node:fs";
 import { dirname, join } from "node:path";
 import { test } from "node:test";
 import { fileURLToPath, pathToFileURL } from "node:url";
@@ -10,6 +9,7 @@ import { Refused, explore, record } from "../../recorder.mjs";
 import { assertProgram } from "../../testing.mjs";
 import { commandHere } from "../helpers/command-here.mjs";
 import { agentsPath, temporaryFolder } from "../helpers/common.mjs";
+import { suiteIn } from "../helpers/suites.mjs";
 
 /** @param {string} main of a program with a known answer */
 const knownProgram = (main) => fileURLToPath(new URL(`../programs/${main}`, import.meta.url));
@@ -117,25 +117,12 @@ test("just one of module and program is given, and each has its own options", as
 async function suite(context, code) {
   // A suite works in this folder, and node knows its files by their own paths.
   const folder = realpathSync(temporaryFolder(context));
-  const temporary = join(folder, "temporary");
-  mkdirSync(temporary);
   for (const name of readdirSync(dirname(TOO_SOON))) {
     writeFileSync(join(folder, name), readFileSync(join(dirname(TOO_SOON), name), "utf8"));
   }
   writeFileSync(join(folder, "main.test.mjs"),
     `import { assertProgram, testAgents, testProgram } from "${HELPER}";\n${code}\n`);
-  const env = { ...process.env, TMPDIR: temporary };
-  for (const name of ["NODE_TEST_CONTEXT", "FORCE_COLOR"]) delete env[name];
-  const words = ["--test", "--test-reporter=tap", "main.test.mjs"];
-  const child = spawn(process.execPath, words, { cwd: folder, env, stdio: ["ignore", "pipe", "inherit"] });
-  let output = "";
-  child.stdout.setEncoding("utf8").on("data", (text) => {
-    output += text;
-  });
-  const status = await new Promise((done) => {
-    child.on("close", done);
-  });
-  return { folder, temporary, output, status };
+  return suiteIn(folder, "main.test.mjs", { reporter: "tap" });
 }
 
 test("`testProgram` fails with the finding, shortened and kept, and passes otherwise", async (context) => {

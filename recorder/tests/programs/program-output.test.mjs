@@ -5,23 +5,20 @@ import { dirname, join } from "node:path";
 import { test } from "node:test";
 import { namedLines } from "../../lib/program/printing.mjs";
 import { commandNow, nodeNow } from "../helpers/common.mjs";
-import { programOf } from "../helpers/whole-programs.mjs";
+import { WORKER, mainWith, programOf } from "../helpers/whole-programs.mjs";
 
 // The run fails if main looks before the worker has stored.
 const FILES = {
-  "main.mjs": `import { Worker } from "node:worker_threads";
-const words = new Int32Array(new SharedArrayBuffer(8));
-const worker = new Worker(new URL("./worker.mjs", import.meta.url), { workerData: words });
+  "main.mjs": `${mainWith(8)}const worker = started();
 worker.once("message", () => {
   const found = Atomics.load(words, 0);
   console.log("the word is %d\\nand that is it", found);
   process.exitCode = found === 7 ? 0 : 3;
 });
 `,
-  "worker.mjs": `import { parentPort, workerData } from "node:worker_threads";
-process.stdout.write("writes no line");
+  "worker.mjs": `${WORKER}process.stdout.write("writes no line");
 parentPort.postMessage("ready");
-Atomics.store(workerData, 0, 7);
+Atomics.store(words, 0, 7);
 process.stderr.write(new TextEncoder().encode("bytes\\n"));
 `,
 };
@@ -45,7 +42,7 @@ test("what a program prints is shown for the first seed and the kept run, for al
   assert.ok(Number(failed) > 0 && Number(failed) < 8, some.summary);
   const count = (/** @type {string[]} */ lines, /** @type {string} */ line) =>
     lines.filter((each) => each === line).length;
-  const started = "worker.mjs started at main.mjs:3:16";
+  const started = "worker.mjs started at main.mjs:3:27";
   assert.deepEqual([...new Set(some.lines)].sort(), [
     "[main] and that is it", "[main] the word is 0", "[main] the word is 7", `[${started}] bytes`,
     `[${started}] writes no line`,

@@ -2,16 +2,13 @@
 // the same steps.
 
 import assert from "node:assert/strict";
-import { execFile } from "node:child_process";
 import { writeFileSync } from "node:fs";
 import { join } from "node:path";
 import { test } from "node:test";
 import { fileURLToPath, pathToFileURL } from "node:url";
-import { promisify } from "node:util";
 import { GRAPH_FLAGS } from "../../lib/program/graph-flags.cjs";
-import { temporaryFolder } from "../helpers/common.mjs";
+import { jsonOf, nodeThere, temporaryFolder } from "../helpers/common.mjs";
 
-const execute = promisify(execFile);
 const PROCESS = fileURLToPath(new URL("../helpers/parts-process.mjs", import.meta.url));
 
 const PROGRAM = `
@@ -44,10 +41,7 @@ const REFUSED = `
     } catch (error) { console.log(error.message); }`;
 
 async function runsOf(file) {
-  const words = ["--no-warnings", ...GRAPH_FLAGS, PROCESS, pathToFileURL(file).href, "3"];
-  const { stdout, stderr } = await execute(process.execPath, words);
-  assert.equal(stderr, "");
-  return JSON.parse(stdout);
+  return jsonOf(await nodeThere(["--no-warnings", ...GRAPH_FLAGS, PROCESS, pathToFileURL(file).href, "3"]));
 }
 
 test("a program with files, timers, promises and streams goes as in node, and repeats", async (context) => {
@@ -55,7 +49,7 @@ test("a program with files, timers, promises and streams goes as in node, and re
   writeFileSync(file, PROGRAM);
   writeFileSync(join(file, "../late.mjs"),
     `export const late = await new Promise((done) => setTimeout(done, 10, "late"));`);
-  const { stdout } = await execute(process.execPath, ["--no-warnings", file]);
+  const { stdout } = await nodeThere(["--no-warnings", file]);
   const runs = await runsOf(file);
   assert.deepEqual(`${runs[0].lines.join("\n")}\n`, stdout);
   assert.equal(runs[0].lines.at(-1), "end");

@@ -275,7 +275,7 @@ describe("a run that can't be repeated", () => {
     const outcomes = [];
     try {
       // Pilots would be further runs.
-      const options = { ...defaultsOf("record"), isProgram: true, everywhere: true, seconds: 20, module };
+      const options = { ...defaultsOf("record"), program: true, everywhere: true, seconds: 20, module };
       await job.open({ ...options, checks: true, checkEvery: 1 });
       const seeds = seedsTo(2).map((seed) => ({ seed, whole: true, isSilent: true }));
       await job.run(seeds, (outcome) => void outcomes.push(outcome));

@@ -2,14 +2,14 @@
 // said if the code or the row no longer makes it.
 
 import assert from "node:assert/strict";
-import { mkdtempSync, readFileSync, readdirSync, rmSync, writeFileSync } from "node:fs";
-import { tmpdir } from "node:os";
+import { readFileSync, readdirSync, writeFileSync } from "node:fs";
 import { dirname, join } from "node:path";
-import { after, before, test } from "node:test";
+import { before, test } from "node:test";
 import { pathToFileURL } from "node:url";
 import { MOST_DRAWS } from "../../lib/board/drawn-schedule.mjs";
 import { RunStore } from "../../lib/keeping/run-store.mjs";
 import { keepProgram, keptProgram } from "../../lib/keeping/kept-program.mjs";
+import { runKindOf } from "../../lib/options/run-kinds.mjs";
 import { Refused } from "../../lib/options/refused.mjs";
 import { defaultsOf } from "../../lib/options/table.mjs";
 import { ProgramGroup } from "../../lib/program/program-group.mjs";
@@ -18,20 +18,17 @@ import { explore } from "../../recorder.mjs";
 import { commandHere } from "../helpers/command-here.mjs";
 import { commandNow, temporaryFolder } from "../helpers/common.mjs";
 import { firstFailing } from "../helpers/groups.mjs";
-import { programIn, programOf } from "../helpers/whole-programs.mjs";
+import { WORKER, mainWith, programIn, programOf } from "../helpers/whole-programs.mjs";
 
 // Main looks at the word when the first message has come. The worker may have stored it or not.
-const MAIN = `import { Worker } from "node:worker_threads";
-const words = new Int32Array(new SharedArrayBuffer(8));
-const worker = new Worker(new URL("./worker.mjs", import.meta.url), { workerData: words });
+const MAIN = `${mainWith(8)}const worker = started();
 worker.once("message", (text) => {
   if (Atomics.load(words, 0) === 0) throw new Error(process.argv[2] + ": " + text + " too soon");
 });
 `;
-const WORKER = `import { parentPort, workerData } from "node:worker_threads";
-await new Promise((done) => setTimeout(done, 5));
+const SETS = `${WORKER}await new Promise((done) => setTimeout(done, 5));
 parentPort.postMessage("ready");
-Atomics.store(workerData, 0, 7);
+Atomics.store(words, 0, 7);
 `;
 
 /**
@@ -60,11 +57,10 @@ async function kept(main, words) {
  * were
  */
 let ofMain;
-const room = mkdtempSync(join(tmpdir(), "recorder-"));
+const room = temporaryFolder();
 before(async () => {
-  ofMain = await kept(programIn(room, { "main.mjs": MAIN, "worker.mjs": WORKER }), ["--timeouts", "0.2", "--", "mine"]);
+  ofMain = await kept(programIn(room, { "main.mjs": MAIN, "worker.mjs": SETS }), ["--timeouts", "0.2", "--", "mine"]);
 });
-after(() => rmSync(room, { recursive: true, force: true }));
 
 test("a kept run of a program is made again from its file alone: the same script, report and trace", () => {
   const { main, folder, file, name } = ofMain;
@@ -94,14 +90,12 @@ test("a kept run of a program is made again from its file alone: the same script
 
 test("a run without a script is made again, and options of the command line go before kept ones", async (context) => {
   const { file, folder } = await kept(programOf(context, {
-    "main.mjs": `import { Worker } from "node:worker_threads";
-      const words = new Int32Array(new SharedArrayBuffer(8));
-      const worker = new Worker(new URL("./worker.mjs", import.meta.url), { workerData: words });
+    "main.mjs": `${mainWith(8)}started();
       // With the two threads that is more than the agents that a script can have.
       await Promise.all(Array.from({ length: 15 }, () => Atomics.waitAsync(words, 0, 0).value));
       process.exitCode = 3;`,
-    "worker.mjs": `import { workerData } from "node:worker_threads";
-      for (let woken = 0; woken < 15; woken += Atomics.notify(workerData, 0)) Atomics.wait(workerData, 1, 0, 1);`,
+    "worker.mjs": `${WORKER}
+      for (let woken = 0; woken < 15; woken += Atomics.notify(words, 0)) Atomics.wait(words, 1, 0, 1);`,
   }), []);
   assert.ok(!readdirSync(folder).some((name) => /^seed-\d+\.json$/.test(name)));
   const { status, stdout } = await commandHere(["--replay", file, "--races", "allow"]);
@@ -114,13 +108,11 @@ test("a run without a script is made again, and options of the command line go b
 
 test("a run that waits by waitAsync is made again, and what differs is named as the thread's", async (context) => {
   const { main, file, folder, name } = await kept(programOf(context, {
-    "main.mjs": `import { Worker } from "node:worker_threads";
-      const words = new Int32Array(new SharedArrayBuffer(8));
-      new Worker(new URL("./worker.mjs", import.meta.url), { workerData: words });
+    "main.mjs": `${mainWith(8)}started();
       for (let round = 0; round < 2; round += 1) await Atomics.waitAsync(words, 0, 0).value;
       process.exitCode = 3;`,
-    "worker.mjs": `import { workerData } from "node:worker_threads";
-      for (let woken = 0; woken < 2; woken += Atomics.notify(workerData, 0)) Atomics.wait(workerData, 1, 0, 1);`,
+    "worker.mjs": `${WORKER}
+      for (let woken = 0; woken < 2; woken += Atomics.notify(words, 0)) Atomics.wait(words, 1, 0, 1);`,
   }), []);
   const script = readFileSync(join(folder, `${name}.json`), "utf8");
   assert.match(script, /"waitAsync_2_of_0"/);
@@ -144,11 +136,11 @@ test("if the code does other things, the first of these is named", async () => {
     ["main", MAIN.replace("if (", "Atomics.add(words, 1, 2);\n if ("),
       new RegExp(': the script has agent 0\'s call \\d+, \\["load", .*\\] next, '
         + 'and now comes agent 0\'s call \\d+, \\["add", "Int32_b0", 1, 2\\]$')],
-    ["worker", WORKER.replace('parentPort.postMessage("ready");', ""),
+    ["worker", SETS.replace('parentPort.postMessage("ready");', ""),
       new RegExp(': the script has agent 1\'s call \\d+, \\["notify", .*\\] next, '
         + 'and now comes agent 1\'s call \\d+, \\["store", "Int32_b0", 0, 7\\]$')],
     // It makes no other call, and comes less far.
-    ["worker", WORKER.replace("setTimeout(done, 5)", 'parentPort.once("message", done)'),
+    ["worker", SETS.replace("setTimeout(done, 5)", 'parentPort.once("message", done)'),
       /: agent \d moved with draw \d+ of the kept run, and now it has nothing to do, or waits$/],
   ];
   for (const [name, text, why] of changed) {
@@ -220,7 +212,7 @@ test("a file that is no kept run of a program is refused, and so is a program th
 
 test("a row that is too long to be known whole isn't kept, and it is said so", (context) => {
   const keeper = new RunStore(temporaryFolder(context));
-  const options = /** @type {any} */ ({ isProgram: true, module: "file:///main.mjs", args: [] });
+  const options = /** @type {any} */ ({ kind: runKindOf({ program: true }), module: "file:///main.mjs", args: [] });
   const kept = (/** @type {number} */ draws) =>
     keepProgram(keeper, /** @type {any} */ ({ seed: 7, row: Array(draws).fill(0) }), options);
   assert.deepEqual(kept(MOST_DRAWS), [`not kept: seed-7.program.json: the run has ${MOST_DRAWS} draws or more`]);
@@ -230,16 +222,13 @@ test("a row that is too long to be known whole isn't kept, and it is said so", (
 test("a run in fresh threads is shortened by runs in fresh threads", async (context) => {
   // In threads that are kept no further run would throw.
   const program = programOf(context, {
-    "main.mjs": `import { Worker } from "node:worker_threads";
-      const words = new Int32Array(new SharedArrayBuffer(4));
-      globalThis.times = (globalThis.times ?? 0) + 1;
-      new Worker(new URL("./worker.mjs", import.meta.url), { workerData: words });
+    "main.mjs": `${mainWith(4)}globalThis.times = (globalThis.times ?? 0) + 1;
+      started();
       for (let time = 0; time < 3; time += 1) Atomics.add(words, 0, 1);
       if (globalThis.times === 1 && Atomics.load(words, 0) > 3) throw new Error("too soon");`,
-    "worker.mjs": `import { workerData as words } from "node:worker_threads";
-      for (let time = 0; time < 3; time += 1) Atomics.add(words, 0, 1);`,
+    "worker.mjs": `${WORKER}for (let time = 0; time < 3; time += 1) Atomics.add(words, 0, 1);`,
   });
-  const options = { ...defaultsOf("record"), isProgram: true, seconds: 20, args: [],
+  const options = { ...defaultsOf("record"), program: true, seconds: 20, args: [],
     module: pathToFileURL(program).href };
   const group = await ProgramGroup.open(/** @type {any} */ ({ ...options, fresh: true }));
   context.after(() => group.close());
@@ -250,19 +239,16 @@ test("a run in fresh threads is shortened by runs in fresh threads", async (cont
 test("a run in fresh threads is shown with its lines, kept and replayed in fresh threads", async (context) => {
   // In threads that are kept the second run would find another number in the global.
   const { file, folder, name } = await kept(programOf(context, {
-    "main.mjs": `import { Worker } from "node:worker_threads";
-      const words = new Int32Array(new SharedArrayBuffer(8));
-      globalThis.times = (globalThis.times ?? 0) + 1;
+    "main.mjs": `${mainWith(8)}globalThis.times = (globalThis.times ?? 0) + 1;
       for (let time = 1; time < globalThis.times; time += 1) Atomics.add(words, 1, 1);
-      new Worker(new URL("./worker.mjs", import.meta.url), { workerData: words });
+      started();
       if (Atomics.load(words, 0) === 0) Atomics.wait(words, 1, globalThis.times - 1);`,
-    "worker.mjs": `import { workerData as words } from "node:worker_threads";
-      Atomics.store(words, 0, 1);
+    "worker.mjs": `${WORKER}Atomics.store(words, 0, 1);
       Atomics.notify(words, 1);`,
   }), ["--fresh"]);
   assert.deepEqual(JSON.parse(readFileSync(file, "utf8")).options, { fresh: true });
   assert.match(readFileSync(join(folder, `${name}.words`), "utf8"),
-    /wait\(Int32_b0, 1, 0\) waits .*, at main\.mjs:6:\d+$/m);
+    /wait\(Int32_b0, 1, 0\) waits .*, at main\.mjs:7:\d+$/m);
   const { status, stdout, stderr } = recorded(["--replay", file]);
   assert.deepEqual([status, stderr], [1, ""]);
   assert.match(stdout, /^1 of 1 run failed: 1 deadlock$/m);

@@ -269,7 +269,8 @@ describe("threads that are kept", () => {
         if (globalThis.heard) throw new Error(globalThis.heard);
         const [one, other] = [new MessageChannel(), new MessageChannel()];
         one.port1.on("close", () => { globalThis.heard = "one that was left open"; });
-        other.port1.on("close", () => { globalThis.heard = "one that has gone to another thread"; });
+        let closed = 0;
+        other.port1.on("close", () => { if ((closed += 1) > 1) globalThis.heard = "one that has gone, twice"; });
         one.port2.postMessage(other.port1, [other.port1]);`,
     }, { seeds: seedsTo(4) });
   });

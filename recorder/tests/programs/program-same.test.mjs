@@ -2,10 +2,9 @@
 // process.
 
 import assert from "node:assert/strict";
-import { execFile } from "node:child_process";
 import { describe, it } from "node:test";
 import { fileURLToPath } from "node:url";
-import { promisify } from "node:util";
+import { jsonOf, nodeThere } from "../helpers/common.mjs";
 import { sameRuns } from "../helpers/same-runs.mjs";
 
 /** Programs with messages, timers, waits and ordinary accesses; some of their runs fail. */
@@ -17,13 +16,11 @@ const COMPARED = [1, 2, 3];
 const ORDERS = [[1, 2, 3, 1, 2, 3], [50, 3, 51, 2, 2, 52, 1, 53, 3, 1]];
 
 const PROCESS = fileURLToPath(new URL("../helpers/same-process.mjs", import.meta.url));
-const MOST_BYTES = 2 ** 28;
 
 /** @type {(names: string[], seeds: number[]) => ReturnType<typeof sameRuns>} what a process of its own returns */
 async function runsElsewhere(names, seeds) {
   const words = [names, seeds].map((each) => JSON.stringify(each));
-  const { stdout } = await promisify(execFile)(process.execPath, [PROCESS, ...words], { maxBuffer: MOST_BYTES });
-  return JSON.parse(stdout);
+  return jsonOf(await nodeThere([PROCESS, ...words]));
 }
 
 /** The threads of each process have run other programs before. Those of the first one are fresh for each program. */

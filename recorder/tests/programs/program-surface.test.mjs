@@ -1,13 +1,13 @@
 // The table of what a program may use of node, and what becomes of it.
 
 import assert from "node:assert/strict";
-import { spawnSync } from "node:child_process";
 import Module, { createRequire } from "node:module";
 import { test } from "node:test";
 import { fileURLToPath } from "node:url";
 import { LATER, isSince } from "../../lib/processes/node-versions.mjs";
 import { GLOBALS, METHODS, MODULES, SCHEME_MODULES } from "../../lib/program/node-api-table.mjs";
 import { apiPolicyOf, globalPolicyOf, refuseRest, unknownNames } from "../../lib/program/node-api-policy.mjs";
+import { jsonOf, nodeNow } from "../helpers/common.mjs";
 import { withShell } from "../helpers/needs.mjs";
 import { whereNodeHasIt } from "../helpers/where-node-has-it.mjs";
 
@@ -109,11 +109,8 @@ function inProcess(code) {
       refuse: (name) => { throw new Refused(name); }, used: (name) => used.push(name), isPlaying: () => playing,
     });
     ${code}`;
-  const { stdout, stderr } = spawnSync(process.execPath, ["--no-warnings", "--input-type=module", "--eval", all], {
-    encoding: "utf8", timeout: 60_000, cwd: fileURLToPath(new URL("..", import.meta.url)),
-  });
-  assert.equal(stderr, "");
-  return JSON.parse(stdout);
+  const options = { timeout: 60_000, cwd: fileURLToPath(new URL("..", import.meta.url)) };
+  return jsonOf(nodeNow(["--no-warnings", "--input-type=module", "--eval", all], options));
 }
 
 test("all that is refused calls `refuse` with its name, by require, node: and getBuiltinModule", () => {

@@ -9,13 +9,9 @@ import { pathToFileURL } from "node:url";
 import { defaultsOf } from "../../lib/options/table.mjs";
 import { ProgramGroup } from "../../lib/program/program-group.mjs";
 import { temporaryFolder } from "../helpers/common.mjs";
-import { programOf } from "../helpers/whole-programs.mjs";
+import { WORKER, mainWith, programOf } from "../helpers/whole-programs.mjs";
 
-const MAIN = `import { Worker } from "node:worker_threads";
-const words = new Int32Array(new SharedArrayBuffer(4));
-const started = () => new Worker(new URL("./worker.mjs", import.meta.url), { workerData: words });
-`;
-const WORKER = 'import { parentPort, workerData } from "node:worker_threads";\n';
+const MAIN = mainWith(4);
 const EXITS = { "main.mjs": `${MAIN}started();`, "worker.mjs": "process.exit(3);" };
 const LEAVES_TICK = { ...EXITS, "worker.mjs": "process.nextTick(() => {});\nprocess.exit(3);" };
 const ANSWERS = `${WORKER}parentPort.on("message", (value) => parentPort.postMessage(value));`;
@@ -27,7 +23,7 @@ const ANSWERS = `${WORKER}parentPort.on("message", (value) => parentPort.postMes
  */
 async function opened(module, { seconds = 20, web = false } = {}) {
   // Pilots would be further runs.
-  const options = { ...defaultsOf("record"), isProgram: true, everywhere: true, seconds, args: [], web, module };
+  const options = { ...defaultsOf("record"), program: true, everywhere: true, seconds, args: [], web, module };
   return /** @type {ProgramGroup} */ (await ProgramGroup.open(options));
 }
 
@@ -116,9 +112,7 @@ const BY = {
   "a wait for good": "Atomics.wait(words, 0, 0)",
 };
 
-const LEAVING_MAIN = `import { Worker } from "node:worker_threads";
-const words = new Int32Array(new SharedArrayBuffer(4));
-const worker = new Worker(new URL("./worker.mjs", import.meta.url), { workerData: words, argv: process.argv.slice(2) });
+const LEAVING_MAIN = `${MAIN}const worker = started({ argv: process.argv.slice(2) });
 worker.on("error", () => {});
 worker.on("exit", () => clearTimeout(end));
 worker.postMessage(1);
@@ -128,8 +122,7 @@ const end = setTimeout(() => worker.terminate(), 2_000);`;
 const leaving = (body, end) => ({
   "main.mjs": LEAVING_MAIN,
   "other.mjs": "",
-  "worker.mjs": `import { appendFileSync } from "node:fs";
-import { parentPort, workerData as words } from "node:worker_threads";
+  "worker.mjs": `${WORKER}import { appendFileSync } from "node:fs";
 const write = (letter) => appendFileSync(process.argv[2], letter);
 const end = () => ${end};
 write("<");
@@ -138,7 +131,7 @@ ${body}`,
 
 /** Whose threads are kept: main, the worker, and how the run ends. @type {Record<string, [string, string, string?]>} */
 const KEPT = {
-  "if it ends by itself": [`${MAIN}started();\nstarted();`, `${WORKER}Atomics.add(workerData, 0, 1);`],
+  "if it ends by itself": [`${MAIN}started();\nstarted();`, `${WORKER}Atomics.add(words, 0, 1);`],
   "if it is terminated while its event loop has nothing to do": [`${MAIN}for (const worker of [started(), started()]) {
       worker.postMessage(1);
       worker.on("message", () => worker.terminate());
@@ -147,10 +140,10 @@ const KEPT = {
     [`${MAIN}if (await started().terminate() !== 0) throw new Error("it has begun");`, ANSWERS],
   "if it is terminated while it waits": [
     `${MAIN}const worker = started();\nworker.on("message", () => worker.terminate());`,
-    `${WORKER}parentPort.postMessage("waits");\nAtomics.wait(workerData, 0, 0);`,
+    `${WORKER}parentPort.postMessage("waits");\nAtomics.wait(words, 0, 0);`,
   ],
   "if the run ends in a deadlock, with all others that are at a call": [`${MAIN}started();\nAtomics.wait(words, 0, 0);`,
-    `${WORKER}const words = workerData;\nAtomics.wait(words, 0, 0);`, "deadlock"],
+    `${WORKER}Atomics.wait(words, 0, 0);`, "deadlock"],
   "if it exits by process.exit": [EXITS["main.mjs"], EXITS["worker.mjs"]],
   "if it has left what queueMicrotask calls":
     [EXITS["main.mjs"], "setImmediate(() => { queueMicrotask(() => {}); process.exit(3); });"],
@@ -188,7 +181,7 @@ describe("a thread is replaced", { concurrency: 3 }, () => {
 describe("a group has begun", { concurrency: 3 }, () => {
   it("as many threads as a run needs, and no more", async (context) => {
     const main = `${MAIN}for (const _ of "1234") started();`;
-    const files = { "main.mjs": main, "worker.mjs": `${WORKER}Atomics.add(workerData, 0, 1);` };
+    const files = { "main.mjs": main, "worker.mjs": `${WORKER}Atomics.add(words, 0, 1);` };
     await withGroup(context, files, async (group) => {
       await group.one({ seed: 1, whole: false, isSilent: true });
       assert.equal(group.threads.size - 1, 5);

@@ -4,7 +4,7 @@
 import assert from "node:assert/strict";
 import { describe, it } from "node:test";
 import { record } from "../../recorder.mjs";
-import { programOf, runsOf } from "../helpers/whole-programs.mjs";
+import { WORKER, mainWith, programOf, runsOf } from "../helpers/whole-programs.mjs";
 
 /** @param {any} context @param {Record<string, string>} files @returns {Promise<any>} the first run */
 async function runOf(context, files) {
@@ -13,22 +13,19 @@ async function runOf(context, files) {
 }
 
 const DIES = {
-  "main.mjs": `import { Worker } from "node:worker_threads";
-    const words = new Int32Array(new SharedArrayBuffer(4));
-    new Worker(new URL("./w.mjs", import.meta.url), { workerData: words });
+  "main.mjs": `${mainWith(4)}started();
     Atomics.wait(words, 0, 0);`,
-  "w.mjs": `import { workerData as words } from "node:worker_threads";
-    if (words.length === 1) throw new Error("the reason");`,
+  "worker.mjs": `${WORKER}if (words.length === 1) throw new Error("the reason");`,
 };
 
 describe("a thread that has ended by an error", () => {
   it("is named with its error and line, in a deadlock's detail and among the tasks", async (context) => {
     const { ending, detail, tasks, messages } = await runOf(context, DIES);
     assert.equal(ending, "deadlock");
-    assert.match(detail, new RegExp("^agent 1 \\(w\\.mjs, started at main\\.mjs:3:5\\) ended: "
-      + "threw Error: the reason, at w\\.mjs:2:\\d+\\nagent 0 waits at"));
+    assert.match(detail, new RegExp("^agent 1 \\(worker\\.mjs, started at main\\.mjs:3:27\\) ended: "
+      + "threw Error: the reason, at worker\\.mjs:2:\\d+\\nagent 0 waits at"));
     assert.ok(tasks.some(({ agent, text, source }) => agent === 1 && text === "throws Error: the reason"
-      && /^w\.mjs:2:\d+$/.test(source)));
+      && /^worker\.mjs:2:\d+$/.test(source)));
     assert.deepEqual(messages.map(([, text]) => text), ["online", "error, Error: the reason", "exit with code 1"]);
   });
 
@@ -129,13 +126,11 @@ describe("a message that can't be read", () => {
   });
 
   it("orders what its sender did before, and what its receiver does then", async (context) => {
-    const main = `import { Worker } from "node:worker_threads";
-      const words = new Int32Array(new SharedArrayBuffer(4));
-      const worker = new Worker(new URL("./w.mjs", import.meta.url), { workerData: words });
+    const main = `${mainWith(4)}const worker = started();
       worker.on("messageerror", () => { words[0] += 1; });`;
     const worker = LIST.replace("let list", "workerData[0] = 1; let list")
       .replace("{ parentPort }", "{ parentPort, workerData }");
-    const outcomes = await runsOf(context, { "main.mjs": main, "w.mjs": worker }, { seeds: [1, 2, 3, 4, 5] });
+    const outcomes = await runsOf(context, { "main.mjs": main, "worker.mjs": worker }, { seeds: [1, 2, 3, 4, 5] });
     assert.deepEqual(outcomes.map(({ ending }) => ending), Array(5).fill("finished"));
   });
 });

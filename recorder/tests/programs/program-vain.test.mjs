@@ -3,7 +3,7 @@
 
 import assert from "node:assert/strict";
 import { describe, it } from "node:test";
-import { endingsOf, runsOf } from "../helpers/whole-programs.mjs";
+import { WORKER, endingsOf, mainWith, runsOf } from "../helpers/whole-programs.mjs";
 
 /** @param {string} main @param {Record<string, string>} [more] @returns {(context: any) => Promise<any>} one run */
 const runOf = (main, more = {}) => async (context) => {
@@ -11,19 +11,17 @@ const runOf = (main, more = {}) => async (context) => {
   return outcome;
 };
 
-const WORKER = `import { Worker } from "node:worker_threads";
-  const words = new Int32Array(new SharedArrayBuffer(8));
-  const start = () => new Worker(new URL("./w.mjs", import.meta.url), { workerData: words });`;
-const GETS = `import { parentPort, workerData as words } from "node:worker_threads";`;
+const MAIN = mainWith(8).trim();
+const GETS = WORKER.trim();
 
 describe("timers in vain", () => {
   it("leave the run stuck, with what keeps each thread and which waitAsync isn't settled", async (context) => {
-    const outcome = await runOf(`${WORKER}
+    const outcome = await runOf(`${MAIN}
       setInterval(() => {}, 1000);
       const again = () => setTimeout(again, 30);
       again();
-      start();
-      await Atomics.waitAsync(words, 1, 0).value;`, { "w.mjs": `${GETS} Atomics.notify(words, 0);` })(context);
+      started();
+      await Atomics.waitAsync(words, 1, 0).value;`, { "worker.mjs": `${GETS} Atomics.notify(words, 0);` })(context);
     assert.equal(outcome.ending, "stuck");
     assert.match(outcome.detail,
       /^agent 0 has nothing to do, and is kept alive by .*an interval of 1000 ms from \S*main\.mjs:4:7/);
@@ -32,10 +30,10 @@ describe("timers in vain", () => {
   });
 
   it("are a deadlock if a thread sleeps in Atomics.wait", async (context) => {
-    const outcome = await runOf(`${WORKER} start(); setInterval(() => {}, 10);`,
-      { "w.mjs": `${GETS} Atomics.wait(words, 0, 0);` })(context);
+    const outcome = await runOf(`${MAIN} started(); setInterval(() => {}, 10);`,
+      { "worker.mjs": `${GETS} Atomics.wait(words, 0, 0);` })(context);
     assert.equal(outcome.ending, "deadlock");
-    assert.match(outcome.detail, /agent 1 \(w\.mjs, started at main\.mjs:3:23\) waits at .*w\.mjs:1:\d+/);
+    assert.match(outcome.detail, /agent 1 \(worker\.mjs, started at main\.mjs:3:27\) waits at .*worker\.mjs:1:\d+/);
   });
 
   it("are few among the tasks that are shown", async (context) => {
@@ -54,16 +52,16 @@ describe("timers that aren't in vain", () => {
     "that start another timer after long": `let turns = 0;
       const end = () => setTimeout(() => clearInterval(all), 500);
       const all = setInterval(() => { turns += 1; if (turns === 1990) end(); }, 1);`,
-    "beside a thread that sleeps for long": `${WORKER}
+    "beside a thread that sleeps for long": `${MAIN}
       const all = setInterval(() => {}, 1);
-      start().on("exit", () => clearInterval(all));`,
+      started().on("exit", () => clearInterval(all));`,
     "that look at the clock": `const end = Date.now() + 5000;
       const all = setInterval(() => { if (Date.now() > end) clearInterval(all); }, 1);`,
     "that print": `let turns = 0;
       const all = setInterval(() => { turns += 1; console.log(turns); if (turns === 3000) clearInterval(all); }, 1);`,
-    "that write shared memory": `${WORKER}
+    "that write shared memory": `${MAIN}
       let turns = 0;
-      const worker = start();
+      const worker = started();
       const all = setInterval(() => {
         turns += 1;
         words[1] = turns;
@@ -83,7 +81,7 @@ describe("timers that aren't in vain", () => {
   };
   for (const [name, main] of Object.entries(FINISH)) {
     it(`${name} go on`, async (context) => {
-      const outcome = await runOf(main, { "w.mjs": workers[name] ?? "" })(context);
+      const outcome = await runOf(main, { "worker.mjs": workers[name] ?? "" })(context);
       assert.deepEqual(endingsOf([outcome]), ["finished: "]);
     });
   }

@@ -7,6 +7,15 @@ import { endingsOf, finishing, racing, runsOf } from "../helpers/whole-programs.
 
 const MAIN = 'import { MessageChannel, Worker } from "node:worker_threads";\n';
 
+/** Main has memory that grows up to 16 bytes, and gives it to a worker. */
+const GROWING = `${MAIN}const grows = new SharedArrayBuffer(8, { maxByteLength: 16 });
+const words = new Int32Array(grows);
+new Worker(new URL("./worker.mjs", import.meta.url), { workerData: grows });
+`;
+const WORKER = `import { workerData as grows } from "node:worker_threads";
+const words = new Int32Array(grows);
+`;
+
 describe("structuredClone", () => {
   it("gives objects on the same shared memory, before and after another thread can reach it", async (context) => {
     const outcomes = await finishing(context, {
@@ -142,15 +151,10 @@ describe("memory that grows", () => {
    * @param {number[]} seeds
    */
   const grown = (context, before, behind, seeds) => runsOf(context, {
-    "main.mjs": `${MAIN}const grows = new SharedArrayBuffer(8, { maxByteLength: 16 });
-const words = new Int32Array(grows);
-new Worker(new URL("./worker.mjs", import.meta.url), { workerData: grows });
-while (grows.byteLength < 16);
+    "main.mjs": `${GROWING}while (grows.byteLength < 16);
 if (words.length !== 4) throw new Error("it has " + words.length);
 const found = words[1];`,
-    "worker.mjs": `import { workerData as grows } from "node:worker_threads";
-const words = new Int32Array(grows);
-${before}
+    "worker.mjs": `${WORKER}${before}
 grows.grow(16);
 ${behind}`,
   }, { seeds });
@@ -170,26 +174,20 @@ ${behind}`,
 
   it("is a spin if its length is asked for again and again, and nobody grows it", async (context) => {
     const [{ ending, detail }] = await runsOf(context, {
-      "main.mjs": `${MAIN}const grows = new SharedArrayBuffer(8, { maxByteLength: 16 });
-new Worker(new URL("./worker.mjs", import.meta.url), { workerData: grows });
-while (grows.byteLength < 16);`,
+      "main.mjs": `${GROWING}while (grows.byteLength < 16);`,
       "worker.mjs": 'import { workerData } from "node:worker_threads";\nAtomics.load(new Int32Array(workerData), 0);',
     });
     assert.equal(ending, "limit");
-    assert.match(detail, /spins at main\.mjs:4:14/);
+    assert.match(detail, /spins at main\.mjs:5:14/);
   });
 
   describe("only reads its length if `grow` changes nothing", () => {
     for (const length of [4, 17, 8]) {
       it(`to ${length} bytes, so that nothing is ordered by it`, async (context) => {
         await racing(context, {
-          "main.mjs": `${MAIN}const grows = new SharedArrayBuffer(8, { maxByteLength: 16 });
-const words = new Int32Array(grows);
-new Worker(new URL("./worker.mjs", import.meta.url), { workerData: grows });
-if (grows.byteLength !== 8) throw new Error("it has grown");
+          "main.mjs": `${GROWING}if (grows.byteLength !== 8) throw new Error("it has grown");
 const found = words[1];`,
-          "worker.mjs": `import { workerData as grows } from "node:worker_threads";
-new Int32Array(grows)[1] = 5;
+          "worker.mjs": `${WORKER}words[1] = 5;
 try { grows.grow(${length}); } catch (error) { if (!(error instanceof RangeError)) throw error; }`,
         }, { seeds: SEEDS });
       });
@@ -197,14 +195,9 @@ try { grows.grow(${length}); } catch (error) { if (!(error instanceof RangeError
 
     it("and what came before the length that it reads is ordered", async (context) => {
       const outcomes = await finishing(context, {
-        "main.mjs": `${MAIN}const grows = new SharedArrayBuffer(8, { maxByteLength: 16 });
-const words = new Int32Array(grows);
-new Worker(new URL("./worker.mjs", import.meta.url), { workerData: grows });
-words[1] = 5;
+        "main.mjs": `${GROWING}words[1] = 5;
 grows.grow(16);`,
-        "worker.mjs": `import { workerData as grows } from "node:worker_threads";
-const words = new Int32Array(grows);
-try { grows.grow(8); } catch (error) { if (words[1] !== 5) throw new Error("it is " + words[1]); }`,
+        "worker.mjs": `${WORKER}try { grows.grow(8); } catch { if (words[1] !== 5) throw new Error(words[1]); }`,
       }, { seeds: SEEDS });
       assert.ok(outcomes.some(({ ordinary }) => ordinary > 1) && outcomes.some(({ ordinary }) => ordinary === 1));
     });
@@ -213,9 +206,7 @@ try { grows.grow(8); } catch (error) { if (words[1] !== 5) throw new Error("it i
       /** @param {string} length @returns {Promise<number>} how many calls a run has that asks for it */
       const callsWith = async (length) => {
         const [{ calls, ending }] = await runsOf(context, {
-          "main.mjs": `${MAIN}const grows = new SharedArrayBuffer(8, { maxByteLength: 16 });
-new Worker(new URL("./worker.mjs", import.meta.url), { workerData: grows });
-try { grows.grow(${length}); } catch {}`,
+          "main.mjs": `${GROWING}try { grows.grow(${length}); } catch {}`,
           "worker.mjs": "",
         });
         assert.equal(ending, "finished");
@@ -228,9 +219,7 @@ try { grows.grow(${length}); } catch {}`,
 
   it("is refused as too long by the engine, in the thread that does it alone", async (context) => {
     await finishing(context, {
-      "main.mjs": `${MAIN}const grows = new SharedArrayBuffer(8, { maxByteLength: 16 });
-        new Worker(new URL("./worker.mjs", import.meta.url), { workerData: grows });
-        for (const wrong of [17, 4, -1]) {
+      "main.mjs": `${GROWING}for (const wrong of [17, 4, -1]) {
           try {
             grows.grow(wrong);
           } catch (error) {

@@ -7,14 +7,11 @@ import { describe, it } from "node:test";
 import { promisify } from "node:util";
 import { RECORD } from "../helpers/common.mjs";
 import { seedsTo } from "../helpers/recorded.mjs";
-import { endingsOf, finishing, programOf, racing, runsOf } from "../helpers/whole-programs.mjs";
+import { WORKER, endingsOf, finishing, mainWith, programOf, racing, runsOf } from "../helpers/whole-programs.mjs";
 
 const execute = promisify(execFile);
 
-const WORKER = 'import { parentPort, workerData as words } from "node:worker_threads";\n';
-const MAIN = `import { Worker } from "node:worker_threads";
-const words = new Int32Array(new SharedArrayBuffer(16));
-const started = () => new Worker(new URL("./worker.mjs", import.meta.url), { workerData: words });\n`;
+const MAIN = mainWith(16);
 
 describe("the line of waiters", () => {
   it("has threads that sleep and promises in the order in which they came", async (context) => {

@@ -2,8 +2,7 @@
 // what goes wrong is found with its thread and line.
 
 import assert from "node:assert/strict";
-import { mkdirSync, mkdtempSync, readFileSync, readdirSync, rmSync, writeFileSync } from "node:fs";
-import { tmpdir } from "node:os";
+import { mkdirSync, readFileSync, readdirSync, writeFileSync } from "node:fs";
 import { dirname, join } from "node:path";
 import { after, before, describe, it, test } from "node:test";
 import { pathToFileURL } from "node:url";
@@ -15,7 +14,7 @@ import { simulatorAt } from "../../lib/simulator/chosen.mjs";
 import { record } from "../../recorder.mjs";
 import { assertProgram } from "../../testing.mjs";
 import { Browser, withBrowser } from "../helpers/browser.mjs";
-import { commandNow, nodeNow } from "../helpers/common.mjs";
+import { commandNow, jsonOf, nodeNow, temporaryFolder } from "../helpers/common.mjs";
 import { CHECKER } from "../helpers/needs.mjs";
 import { TableRuns } from "../helpers/program-findings.mjs";
 import { linesInBrowser } from "../helpers/web-page.mjs";
@@ -32,18 +31,15 @@ const MANY_SEEDS = 2_000;
 const linesOf = (name) => readFileSync(new URL(name.replace(/mjs$/, "lines"), FOLDER), "utf8").split("\n").slice(0, -1);
 
 /** Little programs are written to this folder, one after the other, and run in the same threads. */
-const room = mkdtempSync(join(tmpdir(), "recorder-"));
+const room = temporaryFolder();
 /** @type {ProgramGroup} */
 let group;
 before(async () => {
   const module = pathToFileURL(join(room, "main.mjs")).href;
-  const options = { ...defaultsOf("record"), isProgram: true, web: true, seconds: 20, args: [], module };
+  const options = { ...defaultsOf("record"), program: true, web: true, seconds: 20, args: [], module };
   group = /** @type {ProgramGroup} */ (await ProgramGroup.open(options));
 });
-after(async () => {
-  await group.close();
-  rmSync(room, { recursive: true, force: true });
-});
+after(() => group.close());
 
 /**
  * The runs of a program.
@@ -79,10 +75,7 @@ function asVariables(scripts) {
   const code = `import { asVariables } from ${JSON.stringify(module)};
     const all = ${JSON.stringify(scripts)}.map(asVariables);
     console.log(JSON.stringify(all.map(({ text, names }) => ({ text, names: [...names].sort() }))));`;
-  const words = ["--no-warnings", ...GRAPH_FLAGS, "--input-type=module", "--eval", code];
-  const { stdout, stderr } = nodeNow(words);
-  assert.equal(stderr, "");
-  return JSON.parse(stdout);
+  return jsonOf(nodeNow(["--no-warnings", ...GRAPH_FLAGS, "--input-type=module", "--eval", code]));
 }
 
 describe("programs that browsers run print the same lines", () => {
@@ -339,7 +332,7 @@ test("a thread's first run that fetches goes the same way again: node makes no t
     const words = new Int32Array(new SharedArrayBuffer(4));
     new Worker("w.js").postMessage(words);
     for (let at = 0; at < 50; at += 1) Atomics.add(words, 0, 1);`, "w.js": "onmessage = () => {};" });
-  const options = { ...defaultsOf("record"), isProgram: true, web: true, args: [], module: pathToFileURL(main).href };
+  const options = { ...defaultsOf("record"), program: true, web: true, args: [], module: pathToFileURL(main).href };
   const own = /** @type {ProgramGroup} */ (await ProgramGroup.open(options));
   try {
     const wanted = { seed: 1, whole: true, needsTrace: true, isSilent: true };

@@ -2,16 +2,14 @@
 // and judges them. Which bytes stand where is worked out by hand.
 
 import assert from "node:assert/strict";
-import { cpSync, mkdtempSync, readFileSync, readdirSync, rmSync, writeFileSync } from "node:fs";
-import { tmpdir } from "node:os";
+import { cpSync, readFileSync, readdirSync, writeFileSync } from "node:fs";
 import { join } from "node:path";
-import { after, describe, it } from "node:test";
+import { describe, it } from "node:test";
 import { keptProgram } from "../../lib/keeping/kept-program.mjs";
-import { Refused } from "../../lib/options/refused.mjs";
 import { windowNames } from "../../lib/run/window-names.mjs";
 import { TouchedPages, Windows } from "../../lib/run/windows.mjs";
-import { commandThere } from "../helpers/common.mjs";
-import { slowRaces } from "../helpers/second-detector.mjs";
+import { commandThere, refusedInALine, temporaryFolder } from "../helpers/common.mjs";
+import { slowRaces } from "../helpers/slow-judge.mjs";
 import { programIn, runsOf } from "../helpers/whole-programs.mjs";
 
 /**
@@ -314,8 +312,7 @@ describe("unordered accesses", { concurrency: 2 }, () => {
 });
 
 describe("a kept run", () => {
-  const home = mkdtempSync(join(tmpdir(), "recorder-"));
-  after(() => rmSync(home, { recursive: true, force: true }));
+  const home = temporaryFolder();
   const main = programIn(home, RACING);
   const folder = join(home, "kept");
   const recorded = commandThere(["--program", main, "--seeds", "1..8", "--jobs", "1", "--out", folder]);
@@ -369,11 +366,7 @@ describe("a kept run", () => {
       text.replace(/"windows":\[\[.*?\]\]/, `"windows":${JSON.stringify([...pair, ...others])}`));
     for (const [at, [, says]] of wrong.entries()) {
       assert.notEqual(texts[at], text);
-      assert.throws(() => keptProgram(texts[at], kept), (thrown) => {
-        assert.ok(thrown instanceof Refused);
-        assert.equal(thrown.message.replace(/.*kept: /, ""), says);
-        return true;
-      });
+      assert.throws(() => keptProgram(texts[at], kept), refusedInALine(new RegExp(`kept: ${says}$`)));
     }
     const refused = join(folder, "wrong.program.json");
     writeFileSync(refused, texts[0]);

@@ -4,7 +4,7 @@
 import assert from "node:assert/strict";
 import { cpSync, readFileSync, readdirSync, writeFileSync } from "node:fs";
 import { join } from "node:path";
-import { after, before, test } from "node:test";
+import { after, test } from "node:test";
 import { fileURLToPath, pathToFileURL } from "node:url";
 import { checkedBy } from "../../lib/check/check.mjs";
 import { Difference } from "../../lib/check/difference.mjs";
@@ -18,19 +18,9 @@ import { TRAPPING, misspelling } from "../helpers/wrong-modules.mjs";
 const RECORDER = fileURLToPath(new URL("../../", import.meta.url));
 const module = simulatorAt();
 
-/**
- * The run of seed 1 of a module of agents, with what the recorder has judged. All tests ask about the same one.
- * @type {import("../../lib/run/outcome.mjs").One}
- */
-let run;
-/** @type {(() => Promise<void>)[]} what is done after all tests */
-const ends = [];
-before(async () => {
-  const context = /** @type {any} */ ({ after: (/** @type {() => Promise<void>} */ end) => ends.push(end) });
-  const group = await groupOf(context, agentsPath("three-state-mutex"), { agents: 3, everywhere: true });
-  run = await group.one({ seed: 1, whole: true });
-});
-after(() => Promise.all(ends.map((end) => end())));
+// All tests ask about the same run of a module of agents, with what the recorder has judged.
+const group = await groupOf({ after }, agentsPath("three-state-mutex"), { agents: 3, everywhere: true });
+const run = await group.one({ seed: 1, whole: true });
 
 /**
  * A simulator whose module has other bytes.
@@ -81,12 +71,8 @@ for (const [what, [bytes, why]] of Object.entries(WRONG)) {
   test(`a module that ${what} fails the check, each time`, (context) => {
     assert.ok(checkedBy(module, run).checked);
     const wrong = simulatorOf(context, bytes);
-    for (const time of [1, 2]) {
-      assert.throws(() => checkedBy(wrong, run), (error) => {
-        assert.ok(error instanceof Difference);
-        assert.match(error.message, why, `time ${time}`);
-        return true;
-      });
+    for (const _ of [1, 2]) {
+      assert.throws(() => checkedBy(wrong, run), { constructor: Difference, message: why });
     }
   });
 }

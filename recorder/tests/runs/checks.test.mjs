@@ -108,9 +108,7 @@ describe("init and check", { concurrency: 2 }, () => {
   });
 
   it("a check that doesn't end isn't called once more for the trace of its run", async (test) => {
-    const folder = temporaryFolder(test);
-    const path = join(folder, "agents.mjs");
-    writeFileSync(path, `
+    const path = moduleOf(test, `
       import { appendFileSync } from "node:fs";
       export const setup = { agents: 2, buffers: [4] };
       export default ({ buffers: [buffer] }) => Atomics.add(new Int32Array(buffer), 0, 1);
@@ -119,7 +117,7 @@ describe("init and check", { concurrency: 2 }, () => {
         for (;;);
       };
     `);
-    const called = join(folder, "called");
+    const called = `${path}.called`;
     const [{ ending, trace }] = await recorded({ module: path, args: [called], seconds: 0.5, ...SMALL }, [1]);
     assert.deepEqual([ending, readFileSync(called, "utf8")], ["check", "called"]);
     assert.equal(trace.trimEnd().split("\n").length, 2);
@@ -204,13 +202,9 @@ describe("init and check", { concurrency: 2 }, () => {
       "{ agents: 2, buffers: [() => 4] }": /plain data, .*, but its member buffers has something else in it$/m,
       5: /^`setup` must be an object, as /,
     };
-    for (const [setup, refused] of Object.entries(refusals)) {
+    for (const [setup, message] of Object.entries(refusals)) {
       writeFileSync(path, `export const setup = ${setup};\nexport default () => {};`);
-      await assert.rejects(record({ module: path, agents: 1, sabsim: false }), (error) => {
-        assert.ok(error instanceof Refused);
-        assert.match(error.message, refused);
-        return true;
-      });
+      await assert.rejects(record({ module: path, agents: 1, sabsim: false }), { constructor: Refused, message });
     }
   });
 
@@ -231,8 +225,7 @@ describe("init and check", { concurrency: 2 }, () => {
   });
 
   it("with 16 agents none is left for the stores of init", async () => {
-    const why = /^with 16 agents none is left for the stores of `init`/;
-    const refused = (error) => error instanceof Refused && why.test(error.message);
+    const refused = { constructor: Refused, message: /^with 16 agents none is left for the stores of `init`/ };
     await assert.rejects(record(program("lost", { agents: 16, sabsim: false })), refused);
     const others = { module: agentsPath("three-state-mutex"), agents: 16, sabsim: false };
     await assert.rejects(record({ ...others, init() {} }), refused);

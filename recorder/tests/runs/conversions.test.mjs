@@ -2,8 +2,7 @@
 // same steps of the agents' code in the same order, and a script that has what comes of the conversions.
 
 import assert from "node:assert/strict";
-import { mkdtempSync, readFileSync, rmSync, writeFileSync } from "node:fs";
-import { tmpdir } from "node:os";
+import { readFileSync, writeFileSync } from "node:fs";
 import { join } from "node:path";
 import { after, before, describe, test } from "node:test";
 import { explore, record } from "../../recorder.mjs";
@@ -172,13 +171,11 @@ describe("an index at the edges of what a Number holds exactly", () => {
 
   const beyond = Object.entries(CALLS)
     .flatMap(([name, code]) => [BEYOND, -BEYOND].map((index) => ({ name, code, index })));
-  /** @type {string} the folder of a module whose agents try each of these, in the same workers */
-  let folder;
-  /** @type {Cases} */
+  /** @type {Cases} of a module whose agents try each of these, in the same workers */
   let cases;
 
+  const folder = temporaryFolder();
   before(() => {
-    folder = mkdtempSync(join(tmpdir(), "recorder-"));
     const module = join(folder, "agents.mjs");
     const calls = beyond.map(({ code, index }) => `(words) => {\nAtomics.${code.replace("AT", `${index}`)}; },\n`);
     writeFileSync(module, `const CALLS = [${calls.join("")}];
@@ -188,10 +185,7 @@ describe("an index at the edges of what a Number holds exactly", () => {
       }`);
     cases = new Cases({ ...HOW, module });
   });
-  after(async () => {
-    await cases.close();
-    rmSync(folder, { recursive: true });
-  });
+  after(() => cases.close());
 
   for (const name of Object.keys(CALLS)) {
     test(`2^53 is no index for ${name}: node throws RangeError, the recorder ends the run at its line`, async () => {

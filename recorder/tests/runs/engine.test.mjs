@@ -9,7 +9,7 @@ import { replay } from "../engine/replay.mjs";
 import { summary } from "../engine/report.mjs";
 import { readScript, ScriptFault } from "../engine/script.mjs";
 import { withSignals } from "../helpers/needs.mjs";
-import { Opinions } from "../helpers/opinions.mjs";
+import { AskedProcesses } from "../helpers/asked-processes.mjs";
 import { pathOf, replayBySabsim, runNode, start } from "../helpers/programs.mjs";
 import { seedsTo } from "../helpers/recorded.mjs";
 import { generatedScript, timedScript } from "../helpers/scripts.mjs";
@@ -21,7 +21,7 @@ const SCRIPTS = 200;
 const TIMED_SCRIPTS = 10;
 
 const crew = new Crew();
-const opinions = new Opinions(2);
+const opinions = new AskedProcesses("recorder/tests/helpers/opinion-process.mjs", 2);
 after(() => {
   opinions.end();
   return crew.end();
@@ -37,7 +37,7 @@ describe("generated scripts", () => {
   function opinionsOn(scriptOf, last) {
     return Promise.all(seedsTo(last).map(async (seed) => {
       const text = JSON.stringify(scriptOf(seed));
-      return { seed, text, ...await opinions.of(text) };
+      return { seed, text, ...await opinions.ask(text) };
     }));
   }
 
@@ -82,7 +82,7 @@ describe("scripts with their reports", () => {
     countsOfReports.set(folder, reports.length);
     test(`the engine's reports on ${folder} are the ${reports.length} beside them`, async () => {
       const compare = async (name) => {
-        const { report } = await opinions.of(read(folder, name.replace(".report", ".json")));
+        const { report } = await opinions.ask(read(folder, name.replace(".report", ".json")));
         assert.equal(report, read(folder, name), `the engine (actual) differs on ${folder}/${name}`);
       };
       await Promise.all(reports.map(compare));

@@ -2,17 +2,16 @@
 // by something that is hard to see leave the same, whether moments are merged or not.
 
 import assert from "node:assert/strict";
-import { mkdtempSync, rmSync, writeFileSync } from "node:fs";
-import { tmpdir } from "node:os";
+import { writeFileSync } from "node:fs";
 import { join } from "node:path";
-import { after, test } from "node:test";
+import { test } from "node:test";
 import { pathToFileURL } from "node:url";
 import { Worker } from "node:worker_threads";
 import graphFlags from "../../lib/program/graph-flags.cjs";
 import { BODIES, LONG, MODULES, longModuleOf, moduleOf } from "../every/nasty.mjs";
+import { temporaryFolder } from "../helpers/common.mjs";
 
-const FOLDER = mkdtempSync(join(tmpdir(), "sabsim-every-"));
-after(() => rmSync(FOLDER, { recursive: true }));
+const FOLDER = temporaryFolder();
 
 const NAMES = Object.keys(BODIES);
 

@@ -3,14 +3,14 @@
 
 import assert from "node:assert/strict";
 import { spawnSync } from "node:child_process";
-import { mkdtempSync, readFileSync, readdirSync, rmSync, writeFileSync } from "node:fs";
-import { tmpdir } from "node:os";
+import { readFileSync, readdirSync, writeFileSync } from "node:fs";
 import { join } from "node:path";
 import { test } from "node:test";
 import { fileURLToPath, pathToFileURL } from "node:url";
 import { learnApart } from "../../lib/every/learning/apart.mjs";
 import { resultIn, statusOf } from "../../lib/every/search/lines.mjs";
 import { searched } from "../../lib/every/search/searched-file.mjs";
+import { temporaryFolder } from "../helpers/common.mjs";
 import { needing } from "../helpers/needs.mjs";
 
 /** The model is in Python. */
@@ -52,13 +52,11 @@ for seed in range(int(sys.argv[2]), int(sys.argv[3])):
 print(json.dumps(found))
 `;
 
-test("files that were drawn", withPython, () => {
-  const folder = mkdtempSync(join(tmpdir(), "sabsim-drawn-"));
-  const script = join(folder, "draws.py");
+test("files that were drawn", withPython, (context) => {
+  const script = join(temporaryFolder(context), "draws.py");
   writeFileSync(script, DRAWS);
   const options = /** @type {const} */ ({ encoding: "utf8", maxBuffer: 2 ** 28 });
   const { stdout, error, status, stderr } = spawnSync("python3", [script, SEARCH, "1", "200"], options);
-  rmSync(folder, { recursive: true });
   assert.equal(error, undefined);
   assert.equal(status, 0, stderr);
   const drawn = JSON.parse(stdout);
@@ -98,8 +96,7 @@ export default function agent({ buffers, agent: self }) {
 `;
 
 test("the automata of modules of agents", withPython, async (context) => {
-  const folder = mkdtempSync(join(tmpdir(), "sabsim-automata-"));
-  context.after(() => rmSync(folder, { recursive: true }));
+  const folder = temporaryFolder(context);
   writeFileSync(join(folder, "spins.mjs"), SPINS);
   const known = MODULES.map((path) => new URL(`../../${path}`, import.meta.url));
   const urls = [...known, pathToFileURL(join(folder, "spins.mjs"))];

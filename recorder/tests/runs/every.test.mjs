@@ -136,8 +136,7 @@ test("what can't be learned is refused, with its line", async (context) => {
     [`import "node:fs";\n${LOADS("")}`, /node:fs, which agents\.mjs imports$/],
   ])) {
     const module = moduleOf(context, text);
-    const isWanted = (/** @type {unknown} */ error) => error instanceof Refused && wanted.test(error.message);
-    await assert.rejects(everySchedule({ module, seeds: 1 }), isWanted, text);
+    await assert.rejects(everySchedule({ module, seeds: 1 }), { constructor: Refused, message: wanted }, text);
   }
 });
 

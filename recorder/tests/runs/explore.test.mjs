@@ -10,7 +10,9 @@ import { test } from "node:test";
 import { setTimeout as sleep } from "node:timers/promises";
 import { Delivery } from "../../lib/seeds/delivery.mjs";
 import { Difference, LostJob, NoSabsim, Refused, explore, record } from "../../recorder.mjs";
-import { agentsOf, agentsPath, processesWith, soon, stayingWith, temporaryFolder } from "../helpers/common.mjs";
+import {
+  LIES, agentsOf, agentsPath, endOf, processesWith, refusedInALine, shellProgram, soon, stayingWith, temporaryFolder,
+} from "../helpers/common.mjs";
 import { CHECKER, NOWHERE, onLinux, withShell } from "../helpers/needs.mjs";
 
 const LIBRARY = new URL("../../recorder.mjs", import.meta.url).href;
@@ -77,11 +79,8 @@ test("options that can't be are refused at once, and a module that can't be when
   };
   for (const [name, values] of Object.entries(wrong)) {
     for (const value of values) {
-      assert.throws(() => explore({ module, [name]: value }), (error) => {
-        assert.ok(error instanceof Refused, `${name}: ${String(value)}: ${error.stack}`);
-        assert.ok(error.message.startsWith(`\`${name}\` must be `), error.message);
-        return !error.message.includes("\n");
-      });
+      const why = refusedInALine(new RegExp(`^\`${name}\` must be `), `${name}: ${String(value)}`);
+      assert.throws(() => explore({ module, [name]: value }), why);
     }
   }
   assert.throws(() => explore({ module, seed: 1 }), /^Error: there is no option `seed`: is seeds meant\?$/);
@@ -170,8 +169,7 @@ test("a signal ends it with its reason, before it begins and amid the runs", asy
 
 test("a difference ends it, and so does a job's process that ends", withShell, async (context) => {
   const folder = temporaryFolder(context);
-  const lying = join(folder, "lying");
-  writeFileSync(lying, "#!/bin/sh\ncat > /dev/null\necho '0 0 0 begin'\n", { mode: 0o755 });
+  const lying = shellProgram(folder, LIES);
   for (const jobs of [1, 2]) {
     const runs = explore({ ...cases("addition"), sabsim: lying, seeds: "5..100000", checkEvery: 50, jobs });
     await assert.rejects(allOf(runs), (error) => error instanceof Difference && error.outcome.seed % 50 === 5);
@@ -182,10 +180,8 @@ test("a difference ends it, and so does a job's process that ends", withShell, a
     if (globalThis.runs === 3) process.kill(process.pid, "SIGKILL");
   `);
   const runs = explore({ module, agents: 1, buffers: [4], sabsim: false, seeds: 100_000, jobs: 2 });
-  await assert.rejects(allOf(runs), (error) => {
-    assert.ok(error instanceof LostJob, error.stack);
-    return /^a job's process ended by itself \(SIGKILL\), and nothing is known of /.test(error.message);
-  });
+  const message = /^a job's process ended by itself \(SIGKILL\), and nothing is known of /;
+  await assert.rejects(allOf(runs), { constructor: LostJob, message });
 });
 
 /**
@@ -222,9 +218,7 @@ for (const [what, code] of Object.entries(WAYS_OUT)) {
       const env = { ...process.env, RECORDER_TEST: mark };
       const stdio = ["ignore", "inherit", "inherit", "ipc"];
       const child = spawn(process.execPath, [file], { env, stdio });
-      const ended = new Promise((done) => {
-        child.on("exit", done);
-      });
+      const ended = once(child, "exit").then(([status]) => status);
       // It goes on until it has no parent to speak to.
       await Promise.race([once(child, "message"), ended]);
       assert.ok(await soon(() => processesWith(mark).every((id) => Number(id) === child.pid)));
@@ -249,9 +243,7 @@ test("a signal that is aborted while no outcome is taken ends all the same", onL
     `);
     const child = spawn(process.execPath, [file], { env: { ...process.env, RECORDER_TEST: mark }, timeout: 600_000 });
     // It ends by itself, though nobody has asked the iterator for more.
-    const status = await new Promise((done) => {
-      child.on("close", done);
-    });
+    const { status } = await endOf(child);
     assert.deepEqual([status, await stayingWith(mark)], [0, []]);
   }));
 });
@@ -262,9 +254,7 @@ test("a delivery hands out in order, and says how far runs may go", async () => 
   const first = delivery.take();
   delivery.add({ seed: 6 });
   let isTaken = false;
-  first.then(() => {
-    isTaken = true;
-  });
+  first.then(() => (isTaken = true));
   await sleep(1);
   assert.equal(isTaken, false);
   const next = delivery.taking.next();

@@ -1,7 +1,7 @@
 // Jobs: they run as this process would, what ends them doesn't end what was found, and they are ended themselves.
 
 import assert from "node:assert/strict";
-import { spawn, spawnSync } from "node:child_process";
+import { spawn } from "node:child_process";
 import { readFileSync, writeFileSync } from "node:fs";
 import { randomUUID } from "node:crypto";
 import { syncBuiltinESMExports } from "node:module";
@@ -16,7 +16,7 @@ import { isWorthIt, moreJobs } from "../../lib/seeds/more-jobs.mjs";
 import { jobWords } from "../../lib/seeds/start-job.cjs";
 import { commandHere } from "../helpers/command-here.mjs";
 import {
-  RECORD, agentsOf, agentsPath, endOf, nodeNow, processesWith, stayingWith, temporaryFolder,
+  RECORD, agentsOf, agentsPath, endOf, moduleOf, nodeNow, processesWith, stayingWith, temporaryFolder,
 } from "../helpers/common.mjs";
 import { CHECKING, onLinux, withSignals } from "../helpers/needs.mjs";
 
@@ -81,16 +81,11 @@ test("without --jobs a command that goes on takes further jobs, and prints the s
   const words = [RECORD, agentsPath("naive-mutex"), "--seeds", "1..1500", "--check", "10", ...CHECKING];
   const mark = randomUUID();
   const child = spawn(process.execPath, words, { env: { ...process.env, RECORDER_TEST: mark } });
-  let [stdout, most] = ["", 0];
-  child.stdout.setEncoding("utf8").on("data", (text) => {
-    stdout += text;
-  });
+  let most = 0;
   const counting = setInterval(() => {
     most = Math.max(most, processesWith(mark).length);
   }, 50);
-  const status = await new Promise((done) => {
-    child.on("close", done);
-  });
+  const { status, stdout } = await endOf(child);
   clearInterval(counting);
   const { stderr, ...one } = await commandHere([...words.slice(1), "--jobs", "1"]);
   assert.deepEqual({ status, stdout }, one);
@@ -147,10 +142,7 @@ test("a first job that takes long to open brings no warning, and further ones ar
   const awake = setInterval(() => {}, 1_000);
   let asked = 0;
   const progress = () => ({ jobs: 1, made: (asked += 1), left: asked < 3 ? 1_000_000 : 0 });
-  const opened = new Promise((done) => {
-    setTimeout(done, 1_050);
-  });
-  for await (const _ of moreJobs(opened, progress, new AbortController().signal)) assert.ok(true);
+  for await (const _ of moreJobs(sleep(1_050), progress, new AbortController().signal)) assert.ok(true);
   clearInterval(awake);
   process.off("warning", note);
   assert.ok(asked >= 3);
@@ -278,15 +270,11 @@ test("if one job of several is killed, the others go on", onLinux, async (contex
 
 test("a call of native code that takes long holds nothing, nor does what it has started", onLinux, async (context) => {
   const mark = randomUUID();
-  const folder = temporaryFolder(context);
-  const module = join(folder, "agents.mjs");
-  writeFileSync(module, [
-    'import { execSync } from "node:child_process";',
-    "export default function agent({ buffers, agent }) {",
-    "  Atomics.add(new Int32Array(buffers[0]), 0, 1);",
-    '  if (agent === 1) execSync("sleep 600");',
-    "}",
-  ].join("\n"));
+  const module = moduleOf(context, `import { execSync } from "node:child_process";
+    export default function agent({ buffers, agent }) {
+      Atomics.add(new Int32Array(buffers[0]), 0, 1);
+      if (agent === 1) execSync("sleep 600");
+    }`);
   const words = [module, "--agents", "2", "--buffers", "4", "--check", "0", "--seeds", "1", "--seconds", "1"];
   const begun = performance.now();
   const { status, stdout } = run(words, [], { env: { ...process.env, RECORDER_TEST: mark } });

@@ -1,13 +1,13 @@
 // sabsim judges checked runs too: what the recorder gives it, and what is reported if the two differ.
 
 import assert from "node:assert/strict";
-import { readFileSync, readdirSync, writeFileSync } from "node:fs";
+import { readFileSync, readdirSync } from "node:fs";
 import { join } from "node:path";
 import { describe, it } from "node:test";
 import { fileURLToPath } from "node:url";
 import { Difference, NoSabsim, record } from "../../recorder.mjs";
 import { commandHere } from "../helpers/command-here.mjs";
-import { agentsPath, commandNow, recordCase, temporaryFolder } from "../helpers/common.mjs";
+import { agentsPath, commandNow, recordCase, shellProgram, temporaryFolder } from "../helpers/common.mjs";
 import { withShell } from "../helpers/needs.mjs";
 import { SIMULATOR_WORDS } from "../helpers/simulate.mjs";
 import { MEMBERS, eventsOfTrace, slowJudge } from "../helpers/slow-judge.mjs";
@@ -26,11 +26,8 @@ const RACE = "data race at byte 1 of block 0: agent 0 writes byte 1 at 2, agent 
  * @param {string} judge what it does in place of judging, in the shell's words; its input is in the file `given`
  */
 function judging(folder, judge) {
-  const path = join(folder, "judging");
   const own = `cat > '${folder}/given'; ${judge}`;
-  const code = `#!/bin/sh\nif [ "$1" = judge ]; then ${own}; fi\nexec ${SIMULATOR_WORDS} "$@"\n`;
-  writeFileSync(path, code, { mode: 0o755 });
-  return path;
+  return shellProgram(folder, `if [ "$1" = judge ]; then ${own}; fi\nexec ${SIMULATOR_WORDS} "$@"`);
 }
 
 /** One that says that there is a race, and one that says that there is none. */
@@ -91,17 +88,14 @@ describe("the judge of checked runs", withShell, () => {
   });
 
   it("finds no race, and the recorder found one: both are reported", async (context) => {
-    const found = /^ {2}the recorder: agent 1 reads slots\[0\] at ring-frees-first\.mjs:43:17, .*; agent 0 writes /;
+    const found = " {2}the recorder: agent 1 reads slots\\[0\\] at ring-frees-first\\.mjs:43:17, .*; agent 0 writes .*";
     const sabsim = judging(temporaryFolder(context), FINDS_NONE);
     for (const races of ["fail", "allow"]) {
-      await assert.rejects(record({ ...SMALL, seed: RACING_SEED, sabsim, races }), (error) => {
-        assert.ok(error instanceof Difference);
-        const [title, recorder, other] = error.message.split("\n");
-        assert.equal(title, `seed ${RACING_SEED}: the recorder and sabsim differ on unordered accesses`);
-        assert.match(recorder, found);
-        assert.equal(other, "  sabsim:       no data race: 12 accesses by 3 agents");
-        return true;
-      });
+      const recording = record({ ...SMALL, seed: RACING_SEED, sabsim, races });
+      await assert.rejects(recording, { constructor: Difference, message: new RegExp([
+        `^seed ${RACING_SEED}: the recorder and sabsim differ on unordered accesses`, found,
+        " {2}sabsim: {7}no data race: 12 accesses by 3 agents$",
+      ].join("\n")) });
     }
   });
 
@@ -112,11 +106,8 @@ describe("the judge of checked runs", withShell, () => {
       "script's accesses": () => recordCase("addition", { sabsim }),
     };
     for (const [what, run] of Object.entries(runs)) {
-      await assert.rejects(run(), (error) => {
-        assert.ok(error instanceof Difference);
-        assert.equal(error.message, `seed 1: sabsim ended with status 1 on the ${what}: sabsim: 10 BadShape: line 12`);
-        return true;
-      });
+      const message = `seed 1: sabsim ended with status 1 on the ${what}: sabsim: 10 BadShape: line 12`;
+      await assert.rejects(run(), { constructor: Difference, message });
     }
   });
 
@@ -153,12 +144,8 @@ describe("the judge of checked runs", withShell, () => {
   it("is missing in an older sabsim: this is reported with status 3", async (context) => {
     const folder = temporaryFolder(context);
     const sabsim = judging(folder, "echo \"error: unrecognized subcommand 'judge'\" >&2; exit 2");
-    const tooOld = /judging can't do judge, so it is older than the recorder: error: unrecognized subcommand 'judge'$/;
-    await assert.rejects(recordCase("addition", { sabsim }), (error) => {
-      assert.ok(error instanceof NoSabsim);
-      assert.match(error.message, tooOld);
-      return true;
-    });
+    const tooOld = /program can't do judge, so it is older than the recorder: error: unrecognized subcommand 'judge'$/;
+    await assert.rejects(recordCase("addition", { sabsim }), { constructor: NoSabsim, message: tooOld });
     const { status, stderr } = await commandHere([agentsPath("cases"), "--sabsim", sabsim, ...addition]);
     assert.equal(status, 3);
     assert.match(stderr.trimEnd(), tooOld);

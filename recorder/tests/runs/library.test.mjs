@@ -1,12 +1,13 @@
 // The library: what its options may be, and what each of them does.
 
 import assert from "node:assert/strict";
-import { readFileSync, writeFileSync } from "node:fs";
-import { join } from "node:path";
+import { readFileSync } from "node:fs";
 import { test } from "node:test";
 import { pathToFileURL } from "node:url";
 import { Difference, NoSabsim, Refused, explore, record } from "../../recorder.mjs";
-import { agentsOf, agentsPath, recordCase, temporaryFolder } from "../helpers/common.mjs";
+import {
+  LIES, agentsOf, agentsPath, recordCase, refusedInALine, shellProgram, temporaryFolder,
+} from "../helpers/common.mjs";
 import { CHECKER, NOWHERE, hasSabsim, withShell } from "../helpers/needs.mjs";
 import { simulated } from "../helpers/simulate.mjs";
 
@@ -61,34 +62,28 @@ test("each option that can't be is refused, with one line that names it", async 
   };
   for (const [name, values] of Object.entries(wrong)) {
     for (const value of values) {
-      await assert.rejects(record({ module, [name]: value }), (error) => {
-        assert.ok(error instanceof Refused, `${name}: ${String(value)}: ${error.stack}`);
-        assert.ok(error.message.includes(named[name]), error.message);
-        return !error.message.includes("\n");
-      });
+      const why = refusedInALine(new RegExp(named[name]), `${name}: ${String(value)}`);
+      await assert.rejects(record({ module, [name]: value }), why);
     }
   }
 });
 
 test("the module must be named, and options that there aren't are refused by their names", async () => {
-  const refused = (why) => (error) => error instanceof Refused && why.test(error.message);
-  for (const given of [undefined, null, "module.mjs", 5]) {
-    await assert.rejects(record(given), refused(/^the options must be an object$/));
-  }
+  const refused = (options, message) => assert.rejects(record(options), { constructor: Refused, message });
+  for (const given of [undefined, null, "module.mjs", 5]) await refused(given, "the options must be an object");
   for (const given of [{}, { module: undefined }, { module: 5 }, { module: "" }, { module: null }]) {
-    await assert.rejects(record(given), refused(/^`module` [^\n]+$/));
+    await refused(given, /^`module` [^\n]+$/);
   }
   const near = {
     "no-block": "noBlock", Seed: "seed", agent: "agents", bufers: "buffers", timeout: "timeouts",
     max_moves: "maxMoves", race: "races", trcae: "trace",
   };
   for (const [name, meant] of Object.entries(near)) {
-    const why = `there is no option \`${name}\`: is ${meant} meant?`;
-    await assert.rejects(record({ module, [name]: 1 }), (error) => error instanceof Refused && error.message === why);
+    await refused({ module, [name]: 1 }, `there is no option \`${name}\`: is ${meant} meant?`);
   }
   for (const name of ["jobs", "count", "constructor", "__proto__x"]) {
     const why = new RegExp(`^there is no option \`${name}\`: there are module, program, agents, buffers, .*, trace$`);
-    await assert.rejects(record({ module, [name]: 1 }), refused(why));
+    await refused({ module, [name]: 1 }, why);
   }
 });
 
@@ -103,9 +98,8 @@ test("options of earlier versions are refused with what there is in their place"
     [{ bounds: "allow" }, "there is no option `bounds`: use `limits`"],
   ];
   for (const [given, message] of refusals) {
-    await assert.rejects(recordCase("racy", { agents: 3, seed: 11, ...given }), (error) => {
-      return error instanceof Refused && error.message === message;
-    });
+    const run = recordCase("racy", { agents: 3, seed: 11, ...given });
+    await assert.rejects(run, { constructor: Refused, message });
   }
 });
 
@@ -138,8 +132,7 @@ test("sabsim is asked unless `sabsim` is false", withShell, async (context) => {
   await assert.rejects(recordCase("addition", { sabsim: NOWHERE }), NoSabsim);
   await assert.rejects(recordCase("addition", { check: () => {}, sabsim: NOWHERE }), NoSabsim);
   assert.equal((await recordCase("addition", { sabsim: false })).ending, "finished");
-  const lying = join(temporaryFolder(context), "lying");
-  writeFileSync(lying, "#!/bin/sh\ncat > /dev/null\necho '0 0 0 begin'\n", { mode: 0o755 });
+  const lying = shellProgram(temporaryFolder(context), LIES);
   await assert.rejects(recordCase("addition", { sabsim: lying }), (error) => {
     assert.ok(error instanceof Difference);
     assert.equal(error.outcome.seed, 1);

@@ -2,13 +2,12 @@
 // working directory is.
 
 import assert from "node:assert/strict";
-import { spawnSync } from "node:child_process";
 import { mkdirSync, realpathSync, writeFileSync } from "node:fs";
 import { join } from "node:path";
 import { test } from "node:test";
 import { pathToFileURL } from "node:url";
 import { Refused, record } from "../../recorder.mjs";
-import { temporaryFolder } from "../helpers/common.mjs";
+import { nodeNow, temporaryFolder } from "../helpers/common.mjs";
 
 const LIBRARY = new URL("../../recorder.mjs", import.meta.url).href;
 
@@ -88,13 +87,10 @@ test("a relative path is taken from the file that calls the library, however it 
   }
   const { default: { common } } = await import(pathToFileURL(join(folder, "suite", "calls.cjs")).href);
   assert.deepEqual((await common()).bytes, ["01"]);
-  await assert.rejects(calls.missing(), (error) => {
-    assert.ok(error instanceof Refused);
-    const from = '`module` is "./none.mjs", from the folder of the file that asks for it';
-    // Node knows a file by its own path, whatever links lead to it.
-    assert.equal(error.message, `there is no file ${join(realpathSync(folder), "suite", "none.mjs")}: ${from}`);
-    return true;
-  });
+  const from = '`module` is "./none.mjs", from the folder of the file that asks for it';
+  // Node knows a file by its own path, whatever links lead to it.
+  const message = `there is no file ${join(realpathSync(folder), "suite", "none.mjs")}: ${from}`;
+  await assert.rejects(calls.missing(), { constructor: Refused, message });
 });
 
 test("code that is typed in is taken to be in the working directory", (context) => {
@@ -102,8 +98,7 @@ test("code that is typed in is taken to be in the working directory", (context) 
   const code = `import("${LIBRARY}").then(({ record }) => record({ module: "./agents.mjs", agents: 1, sabsim: false }))
     .then(({ bytes }) => console.log(bytes[0]))`;
   for (const [words, input] of [[["-e", code], ""], [["-"], code]]) {
-    const options = { cwd: join(folder, "suite"), encoding: "utf8", input };
-    const { stdout, stderr } = spawnSync(process.execPath, words, options);
+    const { stdout, stderr } = nodeNow(words, { cwd: join(folder, "suite"), input });
     assert.deepEqual([stdout, stderr], ["01\n", ""]);
   }
 });
@@ -113,5 +108,5 @@ test("if the recorder doesn't know which file calls it, it asks for a URL", asyn
   const { ask } = await import(`data:text/javascript,${encodeURIComponent(asks)}`);
   const message = '`module` is "./agents.mjs", and it isn\'t known which file asks for that: ' +
     'give a URL, as new URL("./agents.mjs", import.meta.url)';
-  await assert.rejects(ask(record), (error) => error instanceof Refused && error.message === message);
+  await assert.rejects(ask(record), { constructor: Refused, message });
 });

@@ -2,13 +2,10 @@
 // recorder's own texts.
 
 import assert from "node:assert/strict";
-import { writeFileSync } from "node:fs";
-import { join } from "node:path";
 import { test } from "node:test";
 import { checkedNames, Names, nameText } from "../../lib/options/names.mjs";
-import { Refused } from "../../lib/options/refused.mjs";
 import { KINDS } from "../../script/kinds.mjs";
-import { temporaryFolder } from "../helpers/common.mjs";
+import { moduleOf, refusedInALine } from "../helpers/common.mjs";
 import { recorded, seedsTo } from "../helpers/recorded.mjs";
 import { simulated } from "../helpers/simulate.mjs";
 
@@ -20,18 +17,16 @@ const UINT8 = KINDS.indexOf("Uint8");
  * since it is given how many agents there are, few workers begin.
  */
 async function recordedModule(context, setup, body, { seeds = [1], ...options } = {}) {
-  const path = join(temporaryFolder(context), "agents.mjs");
-  const code = `export const setup = ${JSON.stringify(setup)};\n` +
-    `export default function agent({ buffers, agent, agents, args }) {\n${body}\n}\n`;
-  writeFileSync(path, code);
-  return recorded({ module: path, agents: setup.agents, everywhere: true, ...options }, seeds);
+  const module = moduleOf(context, `export const setup = ${JSON.stringify(setup)};
+export default function agent({ buffers, agent, agents, args }) {\n${body}\n}\n`);
+  return recorded({ module, agents: setup.agents, everywhere: true, ...options }, seeds);
 }
 
-/** The lines of the explained report of a script, without begins and returns. */
+/** What the explained report of a script says of each act. */
 function explained(script) {
   const { status, output } = simulated(["replay", "--format", "explained", "--acts"], script);
   assert.equal(status, 0);
-  return output.trimEnd().split("\n").map((line) => line.replace(/ {2,}/, "  "));
+  return output.split("\n").filter((line) => / act /.test(line)).map((line) => line.split(/ {2,}/)[1]);
 }
 
 test("which names are allowed, and what they may name", () => {
@@ -121,17 +116,13 @@ for (const [names, why] of [
   [Object.fromEntries(Array.from({ length: 65 }, (_, at) => [`w${at}`, at])), /^`names` has 65 names: a script has /],
 ]) {
   test(`names that can't be: ${JSON.stringify(names).slice(0, 60)}`, () => {
-    assert.throws(() => checkedNames(names, [8, 16]), (error) => {
-      assert.ok(error instanceof Refused);
-      assert.match(error.message, why);
-      return true;
-    });
+    assert.throws(() => checkedNames(names, [8, 16]), refusedInALine(why));
   });
 }
 
 test("a module whose names can't be is refused before anything runs", async (context) => {
   const run = recordedModule(context, { agents: 1, buffers: [4], names: { LOCK: 1 } }, "");
-  await assert.rejects(run, (error) => error instanceof Refused && /puts LOCK at index 1/.test(error.message));
+  await assert.rejects(run, refusedInALine(/puts LOCK at index 1/));
 });
 
 test("an element has the name of its word, or else of its array", () => {
@@ -179,7 +170,7 @@ test("scripts and reports have the names, from whichever view a call comes", asy
     Atomics.load(new Uint8Array(buffers[1], 1), 1);
     Atomics.notify(words, 3);
   `);
-  assert.deepEqual(explained(script).filter((line) => / act /.test(line)).map((line) => line.split("  ")[1]), [
+  assert.deepEqual(explained(script), [
     "store(LOCK, 0, 5) changes LOCK[0] from 0 to 5",
     "add(Int32_b0, 1, 1) changes Int32_b0[1] from 0 to 1",
     "store(wake, 0, 7) changes wake[0] from 0 to 7",
@@ -218,7 +209,7 @@ test("an index beyond its view throws, though a named word is there", async (con
 
 test("sabsim explains such a call by that view", async (context) => {
   const { script } = await throwingRun(context);
-  assert.deepEqual(explained(script).filter((line) => / act /.test(line)).map((line) => line.split("  ")[1]), [
+  assert.deepEqual(explained(script), [
     "load(Int32_x1, 1) throws: Int32_x1 has 1 element",
     "wait(Int32_x1, 1, 0, 0) throws: Int32_x1 has 1 element",
     "load(Int32_x1, -1) throws: Int32_x1 has 1 element",

@@ -1,16 +1,17 @@
 // The command line, as a user runs it: what it prints, its status, what it writes, and that nothing is left of it.
 
 import assert from "node:assert/strict";
-import { execFile, spawn, spawnSync } from "node:child_process";
+import { spawn } from "node:child_process";
 import { randomUUID } from "node:crypto";
+import { once } from "node:events";
 import { closeSync, mkdirSync, openSync, readFileSync, readdirSync, writeFileSync } from "node:fs";
 import { join } from "node:path";
 import { test } from "node:test";
 import { commandOptionsOf, USAGE } from "../../lib/command/options.mjs";
-import { Refused } from "../../lib/options/refused.mjs";
 import { commandHere } from "../helpers/command-here.mjs";
 import {
-  RECORD, WITHOUT_SABSIM, agentsOf, agentsPath, commandNow, processesWith, soon, stayingWith, temporaryFolder,
+  LIES, RECORD, WITHOUT_SABSIM, agentsOf, agentsPath, commandNow, commandThere, endOf, processesWith, refusedInALine,
+  shellProgram, soon, stayingWith, temporaryFolder,
 } from "../helpers/common.mjs";
 import { CHECKING, NOWHERE, hasSabsim, onLinux, withDevices, withShell } from "../helpers/needs.mjs";
 import { simulated } from "../helpers/simulate.mjs";
@@ -152,24 +153,18 @@ test("each wrong option is refused, with one line that names it", () => {
     [["m.mjs", "--out", ""], /--out/],
   ];
   for (const [words, why] of wrong) {
-    assert.throws(() => commandOptionsOf(words), (error) => {
-      assert.ok(error instanceof Refused, words.join(" "));
-      assert.match(error.message, why);
-      return !error.message.includes("\n");
-    });
+    assert.throws(() => commandOptionsOf(words), refusedInALine(why, words.join(" ")));
   }
 });
 
 test("options that aren't given have their defaults", () => {
-  const { first, last, jobs, maxMoves, seconds, fresh, args, noBlock, strategy, out } = commandOptionsOf(["m.mjs"]);
-  assert.deepEqual([first, last, jobs, maxMoves, seconds], [1, 100, undefined, 100_000, 10]);
-  assert.deepEqual([fresh, args, noBlock, strategy, out], [false, [], undefined, "mixed", undefined]);
-  const { sabsim: path, checkEvery } = commandOptionsOf(["m.mjs"]);
-  assert.deepEqual([path, checkEvery], [undefined, 1]);
-  const { ordinary, races, limits, clock, timeouts, failFast, everywhere } = commandOptionsOf(["m.mjs"]);
-  assert.deepEqual([ordinary, races, limits, clock], ["watch", "fail", "fail", "run"]);
-  assert.equal(commandOptionsOf(["m.mjs"]).unrecorded, "fail");
-  assert.deepEqual([timeouts, failFast, everywhere], [0.05, false, false]);
+  const defaults = {
+    first: 1, last: 100, jobs: undefined, maxMoves: 100_000, seconds: 10, fresh: false, args: [], noBlock: undefined,
+    strategy: "mixed", out: undefined, sabsim: undefined, checkEvery: 1, ordinary: "watch", races: "fail",
+    limits: "fail", clock: "run", unrecorded: "fail", timeouts: 0.05, failFast: false, everywhere: false,
+  };
+  const given = commandOptionsOf(["m.mjs"]);
+  assert.deepEqual(Object.fromEntries(Object.keys(defaults).map((name) => [name, given[name]])), defaults);
   assert.equal(commandOptionsOf(["m.mjs", "--seeds", "8"]).last, 8);
 });
 
@@ -187,29 +182,23 @@ test("options of the command line have their values", () => {
 });
 
 test("help names each option that there is", () => {
-  const why = (word) => thrownBy(() => commandOptionsOf(["m.mjs", `${word}=x`]))?.message ?? "";
-  const refused = (word) => why(word).startsWith("there is no option");
+  const refused = (word) => {
+    try {
+      commandOptionsOf(["m.mjs", `${word}=x`]);
+      return false;
+    } catch ({ message }) {
+      return message.startsWith("there is no option");
+    }
+  };
   const named = [...USAGE.matchAll(/^ {2}(?:-\w, )?(--[a-z-]+)/gm)].map(([, word]) => word);
   assert.deepEqual(named.filter(refused), []);
   const options = [
     "strategy", "everywhere", "ordinary", "races", "limits", "unrecorded", "clock", "timeouts",
     "fail-fast", "out", "jobs", "buffers", "check", "help", "version",
   ];
-  for (const option of options) {
-    assert.ok(named.includes(`--${option}`), option);
-  }
+  for (const option of options) assert.ok(named.includes(`--${option}`), option);
   assert.ok(USAGE.split("\n").every((line) => line.length <= 120));
 });
-
-/** What a function throws. @param {() => void} act */
-function thrownBy(act) {
-  try {
-    act();
-    return undefined;
-  } catch (error) {
-    return error;
-  }
-}
 
 test("a wrong command line is refused with status 2 and one line", async (context) => {
   const folder = temporaryFolder(context);
@@ -229,10 +218,7 @@ test("a wrong command line is refused with status 2 and one line", async (contex
       /--no-block\) names agent 1: there is no such agent, only 0 to 0$/m],
     [[module, "--out", file, ...few], /--out .*file can't be used/],
   ];
-  const ran = await Promise.all(wrong.map(([words]) => new Promise((done) => {
-    const answered = (error, stdout, stderr) => done({ status: error?.code, stdout, stderr });
-    execFile(process.execPath, [RECORD, ...words], { cwd: folder }, answered);
-  })));
+  const ran = await Promise.all(wrong.map(([words]) => commandThere(words, { cwd: folder })));
   ran.forEach(({ status, stdout, stderr }, at) => {
     const [words, why] = wrong[at];
     assert.deepEqual([status, stdout], [2, ""], words.join(" "));
@@ -263,13 +249,7 @@ test("if standard output has no reader, the status is 3, and the failing run is 
   const words = cases("waitsForEver", "--seeds", "1..3", "--check", "0", "--out", out);
   const child = spawn(process.execPath, [RECORD, ...words], { stdio: ["ignore", "pipe", "pipe"] });
   child.stdout.destroy();
-  let stderr = "";
-  child.stderr.setEncoding("utf8").on("data", (text) => {
-    stderr += text;
-  });
-  const status = await new Promise((done) => {
-    child.on("close", done);
-  });
+  const { status, stderr } = await endOf(child);
   assert.equal(status, 3);
   assert.match(stderr, /^record: standard output can't be written: [^\n]+\n$/);
   assert.ok(readdirSync(out).includes("seed-1.json"));
@@ -302,12 +282,11 @@ test("with nothing built every run is checked, and explanation, picture and page
 
 test("a picture that sabsim doesn't make is reported", withShell, async (context) => {
   const folder = temporaryFolder(context);
-  const half = join(folder, "half");
   // It says the same of the run, whatever it was, and makes no picture.
-  writeFileSync(half, [
-    "#!/bin/sh", "cat > /dev/null", 'if [ "$3" = svg ]; then echo "no pictures" >&2; exit 4; fi',
-    `if [ "$2" = --format ]; then echo explained; else cat '${folder}'/out/*.report; fi`, "",
-  ].join("\n"), { mode: 0o755 });
+  const half = shellProgram(folder, `
+    cat > /dev/null
+    if [ "$3" = svg ]; then echo "no pictures" >&2; exit 4; fi
+    if [ "$2" = --format ]; then echo explained; else cat '${folder}'/out/*.report; fi`);
   const unchecked = ["--seeds", "1", "--no-shorten", "--out", join(folder, "out")];
   assert.equal((await commandHere(cases("waitsForEver", ...unchecked, "--check", "0"))).status, 1);
   const { status, stdout } = await commandHere(cases("waitsForEver", ...unchecked, "--sabsim", half));
@@ -321,10 +300,9 @@ test("a picture that sabsim doesn't make is reported", withShell, async (context
 
 test("a difference stops everything with status 3, and is kept", withShell, (context) => {
   const folder = temporaryFolder(context);
-  const lying = join(folder, "lying");
-  writeFileSync(lying, "#!/bin/sh\ncat > /dev/null\necho '0 0 0 begin'\n", { mode: 0o755 });
   const out = join(folder, "out");
-  const { status, stderr } = run(cases("addition", "--seeds", "7", "--out", out, "--sabsim", lying));
+  const words = cases("addition", "--seeds", "7", "--out", out, "--sabsim", shellProgram(folder, LIES));
+  const { status, stderr } = run(words);
   assert.equal(status, 3);
   assert.match(stderr, /^record: seed 7: the code and sabsim differ, in line \d of the report\n {2}the code: .*\n/);
   assert.deepEqual(readdirSync(out).sort(), ["seed-7.json", "seed-7.report", "seed-7.sabsim-report"]);
@@ -394,17 +372,13 @@ for (const signal of ["SIGINT", "SIGTERM", "SIGKILL"]) {
       const words = casesOf(agents, name, "--jobs", "2", ...seeds, ...CHECKING);
       const env = { ...process.env, RECORDER_TEST: mark };
       const child = spawn(process.execPath, [RECORD, ...words], { env, stdio: ["ignore", "ignore", "pipe"] });
-      const ended = new Promise((done) => {
-        child.on("exit", (code, by) => done(by));
-      });
+      const ended = once(child, "exit");
       let text = "";
-      child.stderr.setEncoding("utf8").on("data", (more) => {
-        text += more;
-      });
+      child.stderr.setEncoding("utf8").on("data", (more) => (text += more));
       assert.ok(await soon(() => printed.test(text)), text);
       assert.ok(processesWith(mark).length >= 3);
       child.kill(signal);
-      assert.equal(await ended, signal);
+      assert.equal((await ended)[1], signal);
       assert.deepEqual(await stayingWith(mark), []);
     });
   }

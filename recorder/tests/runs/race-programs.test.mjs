@@ -11,7 +11,7 @@ import { Runs, outcomesOf } from "../../lib/seeds/runs.mjs";
 import { CONSTRUCTORS, KINDS } from "../../script/kinds.mjs";
 import { agentsPath } from "../helpers/common.mjs";
 import { CHECKER } from "../helpers/needs.mjs";
-import { slowRaces } from "../helpers/second-detector.mjs";
+import { eventsOfTrace, racingLines } from "../helpers/slow-judge.mjs";
 
 /**
  * How the agents keep out of each other's way, what else their runs are recorded with, and from how many to how many
@@ -57,22 +57,11 @@ let firstTraces;
  */
 const withoutTrace = ({ seed, ending, detail, moves, state, races }) => ({ seed, ending, detail, moves, state, races });
 
-/**
- * The events of a trace, each with the short form of its source.
- * @returns {import("../helpers/second-detector.mjs").Event[]}
- */
+/** The events of a trace. @returns {import("../helpers/slow-judge.mjs").Event[]} */
 function eventsOf(trace) {
-  return trace.split("\n").slice(0, -1).map((line, index) => {
-    const { event, source, ...rest } = JSON.parse(line);
-    assert.equal(event, index);
-    return { ...rest, source: source.slice(source.lastIndexOf("/") + 1) };
-  });
-}
-
-/** The different pairs of lines whose accesses race, as the second judge finds them. */
-function racingLines(events) {
-  const pairs = slowRaces(events).map((pair) => pair.map((index) => events[index].source).sort().join(" and "));
-  return [...new Set(pairs)].sort();
+  const events = eventsOfTrace(trace);
+  events.forEach(({ event }, index) => assert.equal(event, index));
+  return events;
 }
 
 /** What a trace says about calls, in one line each. */

@@ -45,7 +45,7 @@ const ofAgents = (options = {}) =>
   Group.open({ ...FIXED, module: moduleUrl(agentsPath("naive-mutex")), ...FEW_WORKERS, ...options });
 
 const ofProgram = () => ProgramGroup.open(/** @type {any} */ ({
-  ...defaultsOf("record"), ...FIXED, isProgram: true, module: exampleUrl("count-together"),
+  ...defaultsOf("record"), ...FIXED, program: true, module: exampleUrl("count-together"),
 }));
 
 test("a group that begins before the referee of an earlier one has finished has another thread", async (context) => {

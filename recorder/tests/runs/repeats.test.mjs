@@ -2,7 +2,7 @@
 // replayed all the same.
 
 import assert from "node:assert/strict";
-import { readFileSync, writeFileSync } from "node:fs";
+import { readFileSync } from "node:fs";
 import { join } from "node:path";
 import { describe, it } from "node:test";
 import { pathToFileURL } from "node:url";
@@ -12,7 +12,7 @@ import { CheckedRuns, MOST_CHECKED_RUNS } from "../../lib/check/checked-runs.mjs
 import { checkedOptions } from "../../lib/library/library-options.mjs";
 import { Job } from "../../lib/seeds/job.mjs";
 import { ModuleSimulator } from "../../lib/simulator/module.mjs";
-import { temporaryFolder } from "../helpers/common.mjs";
+import { moduleOf, shellProgram, temporaryFolder } from "../helpers/common.mjs";
 import { withShell } from "../helpers/needs.mjs";
 import { SIMULATOR_WORDS } from "../helpers/simulate.mjs";
 
@@ -133,14 +133,9 @@ describe("runs that repeat", () => {
 
   it("a job asks the module once about runs that repeat, the native program about each", withShell, async (test) => {
     const folder = temporaryFolder(test);
-    const module = join(folder, "agents.mjs");
-    writeFileSync(module, `
-      export const setup = { agents: 1, buffers: [4] };
-      export default ({ buffers: [buffer] }) => Atomics.add(new Int32Array(buffer), 0, 1);
-    `);
-    const native = join(folder, "native");
-    writeFileSync(native, `#!/bin/sh\necho asked >> '${folder}/asked'\nexec ${SIMULATOR_WORDS} "$@"\n`,
-      { mode: 0o755 });
+    const module = moduleOf(test, `export const setup = { agents: 1, buffers: [4] };
+      export default ({ buffers: [buffer] }) => Atomics.add(new Int32Array(buffer), 0, 1);`);
+    const native = shellProgram(folder, `echo asked >> '${folder}/asked'\nexec ${SIMULATOR_WORDS} "$@"`);
     const asked = test.mock.method(ModuleSimulator.prototype, "run");
     const outcomes = [...await checkedRuns({ module }), ...await checkedRuns({ module, sabsim: native })];
     assert.deepEqual(outcomes.map(({ checked }) => checked), Array(2 * SEEDS.length).fill(true));

@@ -211,11 +211,7 @@ test("a file that is no script of the recorder is refused, and options of anothe
     [written("split.json", changed({ schedule: [0, 1, ...moves] })), /its move 0 doesn't make a call in a row$/],
   ];
   for (const [path, why] of wrong) {
-    assert.throws(() => replayed(module, path), (error) => {
-      assert.ok(error instanceof Refused, `${path}: ${error.stack}`);
-      assert.match(error.message, why);
-      return true;
-    });
+    assert.throws(() => replayed(module, path), { constructor: Refused, message: why });
   }
   // Of these --replay leaves out the moves, since they have no effect.
   const idle = [[[...moves, 1, 1, 1], /its move \d+ belongs to no call$/], [[{ timeout: 0 }, ...moves], /isn't$/]];

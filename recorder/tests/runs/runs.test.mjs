@@ -1,13 +1,13 @@
 // Runs of real agents: what their calls return, how the runs end, and what the recorder reports about it.
 
 import assert from "node:assert/strict";
-import { readFileSync, writeFileSync } from "node:fs";
+import { readFileSync } from "node:fs";
 import { test } from "node:test";
 import { Group } from "../../lib/run/group.mjs";
 import { Difference, NoSabsim, Refused, record } from "../../recorder.mjs";
 import { NAMES } from "../agents/refused.mjs";
 import { Cases } from "../helpers/cases.mjs";
-import { agentsOf, agentsPath, recordCase, temporaryFolder } from "../helpers/common.mjs";
+import { agentsOf, agentsPath, recordCase, shellProgram, temporaryFolder } from "../helpers/common.mjs";
 import { CHECKER, withShell } from "../helpers/needs.mjs";
 import { placesOf, recorded } from "../helpers/recorded.mjs";
 
@@ -282,27 +282,16 @@ test("a module that can't be loaded is refused", async (context) => {
 
 test("a missing sabsim is reported before anything runs", async () => {
   const options = { sabsim: "/nowhere/sabsim" };
-  await assert.rejects(recordCase("nothing", options), (error) => {
-    assert.ok(error instanceof NoSabsim);
-    assert.equal(error.message, "there is no program sabsim at /nowhere/sabsim");
-    return true;
-  });
+  const message = "there is no program sabsim at /nowhere/sabsim";
+  await assert.rejects(recordCase("nothing", options), { constructor: NoSabsim, message });
 });
 
 test("a difference shows both sides", withShell, async (context) => {
   const folder = temporaryFolder(context);
-  const lying = `${folder}/lying`;
-  writeFileSync(lying, "#!/bin/sh\ncat > /dev/null\nprintf '0 0 0 begin\\n1 0 0 act 5\\n'\n", { mode: 0o755 });
-  await assert.rejects(recordCase("addition", { agents: 1, sabsim: lying }), (error) => {
-    assert.ok(error instanceof Difference);
-    assert.equal(error.message, [
-      "seed 1: the code and sabsim differ, in line 2 of the report",
-      "  the code: 1 0 0 act 0",
-      "  sabsim:   1 0 0 act 5",
-    ].join("\n"));
-    return true;
-  });
-  writeFileSync(lying, "#!/bin/sh\necho 'sabsim: 13 BadCall' >&2\nexit 1\n", { mode: 0o755 });
-  const refused = recordCase("addition", { sabsim: lying });
+  const lying = shellProgram(folder, "cat > /dev/null\nprintf '0 0 0 begin\\n1 0 0 act 5\\n'");
+  const message = "seed 1: the code and sabsim differ, in line 2 of the report\n"
+    + "  the code: 1 0 0 act 0\n  sabsim:   1 0 0 act 5";
+  await assert.rejects(recordCase("addition", { agents: 1, sabsim: lying }), { constructor: Difference, message });
+  const refused = recordCase("addition", { sabsim: shellProgram(folder, "echo 'sabsim: 13 BadCall' >&2\nexit 1") });
   await assert.rejects(refused, /status 1 on the script: sabsim: 13 BadCall/);
 });

@@ -1,33 +1,23 @@
 // Seeds that are shared out among command lines, and their summaries, which are joined again.
 
 import assert from "node:assert/strict";
-import { execFile, spawnSync } from "node:child_process";
-import { mkdtempSync, readFileSync, readdirSync, rmSync, writeFileSync } from "node:fs";
-import { tmpdir } from "node:os";
+import { spawnSync } from "node:child_process";
+import { readFileSync, readdirSync, writeFileSync } from "node:fs";
 import { join } from "node:path";
-import { after, before, test } from "node:test";
+import { before, test } from "node:test";
 import { fileURLToPath } from "node:url";
 import { merged, partsOf } from "../../lib/command/merging.mjs";
 import { commandOptionsOf } from "../../lib/command/options.mjs";
-import { Refused } from "../../lib/options/refused.mjs";
 import { seedsWithout, shardOf, united } from "../../lib/seeds/ranges.mjs";
 import { commandHere } from "../helpers/command-here.mjs";
-import { RECORD, agentsOf, agentsPath, moduleOf, nodeNow, temporaryFolder } from "../helpers/common.mjs";
+import {
+  RECORD, agentsOf, agentsPath, moduleOf, nodeNow, nodeThere, refusedInALine, temporaryFolder,
+} from "../helpers/common.mjs";
 import { CHECKING, needing, withSignals } from "../helpers/needs.mjs";
 import { pathOf } from "../helpers/programs.mjs";
 
 const MERGE = fileURLToPath(new URL("../../merge.mjs", import.meta.url));
 const known = (name) => fileURLToPath(new URL(`../known/${name}.mjs`, import.meta.url));
-
-/** Runs a program of node's to its end. @param {string[]} words @param {object} [options] */
-function ran(words, options = {}) {
-  return new Promise((done) => {
-    const child = execFile(process.execPath, words, { maxBuffer: 2 ** 26, ...options }, (error, stdout, stderr) => {
-      done({ status: error?.code ?? 0, stdout, stderr });
-    });
-    child.stdin.end(options.input ?? "");
-  });
-}
 
 /** The summary of a command line as JSON. @param {string[]} words */
 async function summaryOf(words) {
@@ -62,11 +52,8 @@ test("`--shard` takes a number and a count, and refuses other words", () => {
   const { first, last, asked, shard } = commandOptionsOf(["m.mjs", "--seeds", "1..1000", "--shard", "2/4"]);
   assert.deepEqual([first, last, asked, shard], [251, 500, { first: 1, last: 1_000 }, { number: 2, of: 4 }]);
   assert.equal(commandOptionsOf(["m.mjs"]).shard, undefined);
-  const refused = (words, why) => assert.throws(() => commandOptionsOf(["m.mjs", ...words]), (error) => {
-    assert.ok(error instanceof Refused, words.join(" "));
-    assert.match(error.message, why);
-    return !error.message.includes("\n");
-  });
+  const refused = (words, why) =>
+    assert.throws(() => commandOptionsOf(["m.mjs", ...words]), refusedInALine(why, words.join(" ")));
   for (const text of ["", "0/4", "5/4", "1/0", "1.5/4", "2", "1/2/3", "a/b", "1/99999999999999999999"]) {
     refused(["--shard", text], /^--shard must be K\/N, as 2\/4, with K from 1 to N, but is "/);
   }
@@ -101,8 +88,7 @@ for (const [what, of, module, words, endings] of MODULES) {
 }
 
 /** Files with the summaries of three shards, each with files of its own, and the words of all. */
-const shared = { folder: mkdtempSync(join(tmpdir(), "recorder-")), files: [], words: [] };
-after(() => rmSync(shared.folder, { recursive: true, force: true }));
+const shared = { folder: temporaryFolder(), files: [], words: [] };
 
 before(async () => {
   const { folder } = shared;
@@ -123,8 +109,8 @@ before(async () => {
 test("merge.mjs prints the summary of all shards, and names the folder of the first failing run", async () => {
   const { folder, files, words } = shared;
   const [plain, json, one] = await Promise.all([
-    ran([MERGE, ...files]), ran([MERGE, "--format", "json", ...files]),
-    ran([RECORD, ...words, "--out", join(folder, "found")]),
+    nodeThere([MERGE, ...files]), nodeThere([MERGE, "--format", "json", ...files]),
+    nodeThere([RECORD, ...words, "--out", join(folder, "found")]),
   ]);
   assert.deepEqual([plain.status, plain.stderr, json.status, one.status], [1, "", 1, 1]);
   const [, seed] = /^first failing seed: (\d+), deadlock$/m.exec(one.stdout);
@@ -143,23 +129,23 @@ test("merge.mjs reads several summaries from one file, and its own output again"
   const { files: [first, ...others] } = shared;
   const lines = others.map((file) => `${readFileSync(file, "utf8")}\n`).join("\n");
   const [all, two] = await Promise.all([
-    ran([MERGE, first, "-"], { input: lines }), ran([MERGE, "-", "--format", "json"], { input: lines }),
+    nodeThere([MERGE, first, "-"], { input: lines }), nodeThere([MERGE, "-", "--format", "json"], { input: lines }),
   ]);
   assert.equal(two.status, 3);
   assert.equal(all.status, 1);
-  const again = await ran([MERGE, "-"], { input: `${readFileSync(first, "utf8")}\n${two.stdout}` });
+  const again = await nodeThere([MERGE, "-"], { input: `${readFileSync(first, "utf8")}\n${two.stdout}` });
   assert.deepEqual(again, all);
 });
 
 test("merge.mjs reports a missing or stopped shard with status 3", async () => {
   const { folder, files: [first, second, third] } = shared;
-  const missing = await ran([MERGE, third, first]);
+  const missing = await nodeThere([MERGE, third, first]);
   assert.deepEqual([missing.status, missing.stderr], [3, "merge: no summary has the seeds 11 to 20\n"]);
   assert.match(missing.stdout, /^no summary has the seeds 11 to 20\n.*20 runs/);
   const stopped = { why: "interrupted by SIGINT", wanted: 25 };
   const file = join(folder, "stopped.json");
   writeFileSync(file, JSON.stringify({ ...JSON.parse(readFileSync(second, "utf8")), stopped }));
-  const { status, stdout } = await ran([MERGE, first, file, third]);
+  const { status, stdout } = await nodeThere([MERGE, first, file, third]);
   assert.equal(status, 3);
   assert.match(stdout, /^interrupted by SIGINT after 30 of 45 runs\n/);
 });
@@ -177,27 +163,23 @@ test("merge.mjs refuses files that aren't summaries, or don't fit together, with
   const faults = [
     [[join(folder, "none.json")], /none\.json can't be read: ENOENT/],
     [[folder], /can't be read: EISDIR/],
-    [[write("empty", "\n")], /empty has no summary: it is empty\n/],
-    [[write("text", "15 of 200 runs failed\n")], /^merge: line 1 of .*text is no summary .*: it is no JSON\n/],
-    [[write("number", "5")], /it isn't what `record\.mjs --format json` writes\n/],
-    [[write("null", "null")], /it isn't what `record\.mjs --format json` writes\n/],
-    [[changed("form", { summary: 99 })], /it is of form 99, and this recorder writes and reads form 4\n/],
-    [[changed("runs", { runs: "5" })], /its member runs is missing, or isn't what it must be\n/],
+    [[write("empty", "\n")], /empty has no summary: it is empty$/],
+    [[write("text", "15 of 200 runs failed\n")], /^line 1 of .*text is no summary .*: it is no JSON$/],
+    [[write("number", "5")], /it isn't what `record\.mjs --format json` writes$/],
+    [[write("null", "null")], /it isn't what `record\.mjs --format json` writes$/],
+    [[changed("form", { summary: 99 })], /it is of form 99, and this recorder writes and reads form 4$/],
+    [[changed("runs", { runs: "5" })], /its member runs is missing, or isn't what it must be$/],
     [[changed("endings", { endings: { failing: [{ ending: "race", runs: 1 }], passing: [] } })],
       /its member endings\.failing\[0\]\.first is missing/],
-    [[first, second, first], /1\.json and .*1\.json don't fit together: both have seed 1\n/],
-    [[first, changed("overlap", { seeds: [{ first: 10, last: 12 }] })], /don't fit together: both have seed 10\n/],
-    [[first, changed("module", { asked: other })], /they are of different modules, .*agents\.mjs and other\.mjs\n/],
+    [[first, second, first], /1\.json and .*1\.json don't fit together: both have seed 1$/],
+    [[first, changed("overlap", { seeds: [{ first: 10, last: 12 }] })], /don't fit together: both have seed 10$/],
+    [[first, changed("module", { asked: other })], /they are of different modules, .*agents\.mjs and other\.mjs$/],
     [[first, changed("edited", { asked: { ...asked, digest: "00" } })], /the text of .*agents\.mjs isn't the same in /],
     [[first, changed("option", { asked: { ...asked, options: { ...asked.options, noBlock: [1] } } })],
-      /don't fit together: --no-block is not given in the one and \[1\] in the other\n/],
+      /don't fit together: --no-block is not given in the one and \[1\] in the other$/],
   ];
   for (const [files, why] of faults) {
-    assert.throws(() => merged(files.flatMap(partsOf)), (error) => {
-      assert.ok(error instanceof Refused, error.stack);
-      assert.match(`merge: ${error.message}\n`, why);
-      return !error.message.includes("\n");
-    });
+    assert.throws(() => merged(files.flatMap(partsOf)), refusedInALine(why));
   }
 });
 
@@ -210,7 +192,7 @@ test("merge.mjs reports wrong words and files with status 2, and prints its help
     [[first, first], /^merge: .* don't fit together: both have seed 1\n$/],
   ];
   const all = [["--help"], ...faults.map(([words]) => words)];
-  const [help, ...refusals] = await Promise.all(all.map((words) => ran([MERGE, ...words])));
+  const [help, ...refusals] = await Promise.all(all.map((words) => nodeThere([MERGE, ...words])));
   assert.equal(help.status, 0);
   assert.match(help.stdout, /^usage: node recorder\/merge\.mjs FILE\.\. /);
   refusals.forEach(({ status, stdout, stderr }, at) => {
@@ -224,7 +206,8 @@ test("merge.mjs ends with status 0 if no run of any shard failed", async (contex
   const module = agentsOf(folder, "Atomics.add(new Int32Array(buffers[0]), 0, 1);");
   const words = [module, "--agents", "2", "--buffers", "4", "--seeds", "1..4", "--check", "0", "--everywhere"];
   const lines = await Promise.all(["1/2", "2/2"].map((shard) => summaryOf([...words, "--shard", shard])));
-  const { status, stdout } = await ran([MERGE, "-"], { input: lines.map((line) => JSON.stringify(line)).join("\n") });
+  const input = lines.map((line) => JSON.stringify(line)).join("\n");
+  const { status, stdout } = await nodeThere([MERGE, "-"], { input });
   assert.equal(status, 0);
   assert.match(stdout, /^4 runs: 4 finished\n/);
 });
@@ -236,7 +219,7 @@ test("the JSON summary reports a job that died, in its member `problems`", withS
     if (globalThis.seeds === 9) process.kill(process.pid, "SIGKILL");
   `);
   const words = [module, "--agents", "1", "--buffers", "4", "--seeds", "1..9", "--check", "0", "--format", "json"];
-  const { status, stdout, stderr } = await ran([RECORD, ...words]);
+  const { status, stdout, stderr } = await nodeThere([RECORD, ...words]);
   const { problems: [problem], stopped, runs } = JSON.parse(stdout);
   assert.match(problem, /^a job's process ended by itself \(SIGKILL\), and nothing is known of (the seeds|seed) \d/);
   assert.deepEqual([status, stderr], [3, `record: ${problem}\n`]);
@@ -252,13 +235,13 @@ test("a shard whose job dies in its first run has a JSON summary for merging", w
   const words = [module, "--agents", "1", "--buffers", "4", "--seeds", "1..4", "--check", "0", "--format", "json"];
   const env = { ...process.env, RECORDER_TEST: "dies" };
   const [died, other] = await Promise.all([
-    ran([RECORD, ...words, "--shard", "1/2"], { env }), ran([RECORD, ...words, "--shard", "2/2"]),
+    nodeThere([RECORD, ...words, "--shard", "1/2"], { env }), nodeThere([RECORD, ...words, "--shard", "2/2"]),
   ]);
   const { problems: [problem], stopped, runs } = JSON.parse(died.stdout);
   assert.match(problem, /\(SIGKILL\), and nothing is known of the seeds 1 to 2$/);
   assert.deepEqual([died.status, died.stderr], [3, `record: ${problem}\n`]);
   assert.deepEqual([runs, stopped], [0, { why: "stopped", wanted: 2 }]);
-  const { status, stdout, stderr } = await ran([MERGE, "-"], { input: died.stdout + other.stdout });
+  const { status, stdout, stderr } = await nodeThere([MERGE, "-"], { input: died.stdout + other.stdout });
   assert.deepEqual([status, stderr], [3, `merge: ${problem}\n`]);
   assert.match(stdout, /^stopped after 2 of 4 runs\n2 runs: 2 finished\n/);
 });
@@ -266,7 +249,7 @@ test("a shard whose job dies in its first run has a JSON summary for merging", w
 test("a module that is refused when it is loaded has no summary", async (context) => {
   const module = moduleOf(context, "throw new Error('no agents');\nexport default () => {};\n");
   const words = [module, "--agents", "1", "--buffers", "4", "--format", "json"];
-  const { status, stdout, stderr } = await ran([RECORD, ...words]);
+  const { status, stdout, stderr } = await nodeThere([RECORD, ...words]);
   assert.deepEqual([status, stdout], [2, ""]);
   assert.match(stderr, /^record: .*agents\.mjs can't be loaded: /);
 });

@@ -1,7 +1,6 @@
 // `sabsim/test` in a test suite: what node's runner says about a module of agents that fails, and of one that doesn't.
 
 import assert from "node:assert/strict";
-import { spawn } from "node:child_process";
 import {
   existsSync, mkdirSync, readFileSync, readdirSync, realpathSync, rmSync, symlinkSync, writeFileSync,
 } from "node:fs";
@@ -12,6 +11,7 @@ import { keptFolder } from "../../lib/suite/kept-folder.mjs";
 import { assertAgents } from "../../testing.mjs";
 import { WITHOUT_SABSIM, agentsPath, nodeNow, temporaryFolder } from "../helpers/common.mjs";
 import { onLinux, withLinks } from "../helpers/needs.mjs";
+import { suiteIn } from "../helpers/suites.mjs";
 
 const HELPER = new URL("../../testing.mjs", import.meta.url).href;
 
@@ -25,43 +25,24 @@ const HELPER = new URL("../../testing.mjs", import.meta.url).href;
 async function suite(context, code, env = {}, reporter = "spec") {
   // A suite works in this folder, and node knows its files by their own paths.
   const folder = realpathSync(temporaryFolder(context));
-  const temporary = join(folder, "temporary");
-  mkdirSync(temporary);
   writeFileSync(join(folder, "agents.mjs"), readFileSync(agentsPath("naive-mutex"), "utf8"));
   writeFileSync(join(folder, "lock.test.mjs"), `import { assertAgents, testAgents } from "${HELPER}";\n${code}\n`);
-  const inherited = Object.entries({ ...process.env, ...env, TMPDIR: temporary });
-  const own = Object.fromEntries(inherited.filter(([name]) => name !== "NODE_TEST_CONTEXT" && name !== "FORCE_COLOR"));
-  const words = ["--test", `--test-reporter=${reporter}`, "lock.test.mjs"];
-  const child = spawn(process.execPath, words, { cwd: folder, env: own, stdio: ["ignore", "pipe", "inherit"] });
-  let output = "";
-  child.stdout.setEncoding("utf8").on("data", (text) => {
-    output += text;
-  });
-  const status = await new Promise((done) => {
-    child.on("close", done);
-  });
-  return { folder, temporary, output, status };
+  return suiteIn(folder, "lock.test.mjs", { env, reporter });
 }
 
 /** @type {(() => void)[]} what is done after all tests */
 const ends = [];
 after(() => ends.forEach((end) => end()));
 
-/** @type {ReturnType<typeof suite> | undefined} */
-let optionsSuite;
-
-/** The suite of the two tests about options, which is run once. */
-function ofOptions() {
-  optionsSuite ??= suite({ after: (end) => ends.push(end) }, `
-    testAgents("fails", { ${ALIKE}, seeds: "29", out: "found", shorten: false });
-    testAgents("passes", { ${ALIKE}, seeds: { first: 3, last: 12 }, jobs: 2 });
-    testAgents("isn't checked", { ${ALIKE}, seeds: 2, sabsim: false });
-    testAgents("wrong", { module: "./agents.mjs", seed: 1 });
-    testAgents("none", { module: "./none.mjs" });
-    testAgents("out", { module: "./agents.mjs", out: 5 });
-    testAgents("right", { ${ALIKE}, seeds: 20 });
-  `, {}, "tap");
-  return optionsSuite;
+/**
+ * A suite of several tests, which is run once, when the first of them asks for it.
+ * @param {string} code
+ * @param {string} [reporter]
+ */
+function suiteOnce(code, reporter) {
+  /** @type {ReturnType<typeof suite> | undefined} */
+  let running;
+  return () => (running ??= suite({ after: (end) => ends.push(end) }, code, {}, reporter));
 }
 
 /**
@@ -85,24 +66,31 @@ const ALIKE = 'module: "./agents.mjs", agents: 3, strategy: "uniform", everywher
 const AGENTS = `testAgents("no wake-up is lost", { ${ALIKE}, seeds: "1..200", shorten: false });`;
 const RING = fileURLToPath(new URL("../../examples/ring-frees-first.agents.mjs", import.meta.url));
 
-/** @type {ReturnType<typeof suite> | undefined} */
-let failingSuite;
+/** Two tests are about options. */
+const ofOptions = suiteOnce(`
+  testAgents("fails", { ${ALIKE}, seeds: "29", out: "found", shorten: false });
+  testAgents("passes", { ${ALIKE}, seeds: { first: 3, last: 12 }, jobs: 2 });
+  testAgents("isn't checked", { ${ALIKE}, seeds: 2, sabsim: false });
+  testAgents("wrong", { module: "./agents.mjs", seed: 1 });
+  testAgents("none", { module: "./none.mjs" });
+  testAgents("out", { module: "./agents.mjs", out: 5 });
+  testAgents("right", { ${ALIKE}, seeds: 20 });
+`, "tap");
 
-/** The suite of the three tests about what a failing test shows, which is run once. */
-function ofFailing() {
-  failingSuite ??= suite({ after: (end) => ends.push(end) }, `${AGENTS}
-    testAgents("shorter", { ${ALIKE}, seeds: "29" });
-    testAgents("ring", { module: "${RING}", agents: 2, everywhere: true, seeds: "3", shorten: false });
-  `);
-  return failingSuite;
-}
+/** Three tests are about what a failing test shows. */
+const ofFailing = suiteOnce(`${AGENTS}
+  testAgents("shorter", { ${ALIKE}, seeds: "29" });
+  testAgents("ring", { module: "${RING}", agents: 2, everywhere: true, seeds: "3", shorten: false });
+`);
+
+/** The files of the failing run, of which it is kept without its original. */
+const FILES = ["json", "report", "trace.jsonl", "explained", "svg", "html"].map((ending) => `seed-29.${ending}`);
 
 test("a failing test shows seed, ending, its explained end, and where its files lie", async () => {
   const { folder, temporary, output, status } = await ofFailing();
   assert.equal(status, 1);
   const place = keptIn(temporary, false);
-  const names = ["json", "report", "trace.jsonl", "explained", "svg", "html"].map((ending) => `seed-29.${ending}`);
-  assert.deepEqual(readdirSync(place).sort(), [...names].sort());
+  assert.deepEqual(readdirSync(place).sort(), FILES.toSorted());
   const explained = readFileSync(join(place, "seed-29.explained"), "utf8").split("\n");
   const shown = explained.slice(explained.findIndex((line) => line.startsWith("block ")), -1);
   // The failure as the reporter shows it, without the indentation that it gives.
@@ -121,7 +109,7 @@ test("a failing test shows seed, ending, its explained end, and where its files 
   assert.match(last, new RegExp(`^ {2}173 0 19 wait +${wait}$`));
   assert.equal(end - shown.length - (from + 4), 16);
   assert.deepEqual(lines.slice(end, end + 4), [
-    "", `kept in ${place}: ${names.join(", ")}`, "", `    at ${pathToFileURL(join(folder, "lock.test.mjs")).href}:2:1`,
+    "", `kept in ${place}: ${FILES.join(", ")}`, "", `    at ${pathToFileURL(join(folder, "lock.test.mjs")).href}:2:1`,
   ]);
   assert.ok(!output.includes("generatedMessage"));
 });
@@ -131,9 +119,8 @@ test("a failing run is kept where `out` says, and a passing test says how many r
   assert.equal(status, 1);
   assert.match(output, /^not ok 1 - fails$/m);
   assert.match(output, /^ +seed 29: deadlock\n +agent 0 waits at byte 4 of block 0: its call 19, /m);
-  const kept = ["json", "report", "trace.jsonl", "explained", "svg", "html"].map((ending) => `seed-29.${ending}`);
-  assert.ok(output.includes(`kept in ${join(folder, "found")}: ${kept.join(", ")}`), output);
-  assert.deepEqual(readdirSync(join(folder, "found")).sort(), kept.toSorted());
+  assert.ok(output.includes(`kept in ${join(folder, "found")}: ${FILES.join(", ")}`), output);
+  assert.deepEqual(readdirSync(join(folder, "found")).sort(), FILES.toSorted());
   assert.match(output, /^ok 2 - passes$/m);
   assert.match(output, /^# 10 runs passed, 10 checked by the simulator$/m);
   assert.match(output, /^# 2 runs passed, none checked: the options say that sabsim isn't asked$/m);
@@ -152,9 +139,8 @@ test("the shortest run that fails so is shown and kept, with the original beside
   const waits = /^ +agent 0 waits at byte 4 of block 0: its call 1, \["wait", "Int32", 1, 0\], at agents\.mjs:12:60$/m;
   assert.match(output, waits);
   const place = keptIn(temporary, true);
-  const texts = ["json", "report", "trace.jsonl"];
-  const endings = [...texts, ...texts.map((ending) => `original.${ending}`), "explained", "svg", "html"];
-  assert.deepEqual(readdirSync(place).sort(), endings.map((ending) => `seed-29.${ending}`).sort());
+  const originals = ["json", "report", "trace.jsonl"].map((ending) => `seed-29.original.${ending}`);
+  assert.deepEqual(readdirSync(place).sort(), [...FILES, ...originals].sort());
   const callsOf = (name) => JSON.parse(readFileSync(join(place, name), "utf8")).agents.flatMap(({ calls }) => calls);
   assert.ok(callsOf("seed-29.json").length < callsOf("seed-29.original.json").length);
 });
@@ -166,7 +152,7 @@ test("options that can't be fail their test, and others go on", async () => {
   }
   assert.match(output, /error: .*there is no file .*none\.mjs/);
   // Each has the line of its own test, and none of the recorder's.
-  for (const line of [6, 7, 8]) assert.match(output, new RegExp(`^ +file://.*lock\\.test\\.mjs:${line}:5$`, "m"));
+  for (const line of [6, 7, 8]) assert.match(output, new RegExp(`^ +file://.*lock\\.test\\.mjs:${line}:3$`, "m"));
   const lines = output.split("\n").filter((line) => !line.includes("location:"));
   assert.deepEqual(lines.filter((line) => line.includes("/recorder/lib/")), []);
   assert.match(output, /^ok 7 - right$/m);

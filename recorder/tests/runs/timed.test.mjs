@@ -2,10 +2,9 @@
 // a lost wake-up that a time hides.
 
 import assert from "node:assert/strict";
-import { mkdtempSync, readFileSync, readdirSync, rmSync } from "node:fs";
-import { tmpdir } from "node:os";
+import { readFileSync, readdirSync } from "node:fs";
 import { join } from "node:path";
-import { after, describe, it } from "node:test";
+import { describe, it } from "node:test";
 import { Summary } from "../../lib/command/summary.mjs";
 import { defaultsOf } from "../../lib/options/table.mjs";
 import { durationText, earlyText } from "../../lib/run/timed-ends.mjs";
@@ -13,7 +12,7 @@ import { FirstFailing, comesBefore } from "../../lib/run/order.mjs";
 import { shorten } from "../../lib/shorter/shorten.mjs";
 import { explore, record } from "../../recorder.mjs";
 import { assertAgents } from "../../testing.mjs";
-import { agentsPath } from "../helpers/common.mjs";
+import { agentsPath, temporaryFolder } from "../helpers/common.mjs";
 import { groupOf } from "../helpers/groups.mjs";
 import { runNode } from "../helpers/programs.mjs";
 import { placesOf, recorded, seedsTo, summaryLines } from "../helpers/recorded.mjs";
@@ -203,8 +202,7 @@ describe("what comes first of failing runs", () => {
 });
 
 describe("joined, kept and stopped", { concurrency: 2 }, () => {
-  const folder = mkdtempSync(join(tmpdir(), "sabsim-timed-"));
-  after(() => rmSync(folder, { recursive: true }));
+  const folder = temporaryFolder();
   const both = { module: agentsPath("timed"), args: ["both"], sabsim: false, ...FEW_WORKERS };
 
   it("`failFast` ends at the first failing run without an early end", async () => {

@@ -11,12 +11,11 @@ import { UNSEEN_LINE } from "../../lib/run/trace.mjs";
 import { agentsPath, commandThere, temporaryFolder } from "../helpers/common.mjs";
 import { CHECKING } from "../helpers/needs.mjs";
 import { recorded } from "../helpers/recorded.mjs";
-import { slowRaces } from "../helpers/second-detector.mjs";
-import { MEMBERS } from "../helpers/slow-judge.mjs";
+import { MEMBERS, racingLines } from "../helpers/slow-judge.mjs";
 
 const RING = fileURLToPath(new URL("../../examples/ring-frees-first.agents.mjs", import.meta.url));
 const knownPath = (name) => fileURLToPath(new URL(`../known/${name}.mjs`, import.meta.url));
-/** The events of a trace. @returns {import("../helpers/second-detector.mjs").Event[]} */
+/** The events of a trace. @returns {import("../helpers/slow-judge.mjs").Event[]} */
 function eventsOf(trace) {
   assert.ok(trace.endsWith("\n"));
   return trace.slice(0, -1).split("\n").map((line, at) => {
@@ -30,14 +29,6 @@ function eventsOf(trace) {
 function seenEventsOf(trace) {
   assert.ok(trace.startsWith(UNSEEN_LINE));
   return eventsOf(trace.slice(UNSEEN_LINE.length));
-}
-
-const shortOf = (source) => source.slice(source.lastIndexOf("/") + 1);
-
-/** The different pairs of lines that race by the second judge, in the words of a summary. */
-function racingPairs(events) {
-  const pairs = slowRaces(events).map((pair) => pair.map((at) => shortOf(events[at].source)).sort().join(" and "));
-  return [...new Set(pairs)].sort();
 }
 
 /** Without pilots, half as many workers are needed. */
@@ -54,7 +45,7 @@ describe("traces", { concurrency: 2 }, () => {
     const events = eventsOf(readFileSync(join(out, `seed-${seed}.trace.jsonl`), "utf8"));
     const printed = [...stdout.matchAll(new RegExp(`^  seed ${seed} the first, \\d+ runs?: (.*)$`, "gm"))];
     assert.ok(printed.length > 0, stdout);
-    assert.deepEqual(printed.map(([, pair]) => pair).sort(), racingPairs(events));
+    assert.deepEqual(printed.map(([, pair]) => pair).sort(), racingLines(events));
     assert.ok(events.every(({ source }) => source.startsWith("ring-frees-first.mjs:")));
     const { agents } = JSON.parse(readFileSync(join(out, `seed-${seed}.json`), "utf8"));
     const own = agents.flatMap(({ calls }) => calls.filter(([, view]) => !view.startsWith("ordinary")));

@@ -9,7 +9,7 @@ import { isRacy, racesOf } from "../../lib/run/races.mjs";
 import { SourceNames } from "../../lib/run/source-names.mjs";
 import { randomEvents } from "../helpers/events.mjs";
 import { logOf } from "../helpers/logs.mjs";
-import { slowRaces } from "../helpers/second-detector.mjs";
+import { slowRaces } from "../helpers/slow-judge.mjs";
 
 // Events of the runs below. Bytes are of block 0 if no other is given.
 

@@ -6,6 +6,7 @@ import { readFileSync, readdirSync } from "node:fs";
 import { describe, test } from "node:test";
 import { Simulator, Trapped } from "../../wasm/simulator.mjs";
 import { limited } from "../helpers/limited-module.mjs";
+import { moduleOfOne } from "../helpers/wrong-modules.mjs";
 
 const WASM = new URL("../../wasm/", import.meta.url);
 const EXAMPLES = new URL("../../../crates/check_scripts/data/examples/", import.meta.url);
@@ -137,15 +138,10 @@ describe("command lines", () => {
 });
 
 /** A module whose first call in an instance returns, and whose second one traps. */
-const TRAPPING = Uint8Array.from([
-  ...[0, 0x61, 0x73, 0x6d, 1, 0, 0, 0],
-  // A type with five numbers of 32 bits and five of 64, a function of it, a memory of a page.
-  ...[1, 14, 1, 0x60, 10, ...Array(5).fill(0x7f), ...Array(5).fill(0x7e), 0],
-  ...[3, 2, 1, 0, 5, 3, 1, 0, 1],
-  ...[7, 23, 2, 6, ...bytesOf("memory"), 2, 0, 10, ...bytesOf("sabsim_run"), 0, 0],
+const TRAPPING = moduleOfOne(
   // If the byte at 0 is 1 it traps; then that byte becomes 1.
-  ...[10, 20, 1, 18, 0, 0x41, 0, 0x2d, 0, 0, 0x04, 0x40, 0, 0x0b, 0x41, 0, 0x41, 1, 0x3a, 0, 0, 0x0b],
-]);
+  18, 0, 0x41, 0, 0x2d, 0, 0, 0x04, 0x40, 0, 0x0b, 0x41, 0, 0x41, 1, 0x3a, 0, 0, 0x0b,
+);
 
 describe("failures", () => {
   test("a trap is an error, and the next call has another memory", () => {

@@ -1,6 +1,16 @@
 // test262's tests of several agents: the files that call `$262.agent.start`, by their folders in
 // `built-ins/Atomics`.
 
+const SPURIOUS = ["no-operation", ...["add", "and", "compareExchange", "exchange", "or", "store", "sub", "xor"]
+  .map((name) => `on-${name}`)].map((name) => `no-spurious-wakeup-${name}`).join(" ");
+const WAIT_ASYNC = `
+  false-for-timeout-agent good-views nan-for-timeout-agent negative-timeout-agent ${SPURIOUS} null-for-timeout-agent
+  object-for-timeout-agent poisoned-object-for-timeout-throws-agent symbol-for-index-throws-agent
+  symbol-for-timeout-throws-agent symbol-for-value-throws-agent true-for-timeout-agent undefined-for-timeout-agent
+  undefined-index-defaults-to-zero-agent value-not-equal-agent waiterlist-block-indexedposition-wake
+  was-woken-before-timeout
+`;
+
 /** @type {Record<string, string>} */
 const NAMES = {
   notify: `
@@ -12,39 +22,18 @@ const NAMES = {
     notify-all-on-loc
   `,
   wait: `
-    false-for-timeout-agent good-views nan-for-timeout negative-timeout-agent no-spurious-wakeup-no-operation
-    no-spurious-wakeup-on-add no-spurious-wakeup-on-and no-spurious-wakeup-on-compareExchange
-    no-spurious-wakeup-on-exchange no-spurious-wakeup-on-or no-spurious-wakeup-on-store no-spurious-wakeup-on-sub
-    no-spurious-wakeup-on-xor null-for-timeout-agent object-for-timeout-agent poisoned-object-for-timeout-throws-agent
-    symbol-for-index-throws-agent symbol-for-timeout-throws-agent symbol-for-value-throws-agent true-for-timeout-agent
-    undefined-for-timeout undefined-index-defaults-to-zero value-not-equal wait-index-value-not-equal
-    waiterlist-block-indexedposition-wake waiterlist-order-of-operations-is-fifo was-woken-before-timeout
-  `,
-  "wait/bigint": `
-    false-for-timeout-agent nan-for-timeout negative-timeout-agent no-spurious-wakeup-no-operation
-    no-spurious-wakeup-on-add no-spurious-wakeup-on-and no-spurious-wakeup-on-compareExchange
-    no-spurious-wakeup-on-exchange no-spurious-wakeup-on-or no-spurious-wakeup-on-store no-spurious-wakeup-on-sub
-    no-spurious-wakeup-on-xor value-not-equal waiterlist-block-indexedposition-wake
+    false-for-timeout-agent good-views nan-for-timeout negative-timeout-agent ${SPURIOUS} null-for-timeout-agent
+    object-for-timeout-agent poisoned-object-for-timeout-throws-agent symbol-for-index-throws-agent
+    symbol-for-timeout-throws-agent symbol-for-value-throws-agent true-for-timeout-agent undefined-for-timeout
+    undefined-index-defaults-to-zero value-not-equal wait-index-value-not-equal waiterlist-block-indexedposition-wake
     waiterlist-order-of-operations-is-fifo was-woken-before-timeout
   `,
-  waitAsync: `
-    false-for-timeout-agent good-views nan-for-timeout-agent negative-timeout-agent no-spurious-wakeup-no-operation
-    no-spurious-wakeup-on-add no-spurious-wakeup-on-and no-spurious-wakeup-on-compareExchange
-    no-spurious-wakeup-on-exchange no-spurious-wakeup-on-or no-spurious-wakeup-on-store no-spurious-wakeup-on-sub
-    no-spurious-wakeup-on-xor null-for-timeout-agent object-for-timeout-agent poisoned-object-for-timeout-throws-agent
-    symbol-for-index-throws-agent symbol-for-timeout-throws-agent symbol-for-value-throws-agent true-for-timeout-agent
-    undefined-for-timeout-agent undefined-index-defaults-to-zero-agent value-not-equal-agent
-    waiterlist-block-indexedposition-wake was-woken-before-timeout
+  "wait/bigint": `
+    false-for-timeout-agent nan-for-timeout negative-timeout-agent ${SPURIOUS} value-not-equal
+    waiterlist-block-indexedposition-wake waiterlist-order-of-operations-is-fifo was-woken-before-timeout
   `,
-  "waitAsync/bigint": `
-    false-for-timeout-agent good-views nan-for-timeout-agent negative-timeout-agent no-spurious-wakeup-no-operation
-    no-spurious-wakeup-on-add no-spurious-wakeup-on-and no-spurious-wakeup-on-compareExchange
-    no-spurious-wakeup-on-exchange no-spurious-wakeup-on-or no-spurious-wakeup-on-store no-spurious-wakeup-on-sub
-    no-spurious-wakeup-on-xor null-for-timeout-agent object-for-timeout-agent poisoned-object-for-timeout-throws-agent
-    symbol-for-index-throws-agent symbol-for-timeout-throws-agent symbol-for-value-throws-agent true-for-timeout-agent
-    undefined-for-timeout-agent undefined-index-defaults-to-zero-agent value-not-equal-agent
-    waiterlist-block-indexedposition-wake was-woken-before-timeout
-  `,
+  waitAsync: WAIT_ASYNC,
+  "waitAsync/bigint": WAIT_ASYNC,
 };
 
 /** Their paths from the folder of SpiderMonkey's sources. */

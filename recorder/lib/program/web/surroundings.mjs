@@ -9,14 +9,14 @@ import { WebEnds } from "./web-ends.mjs";
 import { fetchOf } from "./fetch.mjs";
 import { beginGlobals, installGlobals } from "./globals.mjs";
 import { WebModuleGraph } from "./web-graph.mjs";
-import { WebPortEvents, eventOfMessage, serveWebPorts, webBroadcastClass } from "./web-ports.mjs";
+import { WebPorts, eventOfMessage, serveWebPorts, webBroadcastClass } from "./web-ports.mjs";
 import { serveWorkers, webWorkerClass } from "./worker-object.mjs";
 
 const { TypeError: EngineTypeError } = globalThis;
 const { wait: engineWait } = Atomics;
 
 /** @typedef {import("./worker-object.mjs").WebStart} WebStart */
-/** @typedef {{ ends: WebEnds, events: WebPortEvents, blobs: Blobs }} WebServices */
+/** @typedef {{ ends: WebEnds, ports: WebPorts, blobs: Blobs }} WebServices */
 /** @typedef {import("../program-worker.mjs").ThreadServices & WebServices} WebParts */
 
 /** @param {number} agent @returns {typeof Atomics} the engine's own; in a page `wait` throws, as the engine's does */
@@ -33,7 +33,7 @@ function atomicsOf(agent) {
 
 /** @param {WebParts} parts @param {WebModuleGraph} graph */
 function install(parts, graph) {
-  const { events: { targets }, ends, later } = parts;
+  const { ports: { targets }, ends, later } = parts;
   const blobs = new Blobs(parts);
   Object.assign(ends, { targets, later });
   Object.assign(parts, { blobs });
@@ -51,7 +51,7 @@ function install(parts, graph) {
  * @param {any} parentPort null in the first thread
  */
 function begin(parts, start, parentPort) {
-  const { ports, moves, control, buffers, ends, events: { targets } } = parts;
+  const { ports, ports: { targets }, moves, control, buffers, ends } = parts;
   ends.where = start.where;
   if (parentPort !== null) {
     ports.known(parentPort).taker = (envelope) => {
@@ -95,14 +95,14 @@ export const WEB = {
   Graph: WebModuleGraph,
   hasPhases: false,
   Ends: WebEnds,
-  PortEvents: WebPortEvents,
+  Ports: WebPorts,
   atomics: atomicsOf,
   serve: serveWebPorts,
   install,
   mainStart: ({ program }) => ({ url: program, name: "", where: "" }),
   begin,
   evaluated,
-  clear: (/** @type {WebParts} */ { events: { targets }, blobs }) => {
+  clear: (/** @type {WebParts} */ { ports: { targets }, blobs }) => {
     targets.clear();
     blobs.clear();
   },

@@ -5,7 +5,8 @@ import threads from "node:worker_threads";
 import { deleteProperty, getPrototypeOf, put } from "../../primordials.mjs";
 import { DELIVER, broadcastClass } from "../broadcast.mjs";
 import { QueuedPort } from "../known-ports.mjs";
-import { PortEvents, serveMethods } from "../port-events.mjs";
+import { serveMethods } from "../port-events.mjs";
+import { Ports } from "../ports.mjs";
 import { hide } from "./hidden.mjs";
 import { Targets, methodsOf, putHandler, putMethods } from "./targets.mjs";
 
@@ -27,26 +28,24 @@ export const eventOfMessage = ({ value, ports, isUnread }) => (isUnread
   ? new EngineMessageEvent("messageerror", { data: null })
   : new EngineMessageEvent("message", /** @type {any} */ ({ data: value, ports })));
 
-export class WebPortEvents extends PortEvents {
-  /** @param {import("../port-events.mjs").PortEventContext} serving */
-  constructor(serving) {
-    super(serving);
-    const { uncaught, drain, ports: { world } } = serving;
-    this.targets = new Targets({ uncaught, drain, now: () => world.moves.board.clock.now() });
-  }
+export class WebPorts extends Ports {
+  targets = new Targets({
+    uncaught: (thrown) => this.world.late.ends?.uncaught(thrown),
+    drain: () => this.world.late.loop?.drain(),
+    now: () => this.world.moves.board.clock.now(),
+  });
 
   /**
    * Messages of all the BroadcastChannels of a thread come in the order in which they were sent: the standard has one
    * source of tasks for them. Each other port is a source of its own.
    */
   ready() {
-    const { ports } = this;
     const ready = super.ready();
-    const isChannel = (/** @type {any} */ port) => ports.known(port) instanceof QueuedPort;
+    const isChannel = (/** @type {any} */ port) => this.known(port) instanceof QueuedPort;
     const channels = ready.filter(isChannel);
     if (channels.length < 2) return ready;
-    ports.world.control.take();
-    const numberOf = (/** @type {any} */ channel) => ports.queueOf(ports.known(channel).id)[0]?.number ?? Infinity;
+    this.world.control.take();
+    const numberOf = (/** @type {any} */ channel) => this.queueOf(this.known(channel).id)[0]?.number ?? Infinity;
     const first = channels.reduce((one, other) => (numberOf(other) < numberOf(one) ? other : one));
     return ready.filter((port) => port === first || !isChannel(port));
   }
@@ -55,35 +54,30 @@ export class WebPortEvents extends PortEvents {
   give(port, envelope) {
     this.targets.dispatch(port, eventOfMessage(envelope));
   }
-
-  /** Browsers have no event for it yet, though the standard has one. */
-  giveClose() {}
 }
 
 /**
  * Puts the DOM's methods in the place of node's, for ports of the run.
- * @param {WebPortEvents} events
+ * @param {WebPorts} ports
  */
-export function serveWebPorts({ ports, targets }) {
+export function serveWebPorts(ports) {
+  const { targets } = ports;
   const { prototype } = threads.MessagePort;
   for (const owner of [prototype, getPrototypeOf(prototype)]) {
     for (const name of OF_NODE) deleteProperty(/** @type {object} */ (owner), name);
   }
   for (const name of FOR_NODE) hide(prototype, name);
-  const start = (/** @type {any} */ port) => {
-    if (!ports.known(port).closed) ports.start(port);
-  };
   /** @type {Record<string, (this: any, ...given: any[]) => any>} */
   const methods = {
     ...methodsOf(targets),
     postMessage(value, transfer) {
       if (!ports.known(this).closed) ports.send(this, value, transfer, methods.postMessage);
     },
-    start() { start(this); },
+    start() { ports.start(this); },
     close() { ports.close(this); },
   };
   serveMethods(ports, methods);
-  putHandler(prototype, "message", targets, start);
+  putHandler(prototype, "message", targets, (port) => ports.start(port));
   putHandler(prototype, "messageerror", targets);
 }
 

@@ -1,14 +1,8 @@
 // Wrong: two workers load a shared sum, await, and store it again, so one of the additions may be lost.
-import { once } from "node:events";
-import { Worker, isMainThread, workerData } from "node:worker_threads";
+import { add } from "./adders.mjs";
 
-const sum = isMainThread ? new BigInt64Array(new SharedArrayBuffer(8)) : workerData;
-if (isMainThread) {
-  const workers = [1, 2].map(() => new Worker(new URL(import.meta.url), { workerData: sum }));
-  await Promise.all(workers.map((worker) => once(worker, "exit")));
-  if (Atomics.load(sum, 0) !== 2n) throw new Error(`the sum is ${Atomics.load(sum, 0)}`);
-} else {
+await add(async (sum) => {
   const before = Atomics.load(sum, 0);
   await null;
   Atomics.store(sum, 0, before + 1n);
-}
+});

@@ -1,7 +1,8 @@
-// Synchronous calls of an asynchronous worker: main posts a number, sleeps, and takes the answer from a port.
+// Synchronous calls of an asynchronous worker that doubles numbers: main posts a number, sleeps, and takes the answer
+// from a port.
 import { MessageChannel, Worker, receiveMessageOnPort } from "node:worker_threads";
 
-export function createCalls({ worker, looksAgain }) {
+export function double({ worker, looksAgain }, ...numbers) {
   const { port1, port2 } = new MessageChannel();
   const word = new Int32Array(new SharedArrayBuffer(4));
   const options = { workerData: { word, port: port2 }, transferList: [port2] };
@@ -20,5 +21,9 @@ export function createCalls({ worker, looksAgain }) {
       return received.message.answer;
     }
   }
-  return { call, end: () => thread.unref() };
+  for (const number of numbers) {
+    const answer = call(number);
+    if (answer !== number * 2) throw new Error(`the double of ${number} is ${answer}`);
+  }
+  thread.unref();
 }

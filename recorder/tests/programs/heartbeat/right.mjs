@@ -1,13 +1,4 @@
-// Right: main looks each second whether there was a beat within 4 s.
-import { Worker } from "node:worker_threads";
+// Right: the time of each beat is noted.
+import { look } from "./looks.mjs";
 
-const worker = new Worker(new URL("./worker.mjs", import.meta.url));
-let last = Date.now();
-const looks = setInterval(() => {
-  const silence = Date.now() - last;
-  if (silence > 4_000) throw new Error(`no beat for ${silence} ms`);
-}, 1_000);
-worker.on("message", (left) => {
-  last = Date.now();
-  if (left === 0) clearInterval(looks);
-});
+look((worker, note) => worker.on("message", note));

@@ -1,7 +1,8 @@
-// A pool of threads by messages alone. A worker that is taken from the list of idle ones gets the next task.
+// A pool of two threads by messages alone, which squares five numbers. A worker that is taken from the list of idle
+// ones gets the next task.
 import { Worker } from "node:worker_threads";
 
-export class Pool {
+class Pool {
   constructor(size, feed) {
     this.tasks = [];
     this.idle = [];
@@ -38,4 +39,12 @@ export class Pool {
   close() {
     return Promise.all(this.workers.map((worker) => worker.terminate()));
   }
+}
+
+/** @param {(pool: Pool) => void} feed gives tasks to idle workers */
+export async function square(feed) {
+  const pool = new Pool(2, feed);
+  const squares = await Promise.all([1, 2, 3, 4, 5].map((number) => pool.run(number)));
+  if (squares.join() !== "1,4,9,16,25") throw new Error(`squares ${squares}`);
+  await pool.close();
 }

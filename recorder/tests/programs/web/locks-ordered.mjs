@@ -1,7 +1,4 @@
 // Right: two workers ask for the same two locks in the same order.
-const had = [["a", "b"], ["a", "b"]].map((names) => {
-  const worker = new Worker("locks-crossed-worker.mjs", { type: "module" });
-  worker.postMessage(names);
-  return new Promise((done) => { worker.onmessage = done; });
-});
-await Promise.all(had);
+import { ask } from "./locks-askers.mjs";
+
+await ask(["a", "b"], ["a", "b"]);

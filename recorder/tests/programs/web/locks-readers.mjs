@@ -1,14 +1,4 @@
 // Right: two workers read a table, and one writes it, under a lock with two modes.
-const table = new Int32Array(new SharedArrayBuffer(16));
-const asked = [
-  { writes: false, mode: "shared" }, { writes: false, mode: "shared" }, { writes: true, mode: "exclusive" },
-];
-const done = asked.map((each) => {
-  const worker = new Worker("locks-table.mjs", { type: "module" });
-  worker.postMessage({ table, ...each });
-  return new Promise((end) => { worker.onmessage = end; });
-});
-await Promise.all(done);
-await navigator.locks.request("table", { mode: "shared" }, () => {
-  if (table[3] !== 1) throw new Error(`it is ${table[3]}`);
-});
+import { use } from "./locks-users.mjs";
+
+await use("exclusive");

@@ -1,9 +1,4 @@
 // Wrong: a worker steals the lock while the other one counts, and that one goes on.
-const words = new Int32Array(new SharedArrayBuffer(4));
-const counted = ["under", "stealing"].map((how) => {
-  const worker = new Worker("locks-counts.mjs", { type: "module" });
-  worker.postMessage({ words, how });
-  return new Promise((done) => { worker.onmessage = done; });
-});
-await Promise.all(counted);
-if (Atomics.load(words, 0) !== 2) throw new Error(`counted ${Atomics.load(words, 0)}`);
+import { count } from "./locks-threads.mjs";
+
+await count("under", "stealing");
