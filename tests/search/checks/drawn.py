@@ -18,6 +18,8 @@ EXPECTED = [0, 1, -1]
 BOUNDS, COUNTS = [[], [0], [100], [-1]], [[], [1], [1], [2], [0], [-3]]
 TEXTS = ["no", "gave up", "", "caf\u00e9 \u2192"]
 WALKS, STEPS = 25, 14
+# How many agents a file has at most that has several of an automaton.
+MOST_AGENTS = 5
 
 
 class Drawn(NamedTuple):
@@ -28,11 +30,12 @@ class Drawn(NamedTuple):
     limit: int
 
 
-def drawn(seed, only_calls=False):
-    """Returns the file of a seed; if asked with calls alone, on zero bytes, and with timeouts at any time."""
-    draw = random.Random(f"{seed} {only_calls}")
+def drawn(seed, only_calls=False, has_likes=False):
+    """Returns the file of a seed; if asked with calls alone, on zero bytes, and with timeouts at any time; or with
+    several agents of an automaton."""
+    draw = random.Random(f"{seed} {only_calls}{' likes' * has_likes}")
     choice = "early" if only_calls else draw.choice(["early", "early", "last", "last", "never"])
-    file = Writer(draw, only_calls).file()
+    file = Writer(draw, only_calls, has_likes).file()
     grow(draw, file, choice)
     return Drawn(file, choice, draw.choice([1, 2, 4, 9, 17, 33] + 10 * [200]))
 
@@ -40,8 +43,8 @@ def drawn(seed, only_calls=False):
 class Writer:
     """Draws the parts of one file."""
 
-    def __init__(self, draw, only_calls):
-        self.draw, self.only_calls = draw, only_calls
+    def __init__(self, draw, only_calls, has_likes):
+        self.draw, self.only_calls, self.has_likes = draw, only_calls, has_likes
         self.blocks = draw.choice([[8], [8], [16], [8, 8], [8, 8], [4, 8], [8, 0], [8, 8, 1]])
         self.views = [self.view(n) for n in range(draw.randrange(1, 6))]
         digits = ["00"] if only_calls or draw.random() < 0.5 else ["01", "ff"] + 10 * ["00"]
@@ -73,7 +76,9 @@ class Writer:
         automata = [{"name": f"a{n}", "nodes": self.nodes(n)} for n in range(count)]
         # Mostly each automaton has an agent.
         names = [it["name"] for it in automata] + [draw.choice(automata)["name"] for _ in range(draw.randrange(3))]
-        if not self.meets:
+        if self.has_likes:
+            names = [it["name"] for it in automata for _ in range(draw.randrange(1, 5))][:MOST_AGENTS]
+        elif not self.meets:
             names = names[draw.randrange(2) :]
         agents = [{"automaton": name, "block": draw.random() > self.throwing} for name in names]
         file = {"blocks": self.blocks, "views": self.views, "automata": automata, "agents": agents}

@@ -2,6 +2,7 @@
 import subprocess
 from itertools import zip_longest
 
+from .listed import wrong_states
 from model.lines import lines_of
 from model.reading import FAULTS
 
@@ -12,16 +13,20 @@ def searched(simulator, text, *words):
     return ran.returncode, ran.stdout.decode(), ran.stderr.decode()
 
 
-def wrong_search(simulator, text, choice, limit, result):
+def wrong_search(simulator, text, automata, choice, limit, result):
     """Returns what the program finds otherwise than the model's result, which may list states; None if nothing."""
     words = ["--timeouts", choice, "--limit", str(limit), *["--states"] * ("found" in result)]
     status, output, error = searched(simulator, text, *words)
     if (status, error) != (result["status"], ""):
         return f"the program ends with status {status}, and not {result['status']}: {error}"
-    for line, wanted in zip_longest(output.splitlines(), lines_of(result), fillvalue=""):
+    lines, found = output.splitlines(), [*lines_of(result)]
+    states = lines[len(found) :] if "found" in result else []
+    for line, wanted in zip_longest(lines[: len(lines) - len(states)], found, fillvalue=""):
         if line != wanted:
             return f"the program writes {line}, and not {wanted}"
-    return None if output.endswith("\n") else "the program's last line doesn't end"
+    if not output.endswith("\n"):
+        return "the program's last line doesn't end"
+    return wrong_states(automata, choice, result.get("found", []), states)
 
 
 def wrong_fault(simulator, text, number):

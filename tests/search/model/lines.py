@@ -1,12 +1,13 @@
-"""The lines that the program prints about a result, with --format json."""
+"""The lines that the program prints about what it finds, with --format json."""
 import json
 
 FIRST = ("timeouts", "limit", "closed", "states", "acts", "expanded", "depth")
+# The members of the line of a state, besides its number.
 STATE = ("depth", "parent", "by", "blocks", "line", "woken", "nodes", "recent")
 
 
 def lines_of(result):
-    """Yields the lines: of the search, of each kind, and of each state if the result lists states."""
+    """Yields the lines: of the search, and of each kind."""
     final, conflicts = result["final"], result["conflicts"]
     counts = {"conflicts": conflicts["count"], "finals": final["count"], "final_states": final["states"]}
     yield spelled({**{member: result[member] for member in FIRST}, **counts})
@@ -19,8 +20,6 @@ def lines_of(result):
         ("final", final["listed"]),
     ):
         yield from (spelled({"kind": name, **row}) for row in rows if row)
-    for number, row in enumerate(result.get("found", [])):
-        yield spelled({"state": number, **{member: row[member] for member in STATE}})
 
 
 def spelled(value):

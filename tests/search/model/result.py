@@ -45,19 +45,22 @@ def status_of(result):
     return 6 if result["unknown"] or not result["closed"] else 0
 
 
-def described(it):
-    """Returns a state found, as data."""
-    shared = it.state.shared
+def members(state):
+    """Returns the members of a state, as data."""
+    shared = state.shared
     return {
-        "depth": it.depth,
-        "parent": it.parent,
-        "by": it.act and [it.act.agent, it.act.did],
         "blocks": [block.hex() for block in shared.blocks],
         "line": [[waiter.agent, *waiter.place] for waiter in shared.line],
         "woken": sorted(shared.woken),
-        "nodes": list(it.state.nodes),
-        "recent": [list(made) for made in it.state.recent],
+        "nodes": list(state.nodes),
+        "recent": [list(made) for made in state.recent],
     }
+
+
+def described(it):
+    """Returns a state found, as data. It is sorted, and the act is of an agent of the parent, which is sorted too."""
+    by = it.act and [it.act.agent, it.act.did]
+    return {"depth": it.depth, "parent": it.parent, "by": by, **members(it.state)}
 
 
 def result_of(automata, choice="early", limit=1_000_000, with_states=False):
