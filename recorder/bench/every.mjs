@@ -41,11 +41,11 @@ const TIMED = 'TIMEFORMAT="%3R %3U %3S"; time "$@"';
 
 const TITLE = `# Every schedule of many modules
 
-\`recorder/bench/every.mjs\` has made this. Seconds are those of all that \`everySchedule\` does: with 300 real runs,
-and the proved search by the module. They are given by the clock, and as the time of all processors. The trial counted
-states up to renaming of agents, merged moments whose futures looked alike in tests, and made no real runs.
+\`recorder/bench/every.mjs\` has made this. Its seconds, by the clock and of all processors, are those of all
+that \`everySchedule\` does: with 300 real runs, and the proved search by the module. The trial counted states up to
+renaming of agents, merged moments whose futures looked alike in tests, and made no real runs.
 
-| Module | States | Moments | Seconds by the clock | of processors | Found | Seeds find | Trial: states | Seconds | Found | |
+| Module | States | Moments | Clock | Processors | Found | Seeds find | Trial: states | Seconds | Found | |
 |---|---:|---:|---:|---:|---|---|---:|---:|---|---|`;
 
 /** @param {string[]} kinds @returns {string[]} each once */

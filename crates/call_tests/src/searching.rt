@@ -14,7 +14,7 @@ use std::test::Fail;
 /// How many loads each agent makes.
 const LOADS: usize = 31;
 
-/// How many agents there are, whose loads come in any order. Each has an automaton of its own, so that no two are alike.
+/// How many agents there are, whose loads come in any order. Each has an automaton of its own: so no two are alike.
 const AGENTS: usize = 4;
 
 /// As many states as there are: each agent has made 0 to 31 loads.

@@ -326,8 +326,9 @@ export function freshLoader() {
   const loader = loaders.createModuleLoader();
   loaders.getOrInitializeCascadedLoader = () => loader;
   // A later node reads at once by itself.
-  if (!types.isAsyncFunction(loader.load)) return { loader, read: (url, asked) => loader.load(url, asked) };
-  rememberFiles(loader);
+  const isLater = !types.isAsyncFunction(loader.load);
+  rememberFiles(loader, isLater ? "resolveSync" : "defaultResolve");
+  if (isLater) return { loader, read: (url, asked) => loader.load(url, asked) };
   loader.load = async (/** @type {string} */ url, /** @type {ModuleLoadContext} */ asked) => readAtOnce(url, asked);
   return { loader, read: readAtOnce };
 }

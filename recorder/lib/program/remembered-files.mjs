@@ -2,9 +2,11 @@
 
 import fs from "node:fs";
 import { fileURLToPath } from "node:url";
-import { apply } from "../primordials.mjs";
+import { apply, mapGet, mapSet, uncurried } from "../primordials.mjs";
 
+const { Map: EngineMap } = globalThis;
 const { statSync } = /** @type {any} */ (fs);
+const begins = uncurried(String.prototype.startsWith);
 
 /** @param {string} file its path @returns {boolean} */
 export const isThere = (file) => statSync(file, { throwIfNoEntry: false })?.isFile() === true;
@@ -15,22 +17,33 @@ const MOST_FILES = 1_000;
 /** @typedef {{ found: { url: string }, file: string }} FoundFile what was found, and its path */
 
 /** @type {Map<string, FoundFile>} the files that modules import, by module and specifier */
-const files = new Map();
+let files = new EngineMap();
+
+/**
+ * Methods of node's loader that find what a specifier stands for, the second one in later versions: each makes one text
+ * of the module and the specifier that it is given.
+ */
+const FINDING = Object.freeze({
+  defaultResolve: (/** @type {string} */ specifier, /** @type {string} */ parent) => `${parent} ${specifier}`,
+  resolveSync: (/** @type {string} */ parent, /** @type {any} */ request) => `${parent} ${request.specifier}`,
+});
 
 /**
  * Has a loader find a file where it was found before in this thread, as long as it is there: to find it takes long.
  * @param {any} loader
+ * @param {keyof typeof FINDING} name of the method that it finds files by
  */
-export function rememberFiles(loader) {
-  const find = loader.defaultResolve;
-  /** @param {string} specifier @param {string} parent @param {object} given */
-  loader.defaultResolve = (specifier, parent, given) => {
-    const key = `${parent} ${specifier}`;
-    const known = files.get(key);
+export function rememberFiles(loader, name) {
+  const { [name]: find } = loader;
+  const { [name]: keyOf } = FINDING;
+  /** @param {any} first @param {any} second @param {any} third */
+  loader[name] = (first, second, third) => {
+    const key = keyOf(first, second);
+    const known = mapGet(files, key);
     if (known !== undefined && isThere(known.file)) return known.found;
-    const found = apply(find, loader, [specifier, parent, given]);
-    if (files.size === MOST_FILES) files.clear();
-    if (found.url.startsWith("file:")) files.set(key, { found, file: fileURLToPath(found.url) });
+    const found = apply(find, loader, [first, second, third]);
+    if (files.size === MOST_FILES) files = new EngineMap();
+    if (begins(found.url, "file:")) mapSet(files, key, { found, file: fileURLToPath(found.url) });
     return found;
   };
 }
