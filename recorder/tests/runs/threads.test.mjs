@@ -166,7 +166,7 @@ export function main() {
   const { stdout } = nodeNow(["-e", `let depth = 0;
     const deeper = () => { depth += 1; deeper(); };
     try { deeper(); } catch { console.log(depth); }`]);
-  beginThreads(root, 2, undefined, true);
+  beginThreads(root, 2, []);
   const threads = [begunThread(root, undefined, true), begunThread(root), begunThread(root, undefined, true)];
   context.after(() => Promise.all(threads.map((thread) => thread.stop())));
   for (const thread of threads) thread.give(root);
