@@ -31,6 +31,9 @@ const COURSES = {
   "node-cwd": ["--program-output", "none", "--program", join(PUBLISHED, "node/cwd.mjs")],
 };
 
+/** V8 compiles and collects in the threads that ask for it: in threads of its own this takes differing times. */
+const ALONE = "--single-threaded";
+
 /** One job: several would slow each other. */
 const WORDS = ["--jobs", "1", "--format", "json"];
 
@@ -161,8 +164,8 @@ function main() {
     fetchNode(env);
     unpack(commit, join(room, "before"));
     const commands = {
-      before: [process.execPath, join(room, "before/recorder/record.mjs")],
-      now: [...values.node.split(" "), join(ROOT, "recorder/record.mjs")],
+      before: [process.execPath, ALONE, join(room, "before/recorder/record.mjs")],
+      now: [...values.node.split(" "), ALONE, join(ROOT, "recorder/record.mjs")],
     };
     const amount = { seeds: values.seeds, turns: Number(values.turns) };
     process.stdout.write(tableOf(measured(names, amount, commands, env)));
