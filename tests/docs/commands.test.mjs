@@ -46,7 +46,7 @@ const COMMANDS = [
   ["node recorder/sabsim.mjs replay --format explained --acts script.json", { status: 0 }],
   ["node recorder/record.mjs counter.agents.mjs --replay script.json --out found", { status: 1 }],
   ["npm pack", { by: INSTALLS, words: '"npm", ["pack",' }],
-  ["npm install ./sabsim-0.1.0.tgz",
+  ["npm install ./sabsim-0.2.0.tgz",
     { by: "tests/install/installed.mjs", words: '"--no-fund", `./sabsim-${version}.tgz`' }],
   ["node --test", { by: INSTALLS, words: '"node", ["--test", "--test-reporter=tap", "readme.mjs"]' }],
   ["npx sabsim-record --program some.test.mjs",

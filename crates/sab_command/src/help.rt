@@ -5,7 +5,7 @@ pub(crate) const ABOUT: &str =
     "Runs agents that share blocks of bytes by the rules of JavaScript's Atomics, one move at a time";
 
 /// Its version, and the logic that it is proved with.
-pub(crate) const VERSION: &str = "0.1.0, proved with Rattle logic dac8208d650f15bf";
+pub(crate) const VERSION: &str = "0.2.0, proved with Rattle logic dac8208d650f15bf";
 
 /// Its exit statuses, and where to go on.
 pub(crate) const STATUSES: &str = "\
