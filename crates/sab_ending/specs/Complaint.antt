@@ -1,8 +1,8 @@
 -- What is reported about a job that failed.
 use Rattle.std.specs.Prelude.{ℕ, List, [], ◌++◌, Option, Some, None, codes, decimal}
 use Rattle.std.specs.Borrow.{Bor}
-use Rattle.sab_tool.specs.declared.tool_fault.ToolFault.{ToolFault}
-use Rattle.sab_tool.specs.declared.tool_fault.ToolFault.TheVariants.{OrdinaryData}
+use Rattle.sab_faults.specs.declared.tool_fault.ToolFault.{ToolFault}
+use Rattle.sab_faults.specs.declared.tool_fault.ToolFault.TheVariants.{OrdinaryData}
 use Rattle.sab_ending.specs.declared.complaint.Complaint.{Complaint}
 use Rattle.sab_ending.specs.FaultLine.{text_of}
 

@@ -5,7 +5,7 @@ ghost use Rattle.sab_ending.specs.Ending.{status_at, after_job};
 
 use crate::outcome::Outcome;
 use crate::status::status_of;
-use sab_tool::ToolFault;
+use sab_faults::ToolFault;
 
 /// How the program ends.
 #[derive(Clone, Copy, Debug, PartialEq, Eq)]

@@ -15,8 +15,9 @@ use Rattle.sab_script.specs.Setup.{SetupParts, Spells}
 use Rattle.sab_script.specs.Script.{ReadsAs, IsScriptOf, IsUnread}
 use Rattle.sab_script.specs.Truth.{IsTrueFault}
 use Rattle.sab_script.proofs.OnlySetup.{only_setup}
-use Rattle.sab_tool.specs.declared.tool_fault.ToolFault.{ToolFault}
-use Rattle.sab_tool.specs.Replay.{IsRefused, as_tool_fault, script_as_tool_fault}
+use Rattle.sab_faults.specs.declared.tool_fault.ToolFault.{ToolFault}
+use Rattle.sab_faults.specs.Conversions.{as_tool_fault, script_as_tool_fault}
+use Rattle.sab_script_runner.specs.Replay.{IsRefused}
 use Rattle.sab_kept.specs.Rescheduled.{rescheduled, with_schedule}
 use Rattle.sab_kept.specs.Keeping.{IsParsed, IsTextWith, IsKept, IsTextFault, IsUnkept}
 use Rattle.sab_kept.proofs.RescheduledTree.{respelled}

@@ -7,11 +7,11 @@ use Rattle.sab_plan.specs.Report.{ReportParts}
 use Rattle.sab_script.specs.declared.schedule.TheConstants.{MAX_MOVES}
 use Rattle.sab_script.specs.Setup.{SetupParts, Spells, IsOnlySetup}
 use Rattle.sab_script.specs.Script.{ReadsAs, IsScriptOf}
-use Rattle.sab_tool.specs.declared.input.TheConstants.{MAX_INPUT}
-use Rattle.sab_tool.specs.declared.tool_fault.ToolFault.{ToolFault}
-use Rattle.sab_tool.specs.declared.tool_fault.ToolFault.TheVariants.{TooMany, OutOfMemory, WriteFailed}
-use Rattle.sab_tool.specs.Racing.{IsRaceOf, IsScriptUnraced}
-use Rattle.sab_tool.specs.Replay.{IsReportOf, IsRefused}
+use Rattle.sab_script_runner.specs.declared.input.TheConstants.{MAX_INPUT}
+use Rattle.sab_faults.specs.declared.tool_fault.ToolFault.{ToolFault}
+use Rattle.sab_faults.specs.declared.tool_fault.ToolFault.TheVariants.{TooMany, OutOfMemory, WriteFailed}
+use Rattle.sab_script_runner.specs.Racing.{IsRaceOf, IsScriptUnraced}
+use Rattle.sab_script_runner.specs.Replay.{IsReportOf, IsRefused}
 use Rattle.sab_kept.specs.Canonical.{canonical_text}
 use Rattle.sab_kept.specs.Rescheduled.{rescheduled, with_schedule}
 use Rattle.sab_kept.specs.RecordedMoves.{schedule_of}

@@ -4,11 +4,11 @@ ghost use Rattle.std.specs.Prelude.{◌≤◌, IfOk, IfErr};
 ghost use Rattle.serde_json.specs.Data.{depth};
 ghost use Rattle.serde_json.specs.Read.{max_depth};
 ghost use Rattle.serde_json.specs.View.{view};
-ghost use Rattle.sab_tool.specs.Replay.{IsRefused};
+ghost use Rattle.sab_script_runner.specs.Replay.{IsRefused};
 ghost use Rattle.sab_kept.specs.Keeping.{IsParsed};
 
+use sab_faults::ToolFault;
 use sab_script::{Setup, read_setup, read_tree};
-use sab_tool::ToolFault;
 use serde_json::Value;
 use std::alloc::Global;
 

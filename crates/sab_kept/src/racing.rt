@@ -1,13 +1,14 @@
 //! Races that are kept.
 
 ghost use Rattle.std.specs.Prelude.{◌≤◌, IfOk, IfErr};
-ghost use Rattle.sab_tool.specs.Racing.{MAX_SPINS};
+ghost use Rattle.sab_script_runner.specs.Racing.{MAX_SPINS};
 ghost use Rattle.sab_kept.specs.Keeping.{IsRaceIn, IsKept, KeepsRun, IsRaceUnkept, IsKeepFault};
 
 use crate::parsing::parse_script;
 use crate::rescheduled::rescheduled_text;
+use sab_faults::ToolFault;
+use sab_script_runner::{Share, race_plan};
 use sab_sim::Report;
-use sab_tool::{Share, ToolFault, race_plan};
 use std::alloc::Global;
 use std::io::Write;
 use std::sync::Wait;
@@ -18,7 +19,7 @@ use std::thread::Threads;
 /// also that of the script that was written.
 ///
 /// The canonical text is that of [`keep_replay`](crate::keep_replay), and the race is run as
-/// [`race_mixed`](sab_tool::race_mixed) does. TooMany also where the race has more moves than a script
+/// [`race_mixed`](sab_script_runner::race_mixed) does. TooMany also where the race has more moves than a script
 /// can have, or the text has more than 1,048,576 bytes. WriteFailed where a write failed; nothing is
 /// said then of how much was written. Every other fault is a refusal of the script or of the race, and
 /// nothing was written.

@@ -1,13 +1,14 @@
 //! Replays that are kept.
 
 ghost use Rattle.std.specs.Prelude.{IfOk, IfErr};
-ghost use Rattle.sab_tool.specs.Replay.{IsReportOf};
+ghost use Rattle.sab_script_runner.specs.Replay.{IsReportOf};
 ghost use Rattle.sab_kept.specs.Keeping.{IsKept, KeepsRun, IsReplayUnkept, IsKeepFault};
 
 use crate::parsing::parse_script;
 use crate::rescheduled::rescheduled_text;
+use sab_faults::ToolFault;
+use sab_script_runner::replay_moves;
 use sab_sim::Report;
-use sab_tool::{ToolFault, replay_moves};
 use std::alloc::Global;
 use std::io::Write;
 

@@ -10,8 +10,9 @@ ghost use Rattle.sab_kept.specs.Keeping.{IsTextWith, IsTextFault};
 
 use crate::canonical::canonical_text;
 use crate::moves::trees_of;
+use sab_faults::ToolFault;
+use sab_script_runner::{MAX_INPUT, MAX_MOVES};
 use sab_sim::Move;
-use sab_tool::{MAX_INPUT, MAX_MOVES, ToolFault};
 use serde_json::{Value, put};
 use std::alloc::{AllocError, Global};
 

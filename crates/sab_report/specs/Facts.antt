@@ -8,7 +8,7 @@ use Rattle.sab_plan.specs.declared.schedule.Move.{Move}
 use Rattle.sab_plan.specs.Plan.{PlanParts, call_of}
 use Rattle.sab_plan.specs.Journal.{returned_of}
 use Rattle.sab_plan.specs.Report.{ReportParts}
-use Rattle.sab_tool.specs.Replay.{IsReplayOf}
+use Rattle.sab_script_runner.specs.Replay.{IsReplayOf}
 use Rattle.sab_explain.specs.Fact.{IsFact, IsOnlyFact, IsLast}
 use Rattle.sab_explain.specs.Standing.{IsStanding, IsOnlyStanding}
 use Rattle.sab_words.specs.FactFormat.{Texts, no_sinces, sinces_after, entries_text, facts_text}

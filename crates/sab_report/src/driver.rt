@@ -10,16 +10,16 @@ ghost use Rattle.sab_report.specs.RunReport.{IsReportingFault};
 use crate::noting::note;
 use crate::standings::standings_of;
 use sab_explain::Explainer;
+use sab_faults::ToolFault;
 use sab_sim::{Move, Plan, Report};
 use sab_text::Chunk;
-use sab_tool::ToolFault;
 use sab_words::FactFormat;
 use std::alloc::{AllocError, Global};
 use std::io;
 use std::io::Write;
 
 /// Makes the moves of a schedule, and writes their report with its facts; it doesn't flush.
-#[tactic(auto, using(sab_tool::proofs::ReplaySteps::keeps_same))]
+#[tactic(auto, using(sab_script_runner::proofs::ReplaySteps::keeps_same))]
 pub(crate) fn report_facts<F: FactFormat, W: Write>(
     alloc: Global,
     plan: Plan,

@@ -1,11 +1,11 @@
 -- What a race does with the script that a reader gives.
 use Rattle.std.specs.Prelude.{◌≡◌, ◌⊎◌, ℕ, ◌≤◌, List, length, Option, IfSome}
 use Rattle.std.specs.Io.KnownBytes.{Keeps}
-use Rattle.sab_tool.specs.declared.input.TheConstants.{MAX_INPUT}
-use Rattle.sab_tool.specs.declared.tool_fault.ToolFault.{ToolFault}
-use Rattle.sab_tool.specs.Input.{IsInputFault}
-use Rattle.sab_tool.specs.Racing.{IsRaceFault}
-use Rattle.sab_tool.specs.declared.ended.Ended.{Ended}
+use Rattle.sab_script_runner.specs.declared.input.TheConstants.{MAX_INPUT}
+use Rattle.sab_faults.specs.declared.tool_fault.ToolFault.{ToolFault}
+use Rattle.sab_script_runner.specs.Input.{IsInputFault}
+use Rattle.sab_script_runner.specs.Racing.{IsRaceFault}
+use Rattle.sab_script_runner.specs.declared.ended.Ended.{Ended}
 use Rattle.sab_report.specs.Reporting.{RacesAs}
 use Rattle.sab_kept.specs.Keeping.{IsRaceIn, IsRaceUnkept, IsKeepFault}
 use Rattle.sab_command.specs.declared.job.RunForm.{RunForm}

@@ -1,15 +1,15 @@
 -- What a job without threads does with the script that a reader gives.
 use Rattle.std.specs.Prelude.{◌≡◌, ◌⊎◌, ℕ, ◌≤◌, List, length, Option, IfSome}
 use Rattle.std.specs.Io.KnownBytes.{Appends, Keeps}
-use Rattle.sab_tool.specs.declared.input.TheConstants.{MAX_INPUT}
-use Rattle.sab_tool.specs.declared.tool_fault.ToolFault.{ToolFault}
-use Rattle.sab_tool.specs.declared.tool_fault.ToolFault.TheVariants.{OutOfMemory, WriteFailed}
-use Rattle.sab_tool.specs.Input.{IsInputFault}
+use Rattle.sab_script_runner.specs.declared.input.TheConstants.{MAX_INPUT}
+use Rattle.sab_faults.specs.declared.tool_fault.ToolFault.{ToolFault}
+use Rattle.sab_faults.specs.declared.tool_fault.ToolFault.TheVariants.{OutOfMemory, WriteFailed}
+use Rattle.sab_script_runner.specs.Input.{IsInputFault}
 use Rattle.sab_plan.specs.Report.{ReportParts}
 use Rattle.sab_script.specs.Setup.{SetupParts}
-use Rattle.sab_tool.specs.Replay.{IsReportOf, IsReplayFault}
-use Rattle.sab_tool.specs.declared.ended.Ended.{Ended}
-use Rattle.sab_tool.specs.Ended.{ended_of}
+use Rattle.sab_script_runner.specs.Replay.{IsReportOf, IsReplayFault}
+use Rattle.sab_script_runner.specs.declared.ended.Ended.{Ended}
+use Rattle.sab_script_runner.specs.Ended.{ended_of}
 use Rattle.sab_report.specs.Reporting.{ReplaysAs}
 use Rattle.sab_report.specs.declared.judging.Judged.{Judged}
 use Rattle.sab_report.specs.Judging.{JudgesAs, IsJudgeFault}

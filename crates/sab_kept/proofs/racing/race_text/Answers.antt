@@ -3,7 +3,7 @@ use Rattle.std.proofs.Common.{◌≡◌, inl, inr, ap, subst, ◌∙◌}
 use Rattle.serde_json.specs.View.{view}
 use Rattle.sab_plan.specs.Plan.{PlanParts}
 use Rattle.sab_plan.specs.Report.{ReportParts}
-use Rattle.sab_tool.specs.Racing.{IsRaceOf, IsUnraced}
+use Rattle.sab_script_runner.specs.Racing.{IsRaceOf, IsUnraced}
 use Rattle.sab_kept.specs.Keeping.{IsRaceIn, IsRaceUnkept}
 use Rattle.sab_kept.proofs.KeptRuns.{script_of, kept, unkept, exit_fault}
 use Rattle.sab_kept.proofs.NoFloat.{no_float}

@@ -2,8 +2,8 @@
 use Rattle.std.proofs.Common.{◌≡◌, inr, ap, ◌∙◌}
 use Rattle.serde_json.specs.View.{view}
 use Rattle.sab_plan.specs.Report.{ReportParts}
-use Rattle.sab_tool.specs.Replay.{IsReportOf}
-use Rattle.sab_tool.proofs.ReplaySteps.{spelled_moves}
+use Rattle.sab_script_runner.specs.Replay.{IsReportOf}
+use Rattle.sab_script_runner.proofs.ReplaySteps.{spelled_moves}
 use Rattle.sab_kept.specs.Keeping.{IsReplayUnkept}
 use Rattle.sab_kept.proofs.KeptRuns.{kept, unkept, exit_fault}
 use Rattle.sab_kept.proofs.NoFloat.{no_float}
