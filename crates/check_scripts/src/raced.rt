@@ -2,7 +2,7 @@
 
 use crate::way::{SPINS, Way};
 use anyhow::{Context, Result, ensure};
-use sab_kept::keep_race;
+use sab_kept_script::keep_race;
 use sab_script_runner::{Share, replay_bytes, write_report};
 use std::alloc::Global;
 use std::sync::Wait;

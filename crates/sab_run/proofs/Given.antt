@@ -6,7 +6,7 @@ use Rattle.sab_faults.specs.declared.tool_fault.ToolFault.TheVariants.{OutOfMemo
 use Rattle.sab_script_runner.specs.Input.{IsInputFault}
 use Rattle.sab_command.specs.declared.job.Job.{Job}
 use Rattle.sab_command.specs.declared.job.RaceJob.{RaceJob}
-use Rattle.sab_ending.specs.declared.outcome.Outcome.{Outcome}
+use Rattle.sab_exit.specs.declared.outcome.Outcome.{Outcome}
 use Rattle.sab_run.specs.declared.failure.Explanation.{Explanation}
 use Rattle.sab_run.specs.declared.failure.Explanation.TheVariants.{Absent}
 use Rattle.sab_run.specs.Explaining.{IsExplanation}

@@ -34,7 +34,7 @@ use Rattle.sab_faults.specs.ToolFault.{number_of}
 use Rattle.sab_command.specs.declared.job.SearchForm.{SearchForm}
 use Rattle.sab_command.specs.declared.job.SearchForm.TheVariants as F
 use Rattle.sab_command.specs.declared.job.SearchJob.{SearchJob}
-use Rattle.sab_ending.specs.declared.outcome.Outcome.{Outcome}
+use Rattle.sab_exit.specs.declared.outcome.Outcome.{Outcome}
 use Rattle.sab_search.specs.declared.ending.SearchEnd.{SearchEnd}
 use Rattle.sab_script_runner.specs.Input.{IsFaultOfInput}
 use Rattle.sab_script_runner.proofs.ReplaySteps.{keeps_same}

@@ -13,15 +13,15 @@ use Rattle.sab_script_runner.specs.Ended.{ended_of}
 use Rattle.sab_report.specs.Reporting.{ReplaysAs}
 use Rattle.sab_report.specs.declared.judging.Judged.{Judged}
 use Rattle.sab_report.specs.Judging.{JudgesAs, IsJudgeFault}
-use Rattle.sab_kept.specs.Keeping.{KeepsRun, IsReplayUnkept, IsKeepFault}
+use Rattle.sab_kept_script.specs.Keeping.{KeepsRun, IsReplayUnkept, IsKeepFault}
 use Rattle.sab_check.specs.Checked.{IsAccepted, IsRefused}
 use Rattle.sab_command.specs.declared.job.RunForm.{RunForm}
 use Rattle.sab_command.specs.declared.job.RunForm.TheVariants.{Report, Script}
 use Rattle.sab_command.specs.declared.job.Job.{Job}
 use Rattle.sab_command.specs.declared.job.Job.TheVariants.{Replay, Check, Judge}
-use Rattle.sab_ending.specs.declared.outcome.Outcome.{Outcome}
-use Rattle.sab_ending.specs.declared.outcome.Outcome.TheVariants.{Done, Refused, Unfinished, Racy, Flawed, Open}
-use Rattle.sab_ending.specs.Outcome.{outcome_of, judged_outcome}
+use Rattle.sab_exit.specs.declared.outcome.Outcome.{Outcome}
+use Rattle.sab_exit.specs.declared.outcome.Outcome.TheVariants.{Done, Refused, Unfinished, Racy, Flawed, Open}
+use Rattle.sab_exit.specs.Outcome.{outcome_of, judged_outcome}
 
 -- just what a check says came after what the writer held: about a script that isn't refused, or about one that is
 abbrev pub Checks : Outcome → Option (List ℕ) → Option (List ℕ) → List ℕ → Type 0

@@ -20,8 +20,8 @@ use Rattle.sab_search.specs.Search.{SearchesAs, IsSearchFault}
 use Rattle.sab_command.specs.declared.job.SearchForm.{SearchForm}
 use Rattle.sab_command.specs.declared.job.SearchForm.TheVariants as form
 use Rattle.sab_command.specs.declared.job.SearchJob.{SearchJob}
-use Rattle.sab_ending.specs.declared.outcome.Outcome.{Outcome}
-use Rattle.sab_ending.specs.declared.outcome.Outcome.TheVariants.{Done, Flawed, Open}
+use Rattle.sab_exit.specs.declared.outcome.Outcome.{Outcome}
+use Rattle.sab_exit.specs.declared.outcome.Outcome.TheVariants.{Done, Flawed, Open}
 use Rattle.sab_run.specs.declared.failure.Explanation.{Explanation}
 use Rattle.sab_run.specs.declared.failure.Explanation.TheVariants.{Absent, NoMemory, CheckText, AtLine}
 use Rattle.sab_run.specs.declared.failure.Failure.{Failure}

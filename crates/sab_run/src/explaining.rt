@@ -5,7 +5,7 @@ ghost use Rattle.sab_run.specs.Explaining.{IsExplained, IsExplanation};
 
 use crate::failure::Explanation;
 use sab_check::{Checked, check_script};
-use sab_ending::Ending;
+use sab_exit::Ending;
 use sab_faults::ToolFault;
 use std::alloc::{AllocError, Global};
 

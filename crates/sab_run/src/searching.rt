@@ -12,7 +12,7 @@ use crate::failure::{Explanation, Failure};
 use crate::running::flush;
 use sab_automata_text::{MAX_FILE, Refusal};
 use sab_command::{SearchForm, SearchJob};
-use sab_ending::Outcome;
+use sab_exit::Outcome;
 use sab_faults::ToolFault;
 use sab_script_runner::read_at_most;
 use sab_search::{ScriptAsked, SearchAsked, SearchEnd, SearchFault, script_as, search_as};

@@ -9,7 +9,7 @@ ghost use Rattle.sab_verdict.specs.Verdict.{trace_verdict_text};
 ghost use Rattle.sab_run.specs.Tracing.{JudgesTrace, IsTraceFailure, refused_at};
 
 use crate::failure::{Explanation, Failure};
-use sab_ending::Outcome;
+use sab_exit::Outcome;
 use sab_faults::ToolFault;
 use sab_judge::{Trace, Verdict, judge};
 use sab_report::{MAX_REPORTED, VerdictFormat};

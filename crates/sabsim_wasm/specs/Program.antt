@@ -10,11 +10,11 @@ use Rattle.sab_command.specs.declared.job.SearchJob.{SearchJob}
 use Rattle.sab_command.specs.declared.request.Source.{Source}
 use Rattle.sab_command.specs.declared.request.Task.{Task}
 use Rattle.sab_command.specs.declared.request.Task.TheVariants.{OfScript, OfRace, OfTrace, OfSearch}
-use Rattle.sab_ending.specs.declared.outcome.Outcome.{Outcome}
-use Rattle.sab_ending.specs.Status.{status_after}
-use Rattle.sab_ending.specs.Ending.{status_at, after_job}
-use Rattle.sab_ending.specs.FaultLine.{text_of}
-use Rattle.sab_ending.specs.Complaint.{advice_text, file_text, line_text}
+use Rattle.sab_exit.specs.declared.outcome.Outcome.{Outcome}
+use Rattle.sab_exit.specs.Status.{status_after}
+use Rattle.sab_exit.specs.Ending.{status_at, after_job}
+use Rattle.sab_exit.specs.FaultLine.{text_of}
+use Rattle.sab_exit.specs.Complaint.{advice_text, file_text, line_text}
 use Rattle.sab_run.specs.declared.failure.Failure.{Failure}
 use Rattle.sab_run.specs.Failure.{NamesFile, explanation_text, line_of}
 use Rattle.sab_run.specs.Explaining.{IsExplanation}

@@ -12,7 +12,7 @@ ghost use Rattle.sabsim_wasm.specs.Room.{Puts};
 
 use crate::reply::{Reply, put, put_lines, put_no_memory};
 use sab_command::{Job, SearchJob, Source, Task};
-use sab_ending::{Complaint, Ending, Outcome};
+use sab_exit::{Complaint, Ending, Outcome};
 use sab_faults::ToolFault;
 use sab_run::{Explanation, Failure, judge_trace, run, run_search};
 use sab_text::VerdictFormat;

@@ -6,7 +6,7 @@ use crate::expecting::expect;
 use crate::scripts::{STORE_AND_LOAD, STORED_AND_LOADED};
 use sab_automata::Timeouts;
 use sab_command::{Job, RaceJob, RunForm, SearchForm, SearchJob};
-use sab_ending::Outcome;
+use sab_exit::Outcome;
 use sab_faults::ToolFault;
 use sab_report::{Format, Lines, ReportForm, VerdictFormat};
 use sab_run::{Failure, judge_trace, run, run_race, run_search};

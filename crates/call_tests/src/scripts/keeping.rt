@@ -2,7 +2,7 @@
 
 use crate::expecting::expect;
 use sab_faults::ToolFault;
-use sab_kept::{keep_race, recorded_move};
+use sab_kept_script::{keep_race, recorded_move};
 use sab_script_runner::{Share, replay_bytes, write_report};
 use sab_sim::Report;
 use std::alloc::Global;
