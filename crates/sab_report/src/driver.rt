@@ -92,7 +92,7 @@ fn write_entries<F: FactFormat, W: Write>(
     ensures reported { OnOk result (ReportsEntries (F.texts format.old) explainer.old.plan explainer.new.journal
         (append_known (W.contents w.old) chunk.old) (append_known (W.contents w.new) chunk.new)) }
 {
-    let mut sinces = [None; 16];
+    let mut sinces = [None; Plan::MAX_AGENTS];
     for (k, m) in schedule.iter().enumerate() {
         let Ok(reported) = explainer.step(*m) else {
             unreachable!();
