@@ -1,7 +1,8 @@
 //! Scripts that are cut short.
 
 use anyhow::{Context, Result, ensure};
-use sab_tool::{ToolFault, replay_bytes};
+use sab_faults::ToolFault;
+use sab_script_runner::replay_bytes;
 use std::alloc::Global;
 
 /// Checks that each cut of a script is refused as no JSON text, with nothing written, and returns how many there are.

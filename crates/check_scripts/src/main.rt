@@ -24,7 +24,7 @@ use cuts::check_cuts;
 use raced::check_races;
 use refusals::run_calls;
 use refused::check_fault;
-use sab_tool::replay_bytes;
+use sab_script_runner::replay_bytes;
 use std::process::ExitCode;
 use std::rt::{Env, Files};
 use std::sync::Wait;

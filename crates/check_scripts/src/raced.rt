@@ -2,8 +2,8 @@
 
 use crate::way::{SPINS, Way};
 use anyhow::{Context, Result, ensure};
-use sab_kept::keep_race;
-use sab_tool::{Share, replay_bytes, write_report};
+use sab_kept_script::keep_race;
+use sab_script_runner::{Share, replay_bytes, write_report};
 use std::alloc::Global;
 use std::sync::Wait;
 use std::thread::Threads;

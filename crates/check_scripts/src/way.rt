@@ -1,6 +1,7 @@
 //! The ways to run a script.
 
-use sab_tool::{Share, ToolFault, race_bytes, replay_bytes};
+use sab_faults::ToolFault;
+use sab_script_runner::{Share, race_bytes, replay_bytes};
 use std::alloc::Global;
 use std::sync::Wait;
 use std::thread::Threads;

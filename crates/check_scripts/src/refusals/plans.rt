@@ -1,8 +1,8 @@
 //! The plans that calls are given.
 
 use crate::refusals::found::Unmade;
+use sab_script_runner::setup_of;
 use sab_sim::{Plan, Script};
-use sab_tool::setup_of;
 use std::alloc::Global;
 
 /// Agents 0 and 1 wait at one place, and agent 2 wakes one of them.

@@ -3,7 +3,8 @@
 use crate::refusals::found::Found;
 use crate::refusals::scripts::{ITS_REPORT, STORE_AND_LOAD, STORED_AND_LOADED, THREE_WHO_WAIT};
 use crate::refusals::texts::{ROOM, is_text, is_unwritten};
-use sab_tool::{Share, ToolFault, race_bytes, replay_bytes};
+use sab_faults::ToolFault;
+use sab_script_runner::{Share, race_bytes, replay_bytes};
 use std::alloc::Global;
 use std::sync::Wait;
 use std::thread::Threads;

@@ -3,10 +3,11 @@
 use crate::refusals::found::{Found, Refusal, Unmade};
 use crate::refusals::plans::{TWO_WAITS, WAIT_AND_LOAD, plan_of};
 use crate::refusals::texts::{are_all, is_report};
+use sab_faults::{ReadFault, ToolFault};
 use sab_race::moves;
+use sab_script_runner::{read_input, read_setup, setup_of, write_report};
 use sab_sim::Move::{self, Step, TimeUp};
 use sab_sim::SimFault;
-use sab_tool::{ReadFault, ToolFault, read_input, read_setup, setup_of, write_report};
 use serde_json::Value;
 use std::alloc::Global;
 use std::io;

@@ -1,7 +1,7 @@
 //! Texts that calls write, and arrays that they write them into.
 
+use sab_script_runner::write_report;
 use sab_sim::Report;
-use sab_tool::write_report;
 
 /// How many bytes a text can have.
 pub const ROOM: usize = 2_048;
