@@ -1,8 +1,8 @@
 //! Agents in threads.
 
-use crate::refusals::found::{Found, Refusal, Unmade};
-use crate::refusals::gate::Counter;
-use crate::refusals::plans::four_adders;
+use crate::found::{Found, Refusal, Unmade};
+use crate::gate::Counter;
+use crate::plans::four_adders;
 use sab_race::{RaceFault, run_locked, run_rings};
 use sab_script_runner::Share;
 use sab_sim::{Progress, Report};

@@ -1,8 +1,8 @@
 //! Scripts whose reports are written into an array.
 
-use crate::refusals::found::Found;
-use crate::refusals::scripts::{ITS_REPORT, STORE_AND_LOAD, STORED_AND_LOADED, THREE_WHO_WAIT};
-use crate::refusals::texts::{ROOM, is_text, is_unwritten};
+use crate::found::Found;
+use crate::scripts::{ITS_REPORT, STORE_AND_LOAD, STORED_AND_LOADED, THREE_WHO_WAIT};
+use crate::texts::{ROOM, is_text, is_unwritten};
 use sab_faults::ToolFault;
 use sab_script_runner::{Share, race_bytes, replay_bytes};
 use std::alloc::Global;

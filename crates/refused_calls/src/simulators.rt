@@ -1,8 +1,8 @@
 //! Blocks, plans and simulators.
 
-use crate::refusals::found::{Found, Refusal, Unmade};
-use crate::refusals::plans::{OLDEST, plan_of};
-use crate::refusals::texts::is_report;
+use crate::found::{Found, Refusal, Unmade};
+use crate::plans::{OLDEST, plan_of};
+use crate::texts::is_report;
 use sab_block::Block;
 use sab_sim::Answer::{Count, Woken};
 use sab_sim::Move::{self, Step};

@@ -1,7 +1,9 @@
-//! Calls that are made while something outside refuses memory or threads.
+//! Makes calls, to which something outside refuses memory or threads (`tests/refusals`).
 //!
-//! A line reports that the call returned its answer, or that it was refused as it may be, that all stayed which has to
-//! stay, and that the same call once more returned its answer.
+//! Its argument is the name of a call; without one it makes all. A line reports that the call returned its answer, or
+//! that it was refused as it may be, that all stayed which has to stay, and that the same call once more returned its
+//! answer. It ends with status 1 if it finds something wrong.
+#![tactic(auto)]
 
 mod case;
 mod found;
@@ -16,9 +18,11 @@ mod texts;
 use case::{Call, Case, cases};
 use found::{Found, Unmade};
 use std::alloc::Global;
-use std::io;
+use std::process::ExitCode;
+use std::rt::Env;
 use std::sync::Wait;
 use std::thread::Threads;
+use std::{env, io};
 
 /// Makes a call once.
 fn make<R: Threads + Wait + Sync>(rt: &R, alloc: Global, call: Call) -> Result<Found, Unmade> {
@@ -76,8 +80,8 @@ fn print_call<R: Print + AllocGlobal + Threads + Wait + Sync>(
     Ok(!matches!(found, Ok(Found::Wrong(_)) | Err(Unmade::Wrong(_))))
 }
 
-/// Runs the case of this name, or all, and returns whether nothing wrong is found.
-pub fn run_calls<R: Print + AllocGlobal + Threads + Wait + Sync>(
+/// Makes the call of this name, or all, and returns whether nothing wrong is found.
+fn make_calls<R: Print + AllocGlobal + Threads + Wait + Sync>(
     rt: &R,
     name: Option<&str>,
 ) -> io::Result<bool> {
@@ -93,4 +97,28 @@ pub fn run_calls<R: Print + AllocGlobal + Threads + Wait + Sync>(
         println!(rt; "there is no such call")?;
     }
     Ok(is_right && count > 0)
+}
+
+/// The first word of the command line.
+fn word(rt: &(impl Env + AllocGlobal)) -> io::Result<Option<String>> {
+    Ok(env::args(rt)?.nth(1))
+}
+
+fn main(rt: HostRuntime) -> io::Result<ExitCode> {
+    let word = match word(&rt) {
+        Ok(word) => word,
+        Err(error) => {
+            if error.kind() != io::ErrorKind::OutOfMemory {
+                return Err(error);
+            }
+            println!(rt; "refused before the call")?;
+            return Ok(ExitCode::SUCCESS);
+        }
+    };
+    let name = word.as_ref().map(|word| word.as_str());
+    Ok(if make_calls(&rt, name)? {
+        ExitCode::SUCCESS
+    } else {
+        ExitCode::FAILURE
+    })
 }

@@ -1,6 +1,6 @@
 //! The plans that calls are given.
 
-use crate::refusals::found::Unmade;
+use crate::found::Unmade;
 use sab_script_runner::setup_of;
 use sab_sim::{Plan, Script};
 use std::alloc::Global;

@@ -1,8 +1,8 @@
 //! Scripts, what they are read from, and what is made of them.
 
-use crate::refusals::found::{Found, Refusal, Unmade};
-use crate::refusals::plans::{TWO_WAITS, WAIT_AND_LOAD, plan_of};
-use crate::refusals::texts::{are_all, is_report};
+use crate::found::{Found, Refusal, Unmade};
+use crate::plans::{TWO_WAITS, WAIT_AND_LOAD, plan_of};
+use crate::texts::{are_all, is_report};
 use sab_faults::{ReadFault, ToolFault};
 use sab_race::moves;
 use sab_script_runner::{read_input, read_setup, setup_of, write_report};
