@@ -6,7 +6,7 @@ import { randomTrace } from "../../recorder/tests/helpers/random-traces.mjs";
 import { Dice, generatedScript, timedScript } from "../../recorder/tests/helpers/scripts.mjs";
 
 const ROOT = new URL("../../", import.meta.url);
-const CASES = new URL("crates/check_scripts/data/", ROOT);
+const CASES = new URL("tests/scripts/", ROOT);
 const VERDICTS = new URL("tests/verdicts/", ROOT);
 const SEARCHES = new URL("tests/search/examples/", ROOT);
 const MOVES = 100_000;
@@ -37,7 +37,7 @@ function filesIn(folder, ending = ".json") {
   return names.sort().map((name) => ({ name, bytes: readFileSync(new URL(name, folder)) }));
 }
 
-/** @returns {Input[]} every script of the cases of check_scripts, and of the verdicts */
+/** @returns {Input[]} every script of the cases, and of the verdicts */
 export const cases = () => [...filesIn(CASES), ...filesIn(VERDICTS)];
 
 /** @returns {Input[]} the cases that are programs people know */

@@ -2,9 +2,9 @@
 
 use crate::expecting::expect;
 use sab_block::Thrown;
+use sab_faults::{ReadFault, ToolFault};
 use sab_race::RaceFault;
 use sab_sim::{PlanFault, SimFault};
-use sab_tool::{ReadFault, ToolFault};
 use std::alloc::{AllocError, Global};
 use std::fmt;
 use std::test::Fail;

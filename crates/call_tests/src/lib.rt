@@ -1,5 +1,5 @@
 //! Worked examples of the libraries' calls, as tests: blocks, plans, replays, races, traces, scripts and reports. Those
-//! of scripts are no case of the program `check_scripts`, and the built program can't show them.
+//! of scripts are no case of `tests/scripts`, and the built program can't show them.
 #![tactic(auto)]
 
 #[cfg(test)]

@@ -10,8 +10,9 @@ mod reading;
 mod reports;
 
 use crate::expecting::expect;
+use sab_faults::ToolFault;
+use sab_script_runner::{Setup, read_setup, replay_bytes, write_report};
 use sab_sim::{Move, Plan, Report, replay};
-use sab_tool::{Setup, ToolFault, read_setup, replay_bytes, write_report};
 use serde_json::Value;
 use std::alloc::Global;
 use std::test::Fail;

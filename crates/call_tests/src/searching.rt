@@ -5,7 +5,7 @@ ghost use Rattle.std.specs.Prelude.{◌<◌};
 use crate::expecting::expect;
 use sab_automata::Timeouts;
 use sab_command::{SearchForm, SearchJob};
-use sab_ending::Outcome;
+use sab_exit::Outcome;
 use sab_report::VerdictFormat;
 use sab_run::run_search;
 use std::alloc::{AllocError, Global};

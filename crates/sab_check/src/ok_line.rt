@@ -1,6 +1,7 @@
 //! The line of a script that isn't refused.
 
 ghost use Rattle.std.specs.Prelude.{◌≡◌, ◌+◌, ◌*◌, ◌≤◌, ◌++◌, length, OnOk, All, string_bytes};
+ghost use Rattle.sab_plan.specs.declared.plan.TheConstants.Plan.{MAX_AGENTS};
 ghost use Rattle.sab_plan.specs.Script.{ScriptParts};
 ghost use Rattle.sab_check.specs.Text.{count_calls, ok_text};
 
@@ -29,7 +30,7 @@ impl fmt::Display for Plural {
 /// How many calls agents have.
 #[tactic(auto, using(crate::proofs::Counts::few_calls, crate::proofs::Counts::calls_from, crate::proofs::Counts::calls_none))]
 fn call_count(scripts: &[Script]) -> usize
-    requires few { length scripts.now ≤ 16 }
+    requires few { length scripts.now ≤ MAX_AGENTS }
     requires short { All (λ (s : ScriptParts). length s.calls ≤ 1000) scripts.now }
     ensures { result ≡ count_calls scripts.now }
 {

@@ -18,8 +18,8 @@ use Rattle.sab_report.specs.Formats.{ExplainsAsJson}
 use Rattle.sab_json.specs.Lines.{json_text}
 use Rattle.sab_svg.specs.Picture.{svg_text}
 use Rattle.sab_report.specs.Formats.{Draws}
-use Rattle.sab_tool.specs.Replay.{IsReplayOf}
-use Rattle.sab_tool.specs.Racing.{IsRaceOf}
+use Rattle.sab_script_runner.specs.Replay.{IsReplayOf}
+use Rattle.sab_script_runner.specs.Racing.{IsRaceOf}
 use Rattle.sab_text.specs.declared.format.Format.TheVariants.{Plain, Explained, Json, Svg}
 use Rattle.sab_text.specs.declared.format.ReportForm.{ReportForm}
 use Rattle.sab_report.specs.RunReport.{IsByFacts, WritesReport, ReportsMoves, IsColumnOf}

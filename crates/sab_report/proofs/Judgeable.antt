@@ -1,8 +1,8 @@
 -- Scripts that are judged, or that stand for a run with ordinary accesses.
 use Rattle.std.proofs.Common.{◌≡◌, ℕ, Bool, true, false, List, Option, inl, inr, refl, sym, ap, ◌∙◌}
 use Rattle.std.specs.List.{list_any}
-use Rattle.sab_tool.proofs.ReplaySteps.{keeps_same}
-use Rattle.sab_tool.specs.declared.tool_fault.ToolFault.TheVariants.{OrdinaryData, WriteFailed}
+use Rattle.sab_script_runner.proofs.ReplaySteps.{keeps_same}
+use Rattle.sab_faults.specs.declared.tool_fault.ToolFault.TheVariants.{OrdinaryData, WriteFailed}
 use Rattle.sab_script.specs.Script.{IsScriptOf}
 use Rattle.sab_script.specs.Setup.{SetupParts}
 use Rattle.sab_script.specs.Views.{view_names}

@@ -5,18 +5,19 @@ use Rattle.sab_plan.specs.declared.entry.Entry.{Entry}
 use Rattle.sab_plan.specs.declared.fact.Fact.{Fact}
 use Rattle.sab_plan.specs.declared.standing.Standing.{Standing}
 use Rattle.sab_plan.specs.declared.schedule.Move.{Move}
+use Rattle.sab_plan.specs.declared.plan.TheConstants.Plan.{MAX_AGENTS}
 use Rattle.sab_plan.specs.Plan.{PlanParts, call_of}
 use Rattle.sab_plan.specs.Journal.{returned_of}
 use Rattle.sab_plan.specs.Report.{ReportParts}
-use Rattle.sab_tool.specs.Replay.{IsReplayOf}
+use Rattle.sab_script_runner.specs.Replay.{IsReplayOf}
 use Rattle.sab_explain.specs.Fact.{IsFact, IsOnlyFact, IsLast}
 use Rattle.sab_explain.specs.Standing.{IsStanding, IsOnlyStanding}
 use Rattle.sab_words.specs.FactFormat.{Texts, no_sinces, sinces_after, entries_text, facts_text}
 
 -- after any journal, what a format has noted of each agent is its last entry with an effect: its own, or a notify that
--- woke it; a plan has at most 16 agents
+-- woke it
 abbrev pub NotesLast : Type 0
-NotesLast = (journal : List Entry) (a : ℕ) → a < 16
+NotesLast = (journal : List Entry) (a : ℕ) → a < MAX_AGENTS
     → IsLast journal a (slice_index_or (sinces_after no_sinces 0 journal) a None)
 
 -- the fact is that of an entry after a journal, and no other is
@@ -42,9 +43,10 @@ abbrev pub IsStandingOf : PlanParts → List Entry → ℕ → Option Standing �
 IsStandingOf plan journal a None = call_of plan a (returned_of journal a) ≡ None
 IsStandingOf plan journal a (Some s) = IsStanding plan journal a s × IsOnlyStanding plan journal a s
 
--- where each agent stands: a plan has at most 16
+-- where each agent stands
 abbrev pub AreStandings : PlanParts → List Entry → List (Option Standing) → Type 0
-AreStandings plan journal standings = (a : ℕ) → a < 16 → IsStandingOf plan journal a (slice_index_or standings a None)
+AreStandings plan journal standings =
+    (a : ℕ) → a < MAX_AGENTS → IsStandingOf plan journal a (slice_index_or standings a None)
 
 -- the one report of the moves, and its text by facts and standings came behind what the writer held
 pub record ReportsBy (text_of : ReportParts → List Fact → List (Option Standing) → List ℕ) (plan : PlanParts)

@@ -14,10 +14,10 @@ use Rattle.sab_text.specs.declared.format.VerdictFormat.{VerdictFormat}
 use Rattle.sab_verdict.specs.Json.{call_side, judged_calls}
 use Rattle.sab_verdict.specs.ReadsBack.{LinesReadBack}
 use Rattle.sab_verdict.specs.Verdict.{run_verdict_text}
-use Rattle.sab_tool.specs.declared.tool_fault.ToolFault.{ToolFault}
-use Rattle.sab_tool.specs.declared.tool_fault.ToolFault.TheVariants.{OrdinaryData, WriteFailed}
-use Rattle.sab_tool.specs.Replay.{IsRefused, IsReportOf}
-use Rattle.sab_tool.specs.Ended.{ended_of}
+use Rattle.sab_faults.specs.declared.tool_fault.ToolFault.{ToolFault}
+use Rattle.sab_faults.specs.declared.tool_fault.ToolFault.TheVariants.{OrdinaryData, WriteFailed}
+use Rattle.sab_script_runner.specs.Replay.{IsRefused, IsReportOf}
+use Rattle.sab_script_runner.specs.Ended.{ended_of}
 use Rattle.sab_report.specs.declared.judging.TheConstants.{MAX_REPORTED}
 use Rattle.sab_report.specs.declared.judging.Judged.{Judged}
 use Rattle.sab_report.specs.Ordinary.{has_ordinary_data}

@@ -3,9 +3,9 @@ use Rattle.std.specs.Prelude.{◌≡◌, ◌⊎◌, ℕ, List, Option}
 use Rattle.std.specs.Io.KnownBytes.{Keeps}
 use Rattle.sab_plan.specs.Plan.{PlanParts}
 use Rattle.sab_plan.specs.Report.{ReportParts}
-use Rattle.sab_tool.specs.declared.tool_fault.ToolFault.{ToolFault}
-use Rattle.sab_tool.specs.declared.tool_fault.ToolFault.TheVariants.{WriteFailed}
-use Rattle.sab_tool.specs.Racing.{IsRaceOf, IsUnraced}
+use Rattle.sab_faults.specs.declared.tool_fault.ToolFault.{ToolFault}
+use Rattle.sab_faults.specs.declared.tool_fault.ToolFault.TheVariants.{WriteFailed}
+use Rattle.sab_script_runner.specs.Racing.{IsRaceOf, IsUnraced}
 use Rattle.sab_text.specs.declared.format.ReportForm.{ReportForm}
 use Rattle.sab_report.specs.RunReport.{WritesReport}
 

@@ -4,11 +4,11 @@ use Rattle.sab_plan.specs.Report.{ReportParts}
 use Rattle.sab_script.specs.Views.{view_names}
 use Rattle.sab_script.specs.Setup.{SetupParts}
 use Rattle.sab_script.specs.Script.{IsScriptOf}
-use Rattle.sab_tool.specs.Replay.{IsReportOf}
-use Rattle.sab_tool.specs.Racing.{IsRaceOf}
-use Rattle.sab_tool.specs.declared.ended.Ended.{Ended}
+use Rattle.sab_script_runner.specs.Replay.{IsReportOf}
+use Rattle.sab_script_runner.specs.Racing.{IsRaceOf}
+use Rattle.sab_script_runner.specs.declared.ended.Ended.{Ended}
 use Rattle.sab_text.specs.declared.format.ReportForm.{ReportForm}
-use Rattle.sab_tool.specs.Ended.{ended_of}
+use Rattle.sab_script_runner.specs.Ended.{ended_of}
 use Rattle.sab_report.specs.RunReport.{WritesReport}
 
 -- the script spells a setup, its one report was written, and so it ended

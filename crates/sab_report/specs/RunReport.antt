@@ -16,9 +16,9 @@ use Rattle.sab_report.specs.ReadsBack.{LinesReadBack}
 use Rattle.sab_xml.specs.WellFormed.{IsDocument}
 use Rattle.sab_svg.specs.Shape.{shape_of, HaveRoom}
 use Rattle.sab_svg.specs.Picture.{svg_text}
-use Rattle.sab_tool.specs.declared.tool_fault.ToolFault.{ToolFault}
-use Rattle.sab_tool.specs.declared.tool_fault.ToolFault.TheVariants.{OutOfMemory, WriteFailed}
-use Rattle.sab_tool.specs.Replay.{IsReplayOf}
+use Rattle.sab_faults.specs.declared.tool_fault.ToolFault.{ToolFault}
+use Rattle.sab_faults.specs.declared.tool_fault.ToolFault.TheVariants.{OutOfMemory, WriteFailed}
+use Rattle.sab_script_runner.specs.Replay.{IsReplayOf}
 use Rattle.sab_text.specs.declared.format.Format.{Format}
 use Rattle.sab_text.specs.declared.format.Format.TheVariants.{Plain, Explained, Json, Svg}
 use Rattle.sab_text.specs.declared.format.ReportForm.{ReportForm}

@@ -10,16 +10,16 @@ ghost use Rattle.sab_report.specs.RunReport.{IsReportingFault};
 use crate::noting::note;
 use crate::standings::standings_of;
 use sab_explain::Explainer;
+use sab_faults::ToolFault;
 use sab_sim::{Move, Plan, Report};
 use sab_text::Chunk;
-use sab_tool::ToolFault;
 use sab_words::FactFormat;
 use std::alloc::{AllocError, Global};
 use std::io;
 use std::io::Write;
 
 /// Makes the moves of a schedule, and writes their report with its facts; it doesn't flush.
-#[tactic(auto, using(sab_tool::proofs::ReplaySteps::keeps_same))]
+#[tactic(auto, using(sab_script_runner::proofs::ReplaySteps::keeps_same))]
 pub(crate) fn report_facts<F: FactFormat, W: Write>(
     alloc: Global,
     plan: Plan,
@@ -92,7 +92,7 @@ fn write_entries<F: FactFormat, W: Write>(
     ensures reported { OnOk result (ReportsEntries (F.texts format.old) explainer.old.plan explainer.new.journal
         (append_known (W.contents w.old) chunk.old) (append_known (W.contents w.new) chunk.new)) }
 {
-    let mut sinces = [None; 16];
+    let mut sinces = [None; Plan::MAX_AGENTS];
     for (k, m) in schedule.iter().enumerate() {
         let Ok(reported) = explainer.step(*m) else {
             unreachable!();

@@ -11,17 +11,18 @@ ghost use Rattle.sab_report.specs.Driver.{AreMovesOf};
 ghost use Rattle.sab_report.specs.RunReport.{IsColumnOf, IsReportingFault};
 
 use crate::driver::report_facts;
+use sab_faults::ToolFault;
 use sab_json::Json;
+use sab_script_runner::replay_moves;
 use sab_sim::{Move, Plan, Report};
 use sab_svg::Picture;
 use sab_text::Lines;
-use sab_tool::{ToolFault, replay_moves};
 use sab_words::{Column, Layout, Name, Words};
 use std::alloc::{AllocError, Global};
 use std::io::Write;
 
 /// Makes the moves of a schedule, and writes the explained text of their report.
-#[tactic(auto, using(sab_tool::proofs::ReplaySteps::keeps_same))]
+#[tactic(auto, using(sab_script_runner::proofs::ReplaySteps::keeps_same))]
 pub(crate) fn explain<W: Write>(
     alloc: Global,
     plan: Plan,

@@ -11,10 +11,11 @@ ghost use Rattle.sab_report.specs.Judging.{IsJudgeFault, JudgesAs, ReportsVerdic
 use crate::names::names_of;
 use crate::ordinary::has_ordinary;
 use sab_events::trace_of;
+use sab_faults::ToolFault;
 use sab_judge::judge;
+use sab_script_runner::{Ended, replay_moves, setup_of};
 use sab_sim::{Plan, Report};
 use sab_text::VerdictFormat;
-use sab_tool::{Ended, ToolFault, replay_moves, setup_of};
 use sab_verdict::write_run_verdict;
 use sab_words::Name;
 use std::alloc::Global;
@@ -42,7 +43,7 @@ pub struct Judged {
 /// `init_`: such a script stands for a run with ordinary accesses, which it has as stores or not at all, so no verdict
 /// on it would be one on that run. WriteFailed if a write failed; nothing is said then about how much was written. Any
 /// other fault is a refusal of the script, or want of memory. Except after WriteFailed nothing was written.
-#[tactic(auto, using(sab_tool::proofs::ReplaySteps::keeps_same, crate::proofs::Judgeable::ordinary_found, crate::proofs::Judgeable::ordinary_refused, crate::proofs::Judgeable::unwritten_verdict))]
+#[tactic(auto, using(sab_script_runner::proofs::ReplaySteps::keeps_same, crate::proofs::Judgeable::ordinary_found, crate::proofs::Judgeable::ordinary_refused, crate::proofs::Judgeable::unwritten_verdict))]
 pub fn judge_as<W: Write>(
     alloc: Global,
     script: &[u8],
@@ -67,7 +68,7 @@ pub fn judge_as<W: Write>(
 }
 
 /// Judges the run of a report, writes the verdict, and returns whether the run has a race.
-#[tactic(auto, using(sab_tool::proofs::ReplaySteps::keeps_same, sab_events::proofs::Fitting::few_in_report, sab_events::proofs::Fitting::agents_in_report))]
+#[tactic(auto, using(sab_script_runner::proofs::ReplaySteps::keeps_same, sab_events::proofs::Fitting::few_in_report, sab_events::proofs::Fitting::agents_in_report))]
 fn judge_report<W: Write>(
     alloc: Global,
     plan: &Plan,

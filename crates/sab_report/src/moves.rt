@@ -6,14 +6,15 @@ ghost use Rattle.sab_text.specs.Text.{text_by};
 ghost use Rattle.sab_plan.specs.Plan.{IsPlan};
 ghost use Rattle.sab_json.specs.CallData.{AreNames};
 ghost use Rattle.sab_json.specs.SafeNumbers.{HasSafeNumbers};
-ghost use Rattle.sab_tool.specs.Replay.{IsReplayOf};
+ghost use Rattle.sab_script_runner.specs.Replay.{IsReplayOf};
 ghost use Rattle.sab_report.specs.Driver.{AreMovesOf};
 ghost use Rattle.sab_report.specs.RunReport.{ReportsMoves, IsReportingFault};
 
 use crate::explaining::{draw, explain, explain_as_json};
+use sab_faults::ToolFault;
+use sab_script_runner::replay_moves;
 use sab_sim::{Move, Plan, Report};
 use sab_text::{Format, Lines, ReportForm, write_plain};
-use sab_tool::{ToolFault, replay_moves};
 use sab_words::Name;
 use std::alloc::Global;
 use std::io::Write;
@@ -46,7 +47,7 @@ pub(crate) fn report_moves<W: Write>(
 }
 
 /// Makes them, and writes the plain text of their report.
-#[tactic(auto, using(sab_tool::proofs::ReplaySteps::keeps_same))]
+#[tactic(auto, using(sab_script_runner::proofs::ReplaySteps::keeps_same))]
 fn report_plainly<W: Write>(
     alloc: Global,
     plan: Plan,

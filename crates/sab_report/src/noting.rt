@@ -3,10 +3,10 @@
 ghost use Rattle.std.specs.Prelude.{◌≡◌};
 ghost use Rattle.sab_words.specs.FactFormat.{noted};
 
-use sab_sim::{Entry, What};
+use sab_sim::{Entry, Plan, What};
 
 /// Notes the position of an agent's entry, where it had an effect.
-pub(crate) fn note(sinces: &mut [Option<u32>; 16], k: u32, entry: Entry)
+pub(crate) fn note(sinces: &mut [Option<u32>; Plan::MAX_AGENTS], k: u32, entry: Entry)
     ensures { sinces.new ≡ noted sinces.old k entry }
 {
     if matches!(entry.what, What::Stuck(_)) {

@@ -6,15 +6,16 @@ ghost use Rattle.sab_text.specs.Text.{text_by};
 ghost use Rattle.sab_plan.specs.Plan.{IsPlan};
 ghost use Rattle.sab_json.specs.CallData.{AreNames};
 ghost use Rattle.sab_json.specs.SafeNumbers.{HasSafeNumbers};
-ghost use Rattle.sab_tool.specs.Racing.{IsRaceOf, IsRaceFault};
+ghost use Rattle.sab_script_runner.specs.Racing.{IsRaceOf, IsRaceFault};
 ghost use Rattle.sab_report.specs.Racing.{ReportsRace, IsRaceReportingFault};
 ghost use Rattle.sab_report.specs.Reporting.{RacesAs};
 
 use crate::moves::report_moves;
 use crate::names::names_of;
+use sab_faults::ToolFault;
+use sab_script_runner::{Ended, MAX_SPINS, Share, race_plan, setup_of};
 use sab_sim::{Plan, Report};
 use sab_text::{Format, Lines, ReportForm, write_plain};
-use sab_tool::{Ended, MAX_SPINS, Share, ToolFault, race_plan, setup_of};
 use sab_words::Name;
 use std::alloc::Global;
 use std::io::Write;
@@ -39,7 +40,7 @@ pub struct RaceOptions {
 /// effect. WriteFailed where a write failed; nothing is said then of how much was written. Every other fault is a
 /// refusal of the script, agents with more than 2^20 moves in all (TooManyMoves), want of memory, or a thread that
 /// couldn't be started (NoThread), and nothing was written.
-#[tactic(auto, using(sab_tool::proofs::ReplaySteps::keeps_same))]
+#[tactic(auto, using(sab_script_runner::proofs::ReplaySteps::keeps_same))]
 pub fn race_as<R: Threads + Wait + Sync, W: Write>(
     rt: &R,
     alloc: Global,
@@ -86,7 +87,7 @@ fn report_race<R: Threads + Wait + Sync, W: Write>(
 }
 
 /// Runs them, and writes the plain text of the report.
-#[tactic(auto, using(sab_tool::proofs::ReplaySteps::keeps_same))]
+#[tactic(auto, using(sab_script_runner::proofs::ReplaySteps::keeps_same))]
 fn race_plainly<R: Threads + Wait + Sync, W: Write>(
     rt: &R,
     alloc: Global,
@@ -108,7 +109,7 @@ fn race_plainly<R: Threads + Wait + Sync, W: Write>(
 }
 
 /// Runs them, and then makes the moves of the race once more, to report what each of them found.
-#[tactic(auto, using(sab_tool::proofs::ReplaySteps::keeps_same, crate::proofs::Formats::reported_again))]
+#[tactic(auto, using(sab_script_runner::proofs::ReplaySteps::keeps_same, crate::proofs::Formats::reported_again))]
 fn race_and_replay<R: Threads + Wait + Sync, W: Write>(
     rt: &R,
     alloc: Global,

@@ -1,13 +1,14 @@
 //! From a script to its report.
 
 ghost use Rattle.std.specs.Prelude.{IfOk, IfErr};
-ghost use Rattle.sab_tool.specs.Replay.{IsReplayFault};
+ghost use Rattle.sab_script_runner.specs.Replay.{IsReplayFault};
 ghost use Rattle.sab_report.specs.Reporting.{ReplaysAs};
 
 use crate::moves::report_moves;
 use crate::names::names_of;
+use sab_faults::ToolFault;
+use sab_script_runner::{Ended, setup_of};
 use sab_text::ReportForm;
-use sab_tool::{Ended, ToolFault, setup_of};
 use std::alloc::Global;
 use std::io::Write;
 
@@ -15,7 +16,7 @@ use std::io::Write;
 ///
 /// WriteFailed where a write failed; nothing is said then of how much was written. Every other fault is a refusal of
 /// the script, or want of memory, and nothing was written.
-#[tactic(auto, using(sab_tool::proofs::ReplaySteps::keeps_same))]
+#[tactic(auto, using(sab_script_runner::proofs::ReplaySteps::keeps_same))]
 pub fn replay_as<W: Write>(
     alloc: Global,
     script: &[u8],

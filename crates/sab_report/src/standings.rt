@@ -3,13 +3,14 @@
 ghost use Rattle.sab_report.specs.Facts.{AreStandings};
 
 use sab_explain::{Explainer, Standing};
+use sab_sim::Plan;
 
 /// Where each agent stands of whose calls some haven't returned.
-pub(crate) fn standings_of(explainer: &Explainer) -> [Option<Standing>; 16]
+pub(crate) fn standings_of(explainer: &Explainer) -> [Option<Standing>; Plan::MAX_AGENTS]
     ensures { AreStandings explainer.now.plan explainer.now.journal result }
 {
-    let mut standings = [None; 16];
-    for a in 0..16 {
+    let mut standings = [None; Plan::MAX_AGENTS];
+    for a in 0..Plan::MAX_AGENTS {
         standings[a] = explainer.standing(a as u32);
     }
     standings

@@ -4,14 +4,14 @@ use Rattle.std.specs.Io.KnownBytes.{Appends, Keeps}
 use Rattle.sab_plan.specs.Plan.{PlanParts}
 use Rattle.sab_plan.specs.Report.{ReportParts}
 use Rattle.sab_script.specs.Setup.{SetupParts}
-use Rattle.sab_kept.specs.Keeping.{KeepsRun, IsRaceIn}
-use Rattle.sab_tool.specs.Replay.{IsReportOf}
+use Rattle.sab_kept_script.specs.Keeping.{KeepsRun, IsRaceIn}
+use Rattle.sab_script_runner.specs.Replay.{IsReportOf}
 use Rattle.sab_command.specs.declared.job.RunForm.{RunForm}
 use Rattle.sab_command.specs.declared.job.RunForm.TheVariants.{Report, Script}
-use Rattle.sab_tool.specs.declared.tool_fault.ToolFault.TheVariants.{WriteFailed}
+use Rattle.sab_faults.specs.declared.tool_fault.ToolFault.TheVariants.{WriteFailed}
 use Rattle.sab_run.specs.Racing.{RacesIn, IsFaultOfRace}
 use Rattle.sab_run.specs.Running.{ReplaysIn, IsFaultOfReplay}
-use Rattle.sab_tool.specs.declared.ended.Ended.{Ended}
+use Rattle.sab_script_runner.specs.declared.ended.Ended.{Ended}
 use Rattle.sab_text.specs.declared.format.ReportForm.{ReportForm}
 use Rattle.sab_text.specs.declared.format.VerdictFormat.{VerdictFormat}
 use Rattle.sab_report.specs.RunReport.{WritesReport}

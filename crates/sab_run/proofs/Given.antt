@@ -1,12 +1,12 @@
 -- A job or a race of the script that a reader gave.
 use Rattle.std.proofs.Common.{◌≡◌, ℕ, ◌≤◌, Bool, List, length, Option, Some, None, IfSome, subst, arith}
-use Rattle.sab_tool.specs.declared.input.TheConstants.{MAX_INPUT}
-use Rattle.sab_tool.specs.declared.tool_fault.ToolFault.{ToolFault}
-use Rattle.sab_tool.specs.declared.tool_fault.ToolFault.TheVariants.{OutOfMemory, TooLong, ReadFailed}
-use Rattle.sab_tool.specs.Input.{IsInputFault}
+use Rattle.sab_script_runner.specs.declared.input.TheConstants.{MAX_INPUT}
+use Rattle.sab_faults.specs.declared.tool_fault.ToolFault.{ToolFault}
+use Rattle.sab_faults.specs.declared.tool_fault.ToolFault.TheVariants.{OutOfMemory, TooLong, ReadFailed}
+use Rattle.sab_script_runner.specs.Input.{IsInputFault}
 use Rattle.sab_command.specs.declared.job.Job.{Job}
 use Rattle.sab_command.specs.declared.job.RaceJob.{RaceJob}
-use Rattle.sab_ending.specs.declared.outcome.Outcome.{Outcome}
+use Rattle.sab_exit.specs.declared.outcome.Outcome.{Outcome}
 use Rattle.sab_run.specs.declared.failure.Explanation.{Explanation}
 use Rattle.sab_run.specs.declared.failure.Explanation.TheVariants.{Absent}
 use Rattle.sab_run.specs.Explaining.{IsExplanation}

@@ -12,8 +12,8 @@ use Rattle.sab_verdict.specs.Json.{access_side, judged_trace}
 use Rattle.sab_verdict.specs.ReadsBack.{LinesReadBack}
 use Rattle.sab_verdict.specs.Verdict.{trace_verdict_text}
 use Rattle.sab_report.specs.declared.judging.TheConstants.{MAX_REPORTED}
-use Rattle.sab_ending.specs.declared.outcome.Outcome.{Outcome}
-use Rattle.sab_ending.specs.declared.outcome.Outcome.TheVariants.{Done, Racy}
+use Rattle.sab_exit.specs.declared.outcome.Outcome.{Outcome}
+use Rattle.sab_exit.specs.declared.outcome.Outcome.TheVariants.{Done, Racy}
 use Rattle.sab_run.specs.Tracing.{JudgesTrace, IsOutcomeOf}
 
 pub clean_outcome : (events : List Event) (clean : Bool) → (IsTrue clean ↔ HaveNoRace events) → clean ≡ true

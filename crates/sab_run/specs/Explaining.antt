@@ -1,10 +1,10 @@
 -- Why a script is refused, as a check reports it.
 use Rattle.std.specs.Prelude.{◌≡◌, ℕ, ◌≤◌, List, length, Bool, true, Option, Some, None, String, string_bytes}
 use Rattle.std.specs.declared.alloc.Global.{Global}
-use Rattle.sab_tool.specs.declared.input.TheConstants.{MAX_INPUT}
-use Rattle.sab_tool.specs.declared.tool_fault.ToolFault.{ToolFault}
+use Rattle.sab_script_runner.specs.declared.input.TheConstants.{MAX_INPUT}
+use Rattle.sab_faults.specs.declared.tool_fault.ToolFault.{ToolFault}
 use Rattle.sab_check.specs.Checked.{IsAccepted, IsRefused}
-use Rattle.sab_ending.specs.Status.{status_after}
+use Rattle.sab_exit.specs.Status.{status_after}
 use Rattle.sab_run.specs.declared.failure.Explanation.{Explanation}
 use Rattle.sab_run.specs.declared.failure.Explanation.TheVariants.{Absent, NoMemory, CheckText, AtLine}
 

@@ -1,18 +1,18 @@
 -- What a race does with the script that a reader gives.
 use Rattle.std.specs.Prelude.{◌≡◌, ◌⊎◌, ℕ, ◌≤◌, List, length, Option, IfSome}
 use Rattle.std.specs.Io.KnownBytes.{Keeps}
-use Rattle.sab_tool.specs.declared.input.TheConstants.{MAX_INPUT}
-use Rattle.sab_tool.specs.declared.tool_fault.ToolFault.{ToolFault}
-use Rattle.sab_tool.specs.Input.{IsInputFault}
-use Rattle.sab_tool.specs.Racing.{IsRaceFault}
-use Rattle.sab_tool.specs.declared.ended.Ended.{Ended}
+use Rattle.sab_script_runner.specs.declared.input.TheConstants.{MAX_INPUT}
+use Rattle.sab_faults.specs.declared.tool_fault.ToolFault.{ToolFault}
+use Rattle.sab_script_runner.specs.Input.{IsInputFault}
+use Rattle.sab_script_runner.specs.Racing.{IsRaceFault}
+use Rattle.sab_script_runner.specs.declared.ended.Ended.{Ended}
 use Rattle.sab_report.specs.Reporting.{RacesAs}
-use Rattle.sab_kept.specs.Keeping.{IsRaceIn, IsRaceUnkept, IsKeepFault}
+use Rattle.sab_kept_script.specs.Keeping.{IsRaceIn, IsRaceUnkept, IsKeepFault}
 use Rattle.sab_command.specs.declared.job.RunForm.{RunForm}
 use Rattle.sab_command.specs.declared.job.RunForm.TheVariants.{Report, Script}
 use Rattle.sab_command.specs.declared.job.RaceJob.{RaceJob}
-use Rattle.sab_ending.specs.declared.outcome.Outcome.{Outcome}
-use Rattle.sab_ending.specs.Outcome.{outcome_of}
+use Rattle.sab_exit.specs.declared.outcome.Outcome.{Outcome}
+use Rattle.sab_exit.specs.Outcome.{outcome_of}
 use Rattle.sab_run.specs.Running.{KeepsAs}
 
 -- just the report of a race of the script with so many steps at a wait, or the script that keeps the race, came after

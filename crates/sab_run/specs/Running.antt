@@ -1,27 +1,27 @@
 -- What a job without threads does with the script that a reader gives.
 use Rattle.std.specs.Prelude.{◌≡◌, ◌⊎◌, ℕ, ◌≤◌, List, length, Option, IfSome}
 use Rattle.std.specs.Io.KnownBytes.{Appends, Keeps}
-use Rattle.sab_tool.specs.declared.input.TheConstants.{MAX_INPUT}
-use Rattle.sab_tool.specs.declared.tool_fault.ToolFault.{ToolFault}
-use Rattle.sab_tool.specs.declared.tool_fault.ToolFault.TheVariants.{OutOfMemory, WriteFailed}
-use Rattle.sab_tool.specs.Input.{IsInputFault}
+use Rattle.sab_script_runner.specs.declared.input.TheConstants.{MAX_INPUT}
+use Rattle.sab_faults.specs.declared.tool_fault.ToolFault.{ToolFault}
+use Rattle.sab_faults.specs.declared.tool_fault.ToolFault.TheVariants.{OutOfMemory, WriteFailed}
+use Rattle.sab_script_runner.specs.Input.{IsInputFault}
 use Rattle.sab_plan.specs.Report.{ReportParts}
 use Rattle.sab_script.specs.Setup.{SetupParts}
-use Rattle.sab_tool.specs.Replay.{IsReportOf, IsReplayFault}
-use Rattle.sab_tool.specs.declared.ended.Ended.{Ended}
-use Rattle.sab_tool.specs.Ended.{ended_of}
+use Rattle.sab_script_runner.specs.Replay.{IsReportOf, IsReplayFault}
+use Rattle.sab_script_runner.specs.declared.ended.Ended.{Ended}
+use Rattle.sab_script_runner.specs.Ended.{ended_of}
 use Rattle.sab_report.specs.Reporting.{ReplaysAs}
 use Rattle.sab_report.specs.declared.judging.Judged.{Judged}
 use Rattle.sab_report.specs.Judging.{JudgesAs, IsJudgeFault}
-use Rattle.sab_kept.specs.Keeping.{KeepsRun, IsReplayUnkept, IsKeepFault}
+use Rattle.sab_kept_script.specs.Keeping.{KeepsRun, IsReplayUnkept, IsKeepFault}
 use Rattle.sab_check.specs.Checked.{IsAccepted, IsRefused}
 use Rattle.sab_command.specs.declared.job.RunForm.{RunForm}
 use Rattle.sab_command.specs.declared.job.RunForm.TheVariants.{Report, Script}
 use Rattle.sab_command.specs.declared.job.Job.{Job}
 use Rattle.sab_command.specs.declared.job.Job.TheVariants.{Replay, Check, Judge}
-use Rattle.sab_ending.specs.declared.outcome.Outcome.{Outcome}
-use Rattle.sab_ending.specs.declared.outcome.Outcome.TheVariants.{Done, Refused, Unfinished, Racy, Flawed, Open}
-use Rattle.sab_ending.specs.Outcome.{outcome_of, judged_outcome}
+use Rattle.sab_exit.specs.declared.outcome.Outcome.{Outcome}
+use Rattle.sab_exit.specs.declared.outcome.Outcome.TheVariants.{Done, Refused, Unfinished, Racy, Flawed, Open}
+use Rattle.sab_exit.specs.Outcome.{outcome_of, judged_outcome}
 
 -- just what a check says came after what the writer held: about a script that isn't refused, or about one that is
 abbrev pub Checks : Outcome → Option (List ℕ) → Option (List ℕ) → List ℕ → Type 0

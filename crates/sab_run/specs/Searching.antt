@@ -1,9 +1,9 @@
 -- What a search of a file of automata returns.
 use Rattle.std.specs.Prelude.{◌≡◌, ◌⊎◌, ℕ, ◌≤◌, Bool, true, false, List, length, Option, IfSome, string_bytes, ◌++◌, codes}
 use Rattle.std.specs.Io.KnownBytes.{Keeps}
-use Rattle.sab_tool.specs.Input.{IsFaultOfInput}
-use Rattle.sab_tool.specs.ToolFault.{number_of}
-use Rattle.sab_tool.specs.declared.tool_fault.ToolFault.TheVariants.{TooMany, OutOfMemory, WriteFailed}
+use Rattle.sab_script_runner.specs.Input.{IsFaultOfInput}
+use Rattle.sab_faults.specs.ToolFault.{number_of}
+use Rattle.sab_faults.specs.declared.tool_fault.ToolFault.TheVariants.{TooMany, OutOfMemory, WriteFailed}
 use Rattle.sab_automata_text.specs.declared.limits.TheConstants.{MAX_FILE}
 use Rattle.sab_automata_text.specs.declared.faults.Refusal.{Refusal}
 use Rattle.sab_automata_text.specs.Faults.{refusal_number}
@@ -20,8 +20,8 @@ use Rattle.sab_search.specs.Search.{SearchesAs, IsSearchFault}
 use Rattle.sab_command.specs.declared.job.SearchForm.{SearchForm}
 use Rattle.sab_command.specs.declared.job.SearchForm.TheVariants as form
 use Rattle.sab_command.specs.declared.job.SearchJob.{SearchJob}
-use Rattle.sab_ending.specs.declared.outcome.Outcome.{Outcome}
-use Rattle.sab_ending.specs.declared.outcome.Outcome.TheVariants.{Done, Flawed, Open}
+use Rattle.sab_exit.specs.declared.outcome.Outcome.{Outcome}
+use Rattle.sab_exit.specs.declared.outcome.Outcome.TheVariants.{Done, Flawed, Open}
 use Rattle.sab_run.specs.declared.failure.Explanation.{Explanation}
 use Rattle.sab_run.specs.declared.failure.Explanation.TheVariants.{Absent, NoMemory, CheckText, AtLine}
 use Rattle.sab_run.specs.declared.failure.Failure.{Failure}

@@ -7,8 +7,8 @@ ghost use Rattle.std.specs.IoError.{error_kind};
 ghost use Rattle.sab_run.specs.Failure.{NamesFile, changes_line, explanation_text, is_layout, line_of, unexplained};
 
 use sab_command::Source;
-use sab_ending::Complaint;
-use sab_tool::ToolFault;
+use sab_exit::Complaint;
+use sab_faults::ToolFault;
 use std::io::{Error, ErrorKind};
 
 /// What is reported about a refusal besides its fault.

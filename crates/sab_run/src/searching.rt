@@ -4,7 +4,7 @@ ghost use Rattle.std.specs.Prelude.{◌≡◌, IfOk, IfErr, IfSome, OnOk};
 ghost use Rattle.std.specs.Io.KnownBytes.{IsAtEnd};
 ghost use Rattle.sab_automata_text.specs.Faults.{refusal_number};
 ghost use Rattle.sab_command.specs.Job.{HasRoom};
-ghost use Rattle.sab_tool.specs.ToolFault.{number_of};
+ghost use Rattle.sab_faults.specs.ToolFault.{number_of};
 ghost use Rattle.sab_run.specs.Searching.{IsFailureAfter, IsFailureOf, IsFileExplanation, IsSearchFailure};
 ghost use Rattle.sab_run.specs.Searching.{IsFaultBy, RunsSearch, RunsSearchGiven, SearchesBy, outcome_of};
 
@@ -12,9 +12,10 @@ use crate::failure::{Explanation, Failure};
 use crate::running::flush;
 use sab_automata_text::{MAX_FILE, Refusal};
 use sab_command::{SearchForm, SearchJob};
-use sab_ending::Outcome;
+use sab_exit::Outcome;
+use sab_faults::ToolFault;
+use sab_script_runner::read_at_most;
 use sab_search::{ScriptAsked, SearchAsked, SearchEnd, SearchFault, script_as, search_as};
-use sab_tool::{ToolFault, read_at_most};
 use std::alloc::Global;
 use std::io::{Read, Write};
 

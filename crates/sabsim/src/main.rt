@@ -5,7 +5,7 @@
 ghost use Rattle.sab_command.specs.Job.{IsTaskWithinLimits};
 
 use sab_command::{Request, Source, Task, request_of};
-use sab_ending::{Ending, FaultLine, Outcome, without_job, without_words};
+use sab_exit::{Ending, FaultLine, Outcome, without_job, without_words};
 use sab_run::{Failure, judge_trace, run, run_race, run_search};
 use std::io::{IsTerminal, Read};
 use std::process::ExitCode;

@@ -2,18 +2,18 @@
 use Rattle.std.proofs.Common.{◌≡◌, ◌≢◌, ℕ, Bool, List, [], ◌++◌, Option, Some, Result, Ok, Err, IfOk, OnOk}
 use Rattle.std.proofs.Common.{codes, inl, inr, refl, sym, subst, ap}
 use Rattle.sab_text.specs.declared.format.VerdictFormat.{VerdictFormat}
-use Rattle.sab_tool.specs.declared.tool_fault.ToolFault.{ToolFault}
-use Rattle.sab_tool.specs.declared.tool_fault.ToolFault.TheVariants.{WriteFailed}
+use Rattle.sab_faults.specs.declared.tool_fault.ToolFault.{ToolFault}
+use Rattle.sab_faults.specs.declared.tool_fault.ToolFault.TheVariants.{WriteFailed}
 use Rattle.sab_command.specs.declared.job.Job.{Job}
 use Rattle.sab_command.specs.declared.job.SearchForm.{SearchForm}
 use Rattle.sab_command.specs.declared.job.SearchForm.TheVariants as S
 use Rattle.sab_command.specs.declared.job.SearchJob.{SearchJob}
 use Rattle.sab_command.specs.declared.request.Source.{Source}
-use Rattle.sab_ending.specs.declared.complaint.Complaint.{Complaint}
-use Rattle.sab_ending.specs.declared.outcome.Outcome.{Outcome}
-use Rattle.sab_ending.specs.Status.{status_after}
-use Rattle.sab_ending.specs.FaultLine.{text_of}
-use Rattle.sab_ending.specs.Complaint.{advice_text, complaint_text, file_text, line_text}
+use Rattle.sab_exit.specs.declared.complaint.Complaint.{Complaint}
+use Rattle.sab_exit.specs.declared.outcome.Outcome.{Outcome}
+use Rattle.sab_exit.specs.Status.{status_after}
+use Rattle.sab_exit.specs.FaultLine.{text_of}
+use Rattle.sab_exit.specs.Complaint.{advice_text, complaint_text, file_text, line_text}
 use Rattle.sab_run.specs.declared.failure.Failure.{Failure}
 use Rattle.sab_run.specs.Failure.{NamesFile, explanation_text, line_of}
 use Rattle.sab_run.specs.Explaining.{IsExplanation}

@@ -13,8 +13,8 @@ use Rattle.sab_command.specs.declared.request.Task.TheVariants.{OfSearch}
 use Rattle.sab_command.specs.declared.job.SearchJob.{SearchJob}
 use Rattle.sab_command.specs.Asked.{IsAsked, IsRefused}
 use Rattle.sab_command.specs.Job.{IsTaskWithinLimits}
-use Rattle.sab_ending.specs.declared.outcome.Outcome.{Outcome}
-use Rattle.sab_ending.specs.Ending.{status_at, after_job}
+use Rattle.sab_exit.specs.declared.outcome.Outcome.{Outcome}
+use Rattle.sab_exit.specs.Ending.{status_at, after_job}
 use Rattle.sab_run.specs.declared.failure.Failure.{Failure}
 use Rattle.sab_run.specs.Searching.{RunsSearchGiven, IsSearchFailure}
 use Rattle.sabsim_wasm.specs.declared.written.Written.{Written}

@@ -3,18 +3,18 @@ use Rattle.std.specs.Prelude.{◌≡◌, ◌⊎◌, ◌≢◌, ℕ, Bool, true, 
 use Rattle.std.specs.Prelude.{string_bytes}
 use Rattle.std.specs.Borrow.{Bor}
 use Rattle.sab_text.specs.declared.format.VerdictFormat.{VerdictFormat}
-use Rattle.sab_tool.specs.declared.tool_fault.ToolFault.{ToolFault}
-use Rattle.sab_tool.specs.declared.tool_fault.ToolFault.TheVariants.{NoThread, OutOfMemory, ReadFailed, WriteFailed}
+use Rattle.sab_faults.specs.declared.tool_fault.ToolFault.{ToolFault}
+use Rattle.sab_faults.specs.declared.tool_fault.ToolFault.TheVariants.{NoThread, OutOfMemory, ReadFailed, WriteFailed}
 use Rattle.sab_command.specs.declared.job.Job.{Job}
 use Rattle.sab_command.specs.declared.job.SearchJob.{SearchJob}
 use Rattle.sab_command.specs.declared.request.Source.{Source}
 use Rattle.sab_command.specs.declared.request.Task.{Task}
 use Rattle.sab_command.specs.declared.request.Task.TheVariants.{OfScript, OfRace, OfTrace, OfSearch}
-use Rattle.sab_ending.specs.declared.outcome.Outcome.{Outcome}
-use Rattle.sab_ending.specs.Status.{status_after}
-use Rattle.sab_ending.specs.Ending.{status_at, after_job}
-use Rattle.sab_ending.specs.FaultLine.{text_of}
-use Rattle.sab_ending.specs.Complaint.{advice_text, file_text, line_text}
+use Rattle.sab_exit.specs.declared.outcome.Outcome.{Outcome}
+use Rattle.sab_exit.specs.Status.{status_after}
+use Rattle.sab_exit.specs.Ending.{status_at, after_job}
+use Rattle.sab_exit.specs.FaultLine.{text_of}
+use Rattle.sab_exit.specs.Complaint.{advice_text, file_text, line_text}
 use Rattle.sab_run.specs.declared.failure.Failure.{Failure}
 use Rattle.sab_run.specs.Failure.{NamesFile, explanation_text, line_of}
 use Rattle.sab_run.specs.Explaining.{IsExplanation}

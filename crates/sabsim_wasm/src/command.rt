@@ -11,7 +11,7 @@ use crate::written::{put_task, put_unreadable};
 use clap::Error;
 use clap::error::ErrorKind;
 use sab_command::{Request, request_of};
-use sab_ending::Ending;
+use sab_exit::Ending;
 use std::alloc::{AllocError, Global};
 
 /// What the program prints about words that are no text.

@@ -4,8 +4,8 @@ ghost use Rattle.sabsim_wasm.specs.Program.{no_memory, written_of};
 ghost use Rattle.sabsim_wasm.specs.Room.{AsksFor, IsCut, Puts, PutsBoth, PutsLines};
 
 use sab_command::Source;
-use sab_ending::Ending;
-use sab_tool::ToolFault;
+use sab_exit::Ending;
+use sab_faults::ToolFault;
 
 /// How a call ended, and how much of the room it needs.
 #[repr(C)]

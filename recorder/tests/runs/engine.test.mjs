@@ -14,7 +14,7 @@ import { pathOf, replayBySabsim, runNode, start } from "../helpers/programs.mjs"
 import { seedsTo } from "../helpers/recorded.mjs";
 import { generatedScript, timedScript } from "../helpers/scripts.mjs";
 
-const DATA = pathOf("crates/check_scripts/data");
+const DATA = pathOf("tests/scripts");
 const EXAMPLES = `${DATA}/examples`;
 const ENGINE = "recorder/tests/engine/main.mjs";
 const SCRIPTS = 200;

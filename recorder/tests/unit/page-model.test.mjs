@@ -14,7 +14,7 @@ import { entryText, standingText } from "../../page/words.mjs";
 import { KINDS, SIZES } from "../../script/kinds.mjs";
 import { EVENTS, FACTS, FILE, FLAG, OUTCOME, SCRIPT, lines, runOf, view } from "../helpers/page-run.mjs";
 
-const CASES = fileURLToPath(new URL("../../../crates/check_scripts/data", import.meta.url));
+const CASES = fileURLToPath(new URL("../../../tests/scripts", import.meta.url));
 
 /** The words behind the lines of an explained report, by the lines. */
 function explainedLines(path) {

@@ -2,7 +2,8 @@
 
 use crate::expecting::expect;
 use crate::scripts::{SHARED_WORD, TWO_BLOCKS};
-use sab_tool::{ToolFault, replay_bytes};
+use sab_faults::ToolFault;
+use sab_script_runner::replay_bytes;
 use std::alloc::{AllocError, Global};
 use std::test::Fail;
 

@@ -2,8 +2,9 @@
 
 use crate::expecting::expect;
 use crate::scripts::{SHARED_WORD, STORE_AND_LOAD, TWO_BLOCKS, replayed, report_of};
+use sab_faults::ToolFault;
+use sab_script_runner::{MAX_INPUT, Share, race_bytes, read_input, replay_bytes, write_report};
 use sab_sim::Report;
-use sab_tool::{MAX_INPUT, Share, ToolFault, race_bytes, read_input, replay_bytes, write_report};
 use std::alloc::Global;
 use std::io;
 use std::io::{Read, Write};

@@ -1,9 +1,10 @@
 //! Races that are kept as scripts.
 
 use crate::expecting::expect;
-use sab_kept::{keep_race, recorded_move};
+use sab_faults::ToolFault;
+use sab_kept_script::{keep_race, recorded_move};
+use sab_script_runner::{Share, replay_bytes, write_report};
 use sab_sim::Report;
-use sab_tool::{Share, ToolFault, replay_bytes, write_report};
 use std::alloc::Global;
 use std::sync::Wait;
 use std::test::Fail;

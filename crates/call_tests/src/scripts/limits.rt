@@ -1,7 +1,8 @@
 //! Scripts at the ends of their limits.
 
 use crate::expecting::expect;
-use sab_tool::{MAX_INPUT, ToolFault, read_input, replay_bytes};
+use sab_faults::ToolFault;
+use sab_script_runner::{MAX_INPUT, read_input, replay_bytes};
 use std::alloc::{AllocError, Global};
 use std::test::Fail;
 

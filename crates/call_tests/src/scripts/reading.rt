@@ -2,7 +2,8 @@
 
 use crate::expecting::expect;
 use crate::scripts::{STORE_AND_LOAD, setup_of};
-use sab_tool::{ReadFault, Setup, read_setup};
+use sab_faults::ReadFault;
+use sab_script_runner::{Setup, read_setup};
 use serde_json::Value;
 use std::alloc::{AllocError, Global};
 use std::test::Fail;

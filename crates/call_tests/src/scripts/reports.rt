@@ -4,8 +4,9 @@ use crate::expecting::expect;
 use crate::run::operand;
 use crate::scripts::{STORE_AND_LOAD, STORED_AND_LOADED, empty, is_text, replayed};
 use sab_block::Thrown;
+use sab_faults::ToolFault;
+use sab_script_runner::write_report;
 use sab_sim::{Answer, Entry, Progress, Report, What, Why};
-use sab_tool::{ToolFault, write_report};
 use std::alloc::Global;
 use std::test::Fail;
 

@@ -1,6 +1,6 @@
 -- The names that a script spells are short, its Numbers are safe integers, and its moves are its agents'.
 use Rattle.std.proofs.Common.{◌≤◌, length, arith}
-use Rattle.sab_tool.proofs.ReplaySteps.{spelled_moves}
+use Rattle.sab_script_runner.proofs.ReplaySteps.{spelled_moves}
 use Rattle.sab_report.proofs.SpelledNumbers.{spelled_plan, spelled_safe}
 use Rattle.sab_report.proofs.ViewNames.{spelled_short, spelled_plain}
 use Rattle.sab_report.proofs.replaying.replay_as.Goals as goal

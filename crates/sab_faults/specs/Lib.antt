@@ -1,0 +1,2 @@
+pub mod ToolFault
+pub mod Conversions

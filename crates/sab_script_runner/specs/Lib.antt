@@ -1,0 +1,4 @@
+pub mod Ended
+pub mod Input
+pub mod Racing
+pub mod Replay

@@ -1,5 +1,0 @@
-pub mod ToolFault
-pub mod Ended
-pub mod Input
-pub mod Racing
-pub mod Replay
