@@ -27,7 +27,7 @@ export class NotSearched extends Error {}
 
 const SEARCHING = new URL("./proved-worker.mjs", import.meta.url);
 
-/** What a file may have at most (tests/search/FORMAT.md). */
+/** What a file may have at most (docs/FORMATS.md). */
 const MOST_NODES = 262_144;
 const MOST_EDGES = 65_536;
 const MOST_VIEWS = 64;

@@ -1,4 +1,4 @@
-// Files of automata (tests/search/FORMAT.md): written of what was learned, and read back.
+// Files of automata (docs/FORMATS.md): written of what was learned, and read back.
 
 import { CALL_NUMBERS, CALLS, SCRIPT_KINDS, SIZES, isBigKind } from "../../../script/kinds.mjs";
 import { hexOf, rawAt, rawOf } from "./raw-elements.mjs";

@@ -1,4 +1,4 @@
-// How nodes and answers are spelled in a file of automata (tests/search/FORMAT.md).
+// How nodes and answers are spelled in a file of automata (docs/FORMATS.md).
 
 import { CALLS, SCRIPT_KINDS, SIZES } from "../../../script/kinds.mjs";
 import { hexOf } from "./raw-elements.mjs";

@@ -1,4 +1,4 @@
-// A state to work on, and the acts that lead from it to others (tests/search/FORMAT.md has the definitions).
+// A state to work on, and the acts that lead from it to others (docs/MODEL.md has the definitions).
 
 import { answerOfRead, changed, putRaw, rawAt } from "./raw-elements.mjs";
 import { DONE, DOES, NOT_EQUAL, OK, TIMED_OUT, isCall, isEnd, isTimed, isWithinAct } from "./nodes.mjs";
