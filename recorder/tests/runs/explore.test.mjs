@@ -11,9 +11,10 @@ import { setTimeout as sleep } from "node:timers/promises";
 import { Delivery } from "../../lib/seeds/delivery.mjs";
 import { Difference, LostJob, NoSabsim, Refused, explore, record } from "../../recorder.mjs";
 import {
-  LIES, agentsOf, agentsPath, endOf, processesWith, refusedInALine, shellProgram, soon, stayingWith, temporaryFolder,
+  LIES, agentsOf, agentsPath, processesWith, refusedInALine, shellProgram, soon, stayingWith, temporaryFolder,
 } from "../helpers/common.mjs";
 import { CHECKER, NOWHERE, onLinux, withShell } from "../helpers/needs.mjs";
+import { endOf } from "../helpers/programs.mjs";
 
 const LIBRARY = new URL("../../recorder.mjs", import.meta.url).href;
 /** Drawn for before each call, so that there are no pilots, which call `init` too. */

@@ -16,9 +16,10 @@ import { isWorthIt, moreJobs } from "../../lib/seeds/more-jobs.mjs";
 import { jobWords } from "../../lib/seeds/start-job.cjs";
 import { commandHere } from "../helpers/command-here.mjs";
 import {
-  RECORD, agentsOf, agentsPath, endOf, moduleOf, nodeNow, processesWith, stayingWith, temporaryFolder,
+  RECORD, agentsOf, agentsPath, moduleOf, nodeNow, processesWith, stayingWith, temporaryFolder,
 } from "../helpers/common.mjs";
 import { CHECKING, onLinux, withSignals } from "../helpers/needs.mjs";
+import { endOf } from "../helpers/programs.mjs";
 
 /**
  * Runs the command line to its end.

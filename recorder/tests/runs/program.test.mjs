@@ -10,10 +10,11 @@ import { test } from "node:test";
 import { commandOptionsOf, USAGE } from "../../lib/command/options.mjs";
 import { commandHere } from "../helpers/command-here.mjs";
 import {
-  LIES, RECORD, WITHOUT_SABSIM, agentsOf, agentsPath, commandNow, commandThere, endOf, processesWith, refusedInALine,
+  LIES, RECORD, WITHOUT_SABSIM, agentsOf, agentsPath, commandNow, commandThere, processesWith, refusedInALine,
   shellProgram, soon, stayingWith, temporaryFolder,
 } from "../helpers/common.mjs";
 import { CHECKING, NOWHERE, hasSabsim, onLinux, withDevices, withShell } from "../helpers/needs.mjs";
+import { endOf } from "../helpers/programs.mjs";
 import { simulated } from "../helpers/simulate.mjs";
 
 /** Which simulator checks the runs of these tests. */
