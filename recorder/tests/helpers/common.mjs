@@ -28,7 +28,7 @@ export const RECORD = fileURLToPath(new URL("../../record.mjs", import.meta.url)
 /**
  * Runs node in a process of its own, beside others.
  * @param {string[]} words
- * @param {{ input?: string } & StartOptions} [options] its standard input, and how it is started
+ * @param {{ input?: string } & StartOptions} options its standard input, and how it is started
  * @returns {Promise<Ended>}
  */
 export async function nodeThere(words, { input, ...options } = {}) {

@@ -17,7 +17,10 @@ import { simulated } from "./simulate.mjs";
 
 /** @typedef {Ended & { signal: string | null }} EndedBy with the signal that has ended it, if one has */
 
-/** The path of something in this repository. @param {string} path from its top */
+/**
+ * The path of something in this repository.
+ * @param {string} path from its top
+ */
 export const pathOf = (path) => fileURLToPath(new URL(`../../../${path}`, import.meta.url));
 
 /**

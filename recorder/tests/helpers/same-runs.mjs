@@ -37,7 +37,7 @@ async function runsOf(group, module, { seeds, isFresh }) {
 /**
  * @param {string[]} names of the programs, in their order
  * @param {number[]} seeds in their order
- * @param {{ isFresh?: boolean }} [how] whether the first run of each program has fresh threads
+ * @param {{ isFresh?: boolean }} how whether the first run of each program has fresh threads
  * @returns {Promise<Record<string, OfProgram>>} by their names
  */
 export async function sameRuns(names, seeds, { isFresh = false } = {}) {

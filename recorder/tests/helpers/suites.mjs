@@ -9,7 +9,7 @@ import { endOf } from "./programs.mjs";
  * Runs a file of tests.
  * @param {string} folder it is in
  * @param {string} file
- * @param {{ env?: Record<string, string>, reporter?: string }} [how]
+ * @param {{ env?: Record<string, string>, reporter?: string }} how
  */
 export async function suiteIn(folder, file, { env = {}, reporter = "spec" } = {}) {
   const temporary = join(folder, "temporary");

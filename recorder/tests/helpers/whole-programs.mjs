@@ -113,7 +113,7 @@ after(() => Promise.all([...all.values()].map((threads) => threads.end())));
  * Runs a program.
  * @param {import("node:test").TestContext} _context
  * @param {Record<string, string>} files as `programIn` takes them
- * @param {{ seeds?: number[], args?: string[], options?: Partial<GroupOptions> }} [how]
+ * @param {{ seeds?: number[], args?: string[], options?: Partial<GroupOptions> }} how
  * @returns {Promise<Checked[]>} in the order of the seeds; fails where the simulator says something else
  */
 export function runsOf(_context, files, { seeds = [1], args = [], options = {} } = {}) {
@@ -123,7 +123,10 @@ export function runsOf(_context, files, { seeds = [1], args = [], options = {} }
   return threads.runs(files, { seeds, args });
 }
 
-/** Runs a program that finishes with each seed. @type {typeof runsOf} */
+/**
+ * Runs a program that finishes with each seed.
+ * @type {typeof runsOf}
+ */
 export async function finishing(context, files, how) {
   const outcomes = await runsOf(context, files, how);
   assert.deepEqual(endingsOf(outcomes), ["finished: "]);
