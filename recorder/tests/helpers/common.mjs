@@ -105,7 +105,7 @@ export function temporaryFolder(test = { after }) {
  * @param {string} folder
  * @param {string} body of the agent
  */
-export function agentsOf(folder, body) {
+export function agentsIn(folder, body) {
   const path = join(folder, "agents.mjs");
   writeFileSync(path, `export default function agent({ buffers, agent, agents, args }) {\n${body}\n}\n`);
   return path;

@@ -1,5 +1,5 @@
 // A process that runs known programs, one after the other, each by a group in this process: so no process is started
-// for a program, and no outcome goes from process to process. What it is asked for is in `known.test.mjs`.
+// for a program, and few outcomes go from process to process. What it is asked for is in `known.test.mjs`.
 
 import { checkedBy } from "../../lib/check/check.mjs";
 import { CheckedRuns } from "../../lib/check/checked-runs.mjs";

@@ -1,4 +1,4 @@
-// Runs of one program under several seeds, by one group of workers, each whole and checked by the simulator.
+// Runs of one module of agents under several seeds, by one group of workers, each whole and checked by the simulator.
 
 import { readFileSync } from "node:fs";
 import { checkedBy } from "../../lib/check/check.mjs";
@@ -67,7 +67,7 @@ export const hexOf = (array) => Buffer.from(array.buffer, array.byteOffset, arra
  * @param {string} text
  * @returns {{ line: number, column: number }[]} both from 1
  */
-export function placesOf(name, text) {
+export function placesOfText(name, text) {
   const code = readFileSync(agentsPath(name), "utf8");
   return code.split(text).slice(0, -1).map((_, at, parts) => {
     const before = parts.slice(0, at + 1).join(text).split("\n");

@@ -9,7 +9,7 @@ import { record } from "../../recorder.mjs";
 import { Editing } from "../../schedule/editing.mjs";
 import { earlier, later } from "../../schedule/edits.mjs";
 import { whyNotOnCode } from "../../schedule/on-code.mjs";
-import { agentsOf, commandThere, temporaryFolder } from "../helpers/common.mjs";
+import { agentsIn, commandThere, temporaryFolder } from "../helpers/common.mjs";
 import { simulate } from "../helpers/simulate.mjs";
 
 // Agent 1 stores a word for agent 0. If the last argument says so, what agent 0 does depends on it.
@@ -24,7 +24,7 @@ else Atomics.store(words, 1, 5);`;
  */
 async function movedOnCode(context, args) {
   const folder = temporaryFolder(context);
-  const module = agentsOf(folder, BODY);
+  const module = agentsIn(folder, BODY);
   const { script } = await record({ module, args, agents: 2, buffers: [12], sabsim: false, seed: 1 });
   const moved = new Editing(script, simulate);
   let at = moved.now.turns.findIndex(({ agent }) => agent === 1);

@@ -30,13 +30,6 @@ Atomics.store(words, 0, 7);
 `;
 
 /**
- * Runs the command line in a process of its own. With --replay it makes its run there, so `commandHere` does the same.
- * @param {string[]} words of the command line
- * @param {object} [options]
- */
-const recorded = commandNow;
-
-/**
  * A program of which a failing run is kept.
  * @param {string} main its path
  * @param {string[]} words
@@ -67,7 +60,7 @@ test("a kept run of a program is made again from its file alone: the same script
   assert.deepEqual([program, args, options], [main, ["mine"], { timeouts: 0.2 }]);
   assert.deepEqual([script, row.length > 0], [join(folder, `${name}.json`), true]);
   // In another folder than that of the runs.
-  const { status, stdout, stderr } = recorded(["--replay", join("found", `${name}.program.json`), "--out", "again"],
+  const { status, stdout, stderr } = commandNow(["--replay", join("found", `${name}.program.json`), "--out", "again"],
     { cwd: dirname(main) });
   assert.deepEqual([status, stderr], [1, ""], stderr);
   const [title, failed, , detail] = stdout.split("\n");
@@ -200,11 +193,11 @@ test("a file that is no kept run of a program is refused, and so is a program th
   const { script } = keptProgram(JSON.stringify({ ...right, script: { file: "seed-1.json", row: "another" } }), file);
   assert.equal(script, undefined);
   writeFileSync(file, JSON.stringify(right));
-  assert.deepEqual(recorded(["--replay", file]), {
+  assert.deepEqual(commandNow(["--replay", file]), {
     status: 2, stdout: "",
     stderr: `record: there is no file ${join(folder, "main.mjs")}: --program says where the program is\n`,
   });
-  const { status, stderr } = recorded(["--replay", join(folder, "seed-1.json")]);
+  const { status, stderr } = commandNow(["--replay", join(folder, "seed-1.json")]);
   assert.deepEqual([status, stderr], [2, "record: the agents' module is missing; --help shows more\n"]);
 });
 
@@ -245,7 +238,7 @@ test("a run in fresh threads is shown with its lines, kept and replayed in fresh
   assert.deepEqual(JSON.parse(readFileSync(file, "utf8")).options, { fresh: true });
   assert.match(readFileSync(join(folder, `${name}.words`), "utf8"),
     /wait\(Int32_b0, 1, 0\) waits .*, at main\.mjs:7:\d+$/m);
-  const { status, stdout, stderr } = recorded(["--replay", file]);
+  const { status, stdout, stderr } = commandNow(["--replay", file]);
   assert.deepEqual([status, stderr], [1, ""]);
   assert.match(stdout, /^1 of 1 run failed: 1 deadlock$/m);
 });

@@ -8,7 +8,7 @@ import { moduleUrl } from "../../lib/library/module-url.mjs";
 import { keepThread, keptThread } from "../../lib/processes/thread.mjs";
 import { Group } from "../../lib/run/group.mjs";
 import { Refused, record } from "../../recorder.mjs";
-import { agentsOf, agentsPath, temporaryFolder } from "../helpers/common.mjs";
+import { agentsIn, agentsPath, temporaryFolder } from "../helpers/common.mjs";
 import { groupOf, programGroup } from "../helpers/groups.mjs";
 import { seedsTo } from "../helpers/recorded.mjs";
 
@@ -68,7 +68,7 @@ test("groups that come one after the other have one referee's thread, and nothin
 
 test("a module that can't be loaded, and a single run of the library, leave the thread to others", async (context) => {
   const { thread } = await madeBy(ofAgents());
-  const module = agentsOf(temporaryFolder(context), "}\nexport const setup = 5; {");
+  const module = agentsIn(temporaryFolder(context), "}\nexport const setup = 5; {");
   await assert.rejects(ofAgents({ module: moduleUrl(module) }), Refused);
   // It ends as soon as it has the outcome.
   await record({ module: agentsPath("naive-mutex"), sabsim: false, ...FEW_WORKERS });

@@ -14,7 +14,7 @@ import { explore, record } from "../../recorder.mjs";
 import { assertAgents } from "../../testing.mjs";
 import { agentsPath, commandThere, temporaryFolder } from "../helpers/common.mjs";
 import { groupOf } from "../helpers/groups.mjs";
-import { placesOf, recorded, seedsTo, summaryLines } from "../helpers/recorded.mjs";
+import { placesOfText, recorded, seedsTo, summaryLines } from "../helpers/recorded.mjs";
 
 const { timeouts: DEFAULT_TIMEOUTS } = defaultsOf("record");
 
@@ -41,7 +41,7 @@ const wordsOf = ({ bytes }) => [...new Int32Array(Uint8Array.from(Buffer.from(by
 
 /** Where the code waits, as the recorder reports it. */
 function placeOf(text) {
-  const [{ line, column }] = placesOf("timed", text);
+  const [{ line, column }] = placesOfText("timed", text);
   return `timed.mjs:${line}:${column}`;
 }
 
