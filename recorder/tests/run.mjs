@@ -87,6 +87,7 @@ function printResult({ name, passed, failed, leftOut, problems, seconds }) {
  * @param {Record<string, string | undefined>} env
  */
 async function resultsOf(names, atOnce, env) {
+  /** @type {FileResult[]} */
   const results = [];
   const waiting = [...names];
   const work = async () => {
@@ -111,6 +112,7 @@ async function finalResults(names, env) {
   if (failing.length === 0) return { results, second: [] };
   console.log("Tests failed. Their files run once more, one at a time:");
   const again = await resultsOf(failing.map(({ name }) => name), 1, env);
+  /** @param {FileResult} first */
   const isWell = ({ name }) => again.some((result) => result.name === name && result.failed === 0);
   return { results: [...results.filter(({ failed }) => failed === 0), ...again], second: failing.filter(isWell) };
 }

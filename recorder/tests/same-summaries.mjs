@@ -78,7 +78,8 @@ const madeBy = (node, words, seeds) => new Promise((done) => {
   const options = ["--seeds", seeds, "--format", "json", "--jobs", "1"];
   const all = [...before, RECORD, ...words.slice(0, split), ...options, ...words.slice(split)];
   execFile(program, all, { cwd: ROOT, maxBuffer: 2 ** 28 }, (error, stdout, stderr) => {
-    const status = Number(error?.code ?? 0);
+    // A node that a signal has ended has no status: it is like no other.
+    const status = error === null ? 0 : Number(error.code ?? NaN);
     done({ status, output: stdout === "" ? stderr.trim().split("\n").at(-1) ?? "" : stdout });
   });
 });
@@ -126,6 +127,7 @@ if (other === undefined) {
   console.error("same-summaries: name two commands of node, as in the usage at the head of this file");
   process.exit(2);
 }
+/** @param {Case} each */
 const isWanted = ({ name }) => wanted.length === 0 || wanted.some((word) => name.includes(word));
 const waiting = [...modules(), ...programs()].filter(isWanted);
 /** @type {boolean[]} */

@@ -17,6 +17,7 @@ declare class DOMException extends Error {
 
 declare module "node:events" {
   export const EventEmitter: any;
+  export function once(target: NodeJS.Listened, event: string): Promise<any[]>;
   export function getEventListeners(target: any, type: string): Function[];
 }
 

@@ -68,6 +68,7 @@ declare module "node:worker_threads" {
     ref(): void;
     unref(): void;
   }
+  export const isMainThread: boolean;
   export const parentPort: MessagePort | null;
   export const workerData: any;
   export function receiveMessageOnPort(port: MessagePort): { message: any } | undefined;

@@ -1,5 +1,5 @@
-// What the recorder uses of node, for `tests/types`: node's own types aren't on every machine. Nothing of this is in
-// the package. It is less than node has, and never more.
+// What the recorder and its tests use of node, for `tests/types`: node's own types aren't on every machine. Nothing of
+// this is in the package. It is less than node has, and never more.
 
 interface ImportMeta {
   readonly url: string;
@@ -37,7 +37,16 @@ declare namespace NodeJS {
 
   interface Input extends AsyncIterable<Uint8Array> {}
 
-  type Timer = { unref(): Timer };
+  /** The ends of pipes and sockets. */
+  interface Readable extends Listened {
+    setEncoding(encoding: "utf8"): this;
+  }
+  interface Writable extends Listened {
+    write(chunk: string | Uint8Array): boolean;
+    end(chunk?: string | Uint8Array): void;
+  }
+
+  type Timer = { unref(): Timer; refresh(): Timer };
 
   interface HighResolutionTime {
     (before?: [number, number]): [number, number];
@@ -48,6 +57,7 @@ declare namespace NodeJS {
     readonly arch: string;
     readonly features: Record<string, unknown>;
     readonly platform: string;
+    readonly allowedNodeEnvironmentFlags: ReadonlySet<string>;
     readonly argv: string[];
     readonly execPath: string;
     readonly execArgv: string[];
@@ -69,6 +79,8 @@ declare namespace NodeJS {
     /** Only the process of a job, and others that were forked, have it. */
     send?(message: unknown, done?: () => void): boolean;
     readonly connected?: boolean;
+    disconnect?(): void;
+    nextTick(call: (...given: any[]) => void, ...given: unknown[]): void;
   }
 }
 
@@ -79,6 +91,11 @@ declare interface ErrorConstructor {
 }
 
 declare interface Error { readonly code?: string }
+
+interface Array<T> {
+  /** It is later than the standard of `tsconfig.json`. */
+  findLastIndex(isWanted: (item: T, at: number) => unknown): number;
+}
 
 declare module "node:inspector" {
   export class Session {
@@ -93,20 +110,28 @@ declare module "node:inspector" {
 
 declare class Buffer extends Uint8Array {
   static alloc(bytes: number): Buffer;
+  static byteLength(text: string): number;
   static concat(parts: Uint8Array[], bytes?: number): Buffer;
   static from(memory: ArrayBufferLike, offset?: number, length?: number): Buffer;
-  static from(bytes: Uint8Array): Buffer;
+  static from(bytes: Uint8Array | number[]): Buffer;
+  static from(data: string | Uint8Array): Buffer;
   static from(text: string, encoding?: string): Buffer;
   equals(other: Uint8Array): boolean;
+  indexOf(value: number | string, from?: number): number;
+  readUInt32BE(at: number): number;
+  readUIntBE(at: number, bytes: number): number;
   slice(from?: number, to?: number): Buffer;
   subarray(from?: number, to?: number): Buffer;
   toString(encoding?: string, from?: number, to?: number): string;
   write(text: string, encoding?: string): number;
+  write(text: string, at: number): number;
+  writeUInt32BE(value: number, at?: number): number;
 }
 
 interface URL {
   readonly href: string;
   readonly pathname: string;
+  readonly search: string;
 }
 
 declare var URL: { readonly prototype: URL; new (url: string, base?: string | URL): URL };
@@ -124,6 +149,7 @@ declare class TextDecoder {
 interface AbortSignal {
   readonly aborted: boolean;
   readonly reason: any;
+  onabort: (() => void) | null;
   addEventListener(event: "abort", listener: () => void): void;
   removeEventListener(event: "abort", listener: () => void): void;
 }
@@ -131,7 +157,9 @@ interface AbortSignal {
 declare var AbortSignal: {
   readonly prototype: AbortSignal;
   new (): AbortSignal;
+  abort(reason?: unknown): AbortSignal;
   any(signals: AbortSignal[]): AbortSignal;
+  timeout(milliseconds: number): AbortSignal;
 };
 
 declare class AbortController {
@@ -160,6 +188,7 @@ declare function setTimeout(call: (...given: any[]) => void, milliseconds: numbe
 declare function clearTimeout(timer: NodeJS.Timer | undefined): void;
 declare function clearInterval(timer: NodeJS.Timer): void;
 declare function setInterval(call: () => void, milliseconds: number): NodeJS.Timer;
+declare function queueMicrotask(call: () => void): void;
 declare function structuredClone<T>(value: T, options?: { transfer?: unknown[] }): T;
 
 declare module "node:assert" {
@@ -171,6 +200,19 @@ declare module "node:assert" {
   export default assert;
 }
 
+declare module "node:assert/strict" {
+  interface StrictAssert {
+    deepEqual(actual: unknown, expected: unknown, message?: string): void;
+    equal(actual: unknown, expected: unknown, message?: string): void;
+    fail(message: string): never;
+    match(text: string, pattern: RegExp, message?: string): void;
+    ok(value: unknown, message?: string): asserts value;
+    throws(act: () => unknown, expected: RegExp | ((error: Error) => boolean), message?: string): void;
+  }
+  const assert: StrictAssert;
+  export default assert;
+}
+
 declare module "node:async_hooks" {
   interface Hooks {
     init?(id: number, type: string, trigger: number, resource: object): void;
@@ -178,6 +220,10 @@ declare module "node:async_hooks" {
   }
   export function createHook(hooks: Hooks): { enable(): void; disable(): void };
   export function executionAsyncResource(): object;
+  export class AsyncLocalStorage<Store> {
+    getStore(): Store | undefined;
+    run<Result>(store: Store, act: () => Result): Result;
+  }
   export class AsyncResource {
     static bind(act: Function, type: string): Function;
     constructor(type: string);
@@ -236,15 +282,47 @@ declare module "node:fs" {
   export function readlinkSync(path: string): string;
   export function realpathSync(path: string): string;
   export function renameSync(from: string, to: string): void;
-  export function rmSync(path: string, options?: { force?: boolean; recursive?: boolean }): void;
+  interface RmOptions {
+    force?: boolean;
+    recursive?: boolean;
+    maxRetries?: number;
+    retryDelay?: number;
+  }
+  export function rmSync(path: string, options?: RmOptions): void;
   export function statSync(path: string): Stats;
-  export function writeFileSync(file: number | string, text: string): void;
+  export function statSync(path: string, options: { throwIfNoEntry: false }): Stats | undefined;
+  export function writeFileSync(file: number | string, data: string | Uint8Array, options?: { mode: number }): void;
   export function writeSync(file: number, chunk: string | Uint8Array): number;
   const all: { promises: object; writeSync: typeof writeSync };
   export default all;
 }
 
+declare module "node:fs/promises" {
+  export function readFile(file: URL): Promise<Buffer>;
+}
+
+declare module "node:http" {
+  interface IncomingMessage {
+    readonly url?: string;
+  }
+  interface ServerResponse {
+    writeHead(status: number, headers: Record<string, string>): this;
+    end(data?: string | Uint8Array): void;
+  }
+  interface Server {
+    listen(port: number, host: string, done: () => void): this;
+    address(): { port: number } | string | null;
+    close(): void;
+    closeAllConnections(): void;
+  }
+  export function createServer(serve: (request: IncomingMessage, response: ServerResponse) => void): Server;
+}
+
 declare module "node:net" {
+  export interface Socket extends NodeJS.Readable, NodeJS.Writable {
+    destroy(): void;
+  }
+  export function connect(port: number, host: string): Socket;
   const net: object;
   export default net;
 }
@@ -266,6 +344,7 @@ declare module "node:module" {
 declare module "node:os" {
   export function availableParallelism(): number;
   export function cpus(): { times: { idle: number } }[];
+  export function homedir(): string;
   export function tmpdir(): string;
   export const constants: { readonly signals: Record<NodeJS.Signals, number> };
 }
@@ -300,7 +379,10 @@ declare module "node:process" { export default process }
 declare module "node:stream" {
   type Done = (error?: Error | null) => void;
   export class Writable {
-    constructor(options: { write(chunk: string | Uint8Array, encoding: string, done: Done): void });
+    constructor(options: {
+      decodeStrings?: boolean;
+      write(chunk: string | Uint8Array, encoding: string, done: Done): void;
+    });
   }
   const all: Record<"Writable" | "Duplex" | "Readable", { prototype: object }>;
   export default all;
@@ -314,8 +396,11 @@ declare module "node:string_decoder" {
 declare module "node:test" {
   interface TestContext {
     readonly signal: AbortSignal;
+    after(act: () => unknown): void;
     diagnostic(message: string): void;
   }
+  export function after(act: () => unknown): void;
+  export function test(name: string, call: (context: TestContext) => unknown): Promise<void>;
   export function test(name: string, options: object, call: (context: TestContext) => Promise<void>): Promise<void>;
 }
 
@@ -349,11 +434,11 @@ declare module "node:util" {
     strict?: boolean;
     tokens?: boolean;
   }
-  interface Token {
-    kind: "option" | "option-terminator" | "positional";
-    name?: string;
-    rawName?: string;
-  }
+  /** A word of a command line, by its index there. */
+  type Token =
+    | { kind: "option"; index: number; name: string; rawName: string; value?: string }
+    | { kind: "positional"; index: number; name?: undefined; rawName?: undefined; value: string }
+    | { kind: "option-terminator"; index: number; name?: undefined; rawName?: undefined; value?: undefined };
   interface Parsed {
     tokens: Token[];
     values: Record<string, any>;
@@ -364,14 +449,21 @@ declare module "node:util" {
     (call: Function): Function;
     readonly custom: symbol;
   }
-  const util: { inspect(value: unknown, options?: object): string; types: object; promisify: Promisify };
+  const util: {
+    format(...given: unknown[]): string;
+    inspect(value: unknown, options?: object): string;
+    promisify: Promisify;
+    types: object;
+  };
   export default util;
   /** Each says whether a value is of a kind. */
   export const types: Record<string, (value: unknown) => boolean>;
 }
 
 declare module "node:zlib" {
+  export function deflateSync(bytes: Uint8Array, options: { level: number }): Buffer;
   export function gzipSync(bytes: Uint8Array): Buffer;
+  export function inflateSync(bytes: Uint8Array): Buffer;
   const zlib: object;
   export default zlib;
 }

@@ -3,10 +3,13 @@
 import { fork } from "node:child_process";
 import { pathOf } from "./programs.mjs";
 
+/** @typedef {{ fault?: string } & Record<string, unknown>} Answer with a fault if the process can't do what is asked */
+
 /** One of them. */
 class Asked {
   #child;
-  #resolve = (_answer) => {};
+  /** @type {(answer: Answer) => void} */
+  #resolve = () => {};
 
   /** @param {string} program */
   constructor(program) {
@@ -15,7 +18,7 @@ class Asked {
     this.#child.on("exit", (status, signal) => this.#resolve({ fault: `its process ended: ${signal ?? status}` }));
   }
 
-  /** @param {unknown} question @returns {Promise<{ fault?: string }>} */
+  /** @param {unknown} question @returns {Promise<Answer>} */
   ask(question) {
     return new Promise((resolve) => {
       this.#resolve = resolve;
@@ -50,12 +53,17 @@ export class AskedProcesses {
    * @returns {Promise<any>} the answer; fails with the fault if the process names one
    */
   async ask(question) {
-    const process = this.#free.pop() ?? (await new Promise((resolve) => this.#waiting.push(resolve)));
+    const process = this.#free.pop() ?? await this.#nextFree();
     const { fault, ...answer } = await process.ask(question);
     const next = this.#waiting.shift() ?? ((free) => this.#free.push(free));
     next(process);
     if (fault) throw new Error(fault);
     return answer;
+  }
+
+  /** @returns {Promise<Asked>} */
+  #nextFree() {
+    return new Promise((resolve) => this.#waiting.push(resolve));
   }
 
   /** Ends the processes. */

@@ -18,6 +18,6 @@ after(() => {
 
 /** @returns {import("../../lib/board/board.mjs").BoardMemory} as new; no board that had it before may be in use */
 export function emptyMemory() {
-  for (const buffer of Object.values(written)) new Uint8Array(buffer).fill(0);
+  for (const buffer of /** @type {SharedArrayBuffer[]} */ (Object.values(written))) new Uint8Array(buffer).fill(0);
   return MEMORY;
 }

@@ -23,11 +23,18 @@ const WORDS = [
   "--no-first-run", "--remote-debugging-pipe",
 ];
 
-/** What a key is called by the protocol, besides its name. */
+/**
+ * What a key is called by the protocol, besides its name.
+ * @type {Record<string, number>}
+ */
 const KEY_CODES = {
   ArrowUp: 38, ArrowDown: 40, ArrowLeft: 37, ArrowRight: 39, Home: 36, End: 35, PageUp: 33, PageDown: 34, Tab: 9,
   Enter: 13,
 };
+
+/** @typedef {import("node:child_process").Stream} Stream */
+/** @typedef {{ words: string[], env?: Record<string, string>, stdio?: Stream | Stream[] }} Beginning */
+/** @typedef {{ width?: number, height?: number, background?: "dark" | "light" }} Looks of a window, and of its page */
 
 /** A browser that is started here with a folder of its own, and that is asked for things. */
 export class StartedBrowser {
@@ -36,13 +43,23 @@ export class StartedBrowser {
   /** @type {Map<number, (answer: any) => void>} */
   asked = new Map();
 
-  /** @param {string} program @param {string[]} words @param {object} [env] @param {any} [stdio] */
-  start(program, words, env = {}, stdio = "ignore") {
+  /**
+   * @param {string | undefined} program undefined: this machine has none, and nobody may start it
+   * @param {(room: string) => Beginning} beginningIn how it is started with its folder
+   */
+  constructor(program, beginningIn) {
+    if (program === undefined) throw new Error("this machine has no such browser");
+    const { words, env = {}, stdio = "ignore" } = beginningIn(this.room);
     this.child = spawn(program, words, { stdio, env: { ...process.env, HOME: this.room, ...env } });
     this.ended = once(this.child, "exit");
   }
 
-  /** The answer to what is asked for. @param {number} id @param {string} what @returns {Promise<any>} */
+  /**
+   * The answer to what is asked for.
+   * @param {number} id
+   * @param {string} what
+   * @returns {Promise<any>}
+   */
   answerTo(id, what) {
     return new Promise((done, fail) => {
       const timer = setTimeout(() => fail(new Error(`${what} took too long`)), MOST_MILLISECONDS);
@@ -53,7 +70,10 @@ export class StartedBrowser {
     });
   }
 
-  /** Ends it. @param {number} milliseconds after which it is killed */
+  /**
+   * Ends it.
+   * @param {number} milliseconds after which it is killed
+   */
   async end(milliseconds) {
     const timer = setTimeout(() => this.child.kill("SIGKILL"), milliseconds);
     this.child.kill();
@@ -65,16 +85,20 @@ export class StartedBrowser {
 }
 
 export class Browser extends StartedBrowser {
+  /** @type {{ method: string, params: any, sessionId?: string }[]} */
+  events = [];
+
   constructor() {
-    super();
-    const stdio = ["ignore", "ignore", "ignore", "pipe", "pipe"];
-    this.start(BROWSER, [...WORDS, `--user-data-dir=${this.room}`], {}, stdio);
-    /** @type {{ method: string, params: any, sessionId?: string }[]} */
-    this.events = [];
+    super(BROWSER, (room) => ({
+      words: [...WORDS, `--user-data-dir=${room}`], stdio: ["ignore", "ignore", "ignore", "pipe", "pipe"],
+    }));
+    const [, , , to, from] = this.child.stdio;
+    this.questions = /** @type {NodeJS.Writable} */ (to);
+    const answers = /** @type {NodeJS.Readable} */ (from);
     let text = "";
-    this.child.stdio[4].setEncoding("utf8").on("data", (part) => {
+    answers.setEncoding("utf8").on("data", (part) => {
       const messages = (text + part).split("\0");
-      text = messages.pop();
+      text = messages.pop() ?? "";
       for (const message of messages) this.#take(JSON.parse(message));
     });
   }
@@ -87,18 +111,27 @@ export class Browser extends StartedBrowser {
     else answered(message);
   }
 
-  /** Asks for something. @param {string} method @param {object} [params] @param {string} [sessionId] */
+  /**
+   * Asks for something.
+   * @param {string} method
+   * @param {object} [params]
+   * @param {string} [sessionId]
+   */
   async send(method, params = {}, sessionId) {
     this.count += 1;
     const id = this.count;
     const answer = this.answerTo(id, method);
-    this.child.stdio[3].write(`${JSON.stringify({ id, method, params, sessionId })}\0`);
+    this.questions.write(`${JSON.stringify({ id, method, params, sessionId })}\0`);
     const { result, error } = await answer;
     if (error !== undefined) throw new Error(`${method}: ${error.message}`);
     return result;
   }
 
-  /** Opens a page, in a window of some size, for one who asks for a light or a dark background. */
+  /**
+   * Opens a page, in a window of some size, for one who asks for a light or a dark background.
+   * @param {string} url
+   * @param {Looks} looks
+   */
   async open(url, { width = 1280, height = 800, background = "light" } = {}) {
     const { targetId } = await this.send("Target.createTarget", { url: "about:blank" });
     const { sessionId } = await this.send("Target.attachToTarget", { targetId, flatten: true });
@@ -111,10 +144,19 @@ export class Browser extends StartedBrowser {
   }
 
   close() {
-    this.child.stdio[3].end();
+    this.questions.end();
     return this.end(5_000);
   }
 }
+
+/** @typedef {{ value: unknown }} AccessibleValue */
+/**
+ * @typedef {object} AccessibleNode
+ * @property {boolean} ignored
+ * @property {AccessibleValue} [role]
+ * @property {AccessibleValue} [name]
+ * @property {{ name: string, value: AccessibleValue }[]} [properties]
+ */
 
 class Tab {
   /** @param {Browser} browser @param {string} session */
@@ -143,21 +185,30 @@ class Tab {
     return this.browser.events.filter((event) => event.method === method && event.sessionId === this.session);
   }
 
-  /** What went wrong in the page: what its code threw, and what the browser complains of. @returns {string[]} */
+  /**
+   * What went wrong in the page: what its code threw, and what the browser complains of.
+   * @returns {string[]}
+   */
   complaints() {
     const thrown = this.#eventsOf("Runtime.exceptionThrown").map(({ params }) => params.exceptionDetails.text);
     const logged = this.#eventsOf("Log.entryAdded").map(({ params }) => params.entry.text);
     return [...thrown, ...logged];
   }
 
-  /** What code of JavaScript answers in the page. @param {string} expression */
+  /**
+   * What code of JavaScript answers in the page.
+   * @param {string} expression
+   */
   async value(expression) {
     const { result, exceptionDetails } = await this.send("Runtime.evaluate", { expression, returnByValue: true });
     if (exceptionDetails !== undefined) throw new Error(exceptionDetails.exception?.description ?? expression);
     return result.value;
   }
 
-  /** Presses keys, one after the other. @param {...string} keys */
+  /**
+   * Presses keys, one after the other.
+   * @param {...string} keys
+   */
   async press(...keys) {
     for (const key of keys) {
       const windowsVirtualKeyCode = KEY_CODES[key] ?? key.toUpperCase().charCodeAt(0);
@@ -167,7 +218,10 @@ class Tab {
     }
   }
 
-  /** Clicks amid an element. @param {string} selector */
+  /**
+   * Clicks amid an element.
+   * @param {string} selector
+   */
   async click(selector) {
     const { x, y } = await this.value(`(() => {
       const box = document.querySelector(${JSON.stringify(selector)}).getBoundingClientRect();
@@ -180,6 +234,7 @@ class Tab {
 
   /** What a screen reader gets: roles, names and other properties. */
   async accessible() {
+    /** @type {{ nodes: AccessibleNode[] }} */
     const { nodes } = await this.send("Accessibility.getFullAXTree");
     return nodes.filter(({ ignored }) => !ignored).map(({ role, name, properties = [] }) => ({
       role: role?.value,
@@ -188,11 +243,16 @@ class Tab {
     }));
   }
 
-  /** For how many seconds the page's thread has had a processor. @returns {Promise<number>} */
+  /**
+   * For how many seconds the page's thread has had a processor.
+   * @returns {Promise<number>}
+   */
   async processorSeconds() {
     await this.send("Performance.enable");
+    /** @type {{ metrics: { name: string, value: number }[] }} */
     const { metrics } = await this.send("Performance.getMetrics");
-    return metrics.find(({ name }) => name === "ThreadTime").value;
+    const { ThreadTime: seconds } = Object.fromEntries(metrics.map(({ name, value }) => [name, value]));
+    return seconds;
   }
 
   /** @returns {Promise<Buffer>} a picture of the window, as PNG */

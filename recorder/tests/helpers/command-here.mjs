@@ -5,7 +5,7 @@ import { Writable } from "node:stream";
 import { obey } from "../../lib/command/main.mjs";
 import { Job } from "../../lib/seeds/job.mjs";
 
-/** @typedef {{ status: number, stdout: string, stderr: string }} Ended */
+/** @typedef {import("./programs.mjs").Ended} Ended */
 
 /** @type {Promise<unknown>} settled when no command is under way: each has the standard streams for itself */
 let rest = Promise.resolve();
@@ -29,7 +29,7 @@ export function commandHere(words) {
  */
 export async function withStreams(act, isTerminal = false) {
   const texts = { stdout: "", stderr: "" };
-  const names = /** @type {(keyof texts)[]} */ (Object.keys(texts));
+  const names = /** @type {const} */ (["stdout", "stderr"]);
   const own = names.map((name) => Object.getOwnPropertyDescriptor(process, name));
   for (const name of names) {
     /** @type {(text: string, encoding: string, done: () => void) => void} */

@@ -1,7 +1,7 @@
 // What the tests share.
 
 import assert from "node:assert/strict";
-import { execFile, spawnSync } from "node:child_process";
+import { spawnSync } from "node:child_process";
 import { mkdtempSync, readFileSync, readdirSync, rmSync, writeFileSync } from "node:fs";
 import { tmpdir } from "node:os";
 import { join } from "node:path";
@@ -10,6 +10,11 @@ import { setTimeout as sleep } from "node:timers/promises";
 import { fileURLToPath } from "node:url";
 import { Refused, record } from "../../recorder.mjs";
 import { NOWHERE } from "./needs.mjs";
+import { start } from "./programs.mjs";
+
+/** @typedef {import("node:child_process").StartOptions} StartOptions */
+/** @typedef {import("node:child_process").SyncOptions} SyncOptions */
+/** @typedef {import("./programs.mjs").Ended} Ended */
 
 /** An environment that chooses a program which isn't there. */
 export const WITHOUT_SABSIM = Object.freeze({ ...process.env, SABSIM: NOWHERE });
@@ -20,32 +25,28 @@ export const agentsPath = (name) => fileURLToPath(new URL(`../agents/${name}.mjs
 /** The command line's program. */
 export const RECORD = fileURLToPath(new URL("../../record.mjs", import.meta.url));
 
-/** @typedef {{ status: number, stdout: string, stderr: string }} Ended */
-
 /**
  * Runs node in a process of its own, beside others.
  * @param {string[]} words
- * @param {{ input?: string } & object} [options] its standard input, and those of execFile
+ * @param {{ input?: string } & StartOptions} options its standard input, and how it is started
  * @returns {Promise<Ended>}
  */
-export const nodeThere = (words, { input = "", ...options } = {}) => new Promise((done) => {
-  const child = execFile(process.execPath, words, { maxBuffer: 2 ** 28, ...options }, (error, stdout, stderr) => {
-    done({ status: Number(error?.code ?? 0), stdout, stderr });
-  });
-  child.stdin.end(input);
-});
+export async function nodeThere(words, { input, ...options } = {}) {
+  const { status, stdout, stderr } = await start(process.execPath, words, input, options).ended;
+  return { status, stdout, stderr };
+}
 
 /**
  * Runs the command line so.
  * @param {string[]} words
- * @param {object} [options]
+ * @param {{ input?: string } & StartOptions} [options]
  */
 export const commandThere = (words, options) => nodeThere([RECORD, ...words], options);
 
 /**
  * Runs node to its end, while nothing else goes on here.
  * @param {string[]} words
- * @param {object} [options] of spawnSync
+ * @param {Partial<SyncOptions>} [options]
  * @returns {Ended}
  */
 export function nodeNow(words, options = {}) {
@@ -56,7 +57,7 @@ export function nodeNow(words, options = {}) {
 /**
  * Runs the command line so.
  * @param {string[]} words
- * @param {object} [options]
+ * @param {Partial<SyncOptions>} [options]
  */
 export const commandNow = (words, options) => nodeNow([RECORD, ...words], options);
 
@@ -69,24 +70,17 @@ export function jsonOf({ stdout, stderr }) {
   return JSON.parse(stdout);
 }
 
+/** @typedef {import("../../options.cjs").OfModule} OfModule */
 /**
- * What a process prints, and how it ends.
- * @param {import("node:child_process").ChildProcess} child
- * @returns {Promise<Ended & { signal: string | null }>}
+ * @typedef {import("../../options.cjs").RunOptions & import("../../options.cjs").OneRun &
+ * Partial<Omit<OfModule, "module">>} CaseOptions those of `record`, except the module
  */
-export function endOf(child) {
-  const texts = { stdout: "", stderr: "" };
-  for (const name of ["stdout", "stderr"]) child[name]?.setEncoding("utf8").on("data", (text) => (texts[name] += text));
-  return new Promise((done) => {
-    child.on("close", (status, signal) => done({ ...texts, status, signal }));
-  });
-}
 
 /**
  * Records one of the cases of `agents/cases.mjs`; without a check unless it is asked for. With `everywhere` no pilots
  * are made first, which would take twice as many workers.
  * @param {string} name
- * @param {object} [options]
+ * @param {CaseOptions} [options]
  */
 export function recordCase(name, options = {}) {
   const { agents = 2, buffers = [12], args = [], ...rest } = options;
@@ -111,7 +105,7 @@ export function temporaryFolder(test = { after }) {
  * @param {string} folder
  * @param {string} body of the agent
  */
-export function agentsOf(folder, body) {
+export function agentsIn(folder, body) {
   const path = join(folder, "agents.mjs");
   writeFileSync(path, `export default function agent({ buffers, agent, agents, args }) {\n${body}\n}\n`);
   return path;
@@ -161,7 +155,11 @@ export const refusedInALine = (why, what = "") => (error) => {
   return !error.message.includes("\n");
 };
 
-/** The processes whose environment has a word, which all children of a process inherit. */
+/**
+ * The processes whose environment has a word, which all children of a process inherit.
+ * @param {string} word
+ * @returns {string[]} their numbers
+ */
 export function processesWith(word) {
   return readdirSync("/proc").filter((name) => /^\d+$/.test(name)).filter((name) => {
     try {

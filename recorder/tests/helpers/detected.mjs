@@ -10,6 +10,7 @@ import { logOf } from "./logs.mjs";
 export function detected(events) {
   const agents = 1 + Math.max(-1, ...events.map(({ agent }) => agent));
   const log = logOf(events.map((event, position) => ({ ...event, source: position + 1 })));
+  /** @type {[number, number][]} */
   const pairs = racesOf(log, agents).map(({ one, other }) => [one, other]);
   pairs.sort(([one, other], [first, second]) => other - second || one - first);
   return { isRacy: isRacy(log, agents), pairs };

@@ -3,6 +3,11 @@
 
 import { Dice } from "./scripts.mjs";
 
+/** @typedef {import("./slow-judge.mjs").Event} Event */
+/** @typedef {import("./slow-judge.mjs").Range} Range */
+/** @typedef {Pick<Event, "does" | "read" | "write">} Access */
+/** @typedef {Omit<Event, "agent" | "call" | "source">} Deed what an agent does, whichever it is */
+
 const LOAD = { does: "load", read: true, write: false };
 const STORE = { does: "store", read: false, write: true };
 const ADD = { does: "add", read: true, write: true };
@@ -16,11 +21,12 @@ const SIZES = [1, 2, 4, 4, 4, 8];
 /**
  * The events of a seed, each with a source of its own.
  * @param {number} seed
- * @returns {import("./slow-judge.mjs").Event[]}
+ * @returns {Event[]}
  */
 export function randomEvents(seed) {
   const dice = new Dice(seed);
   const scene = someScene(dice);
+  /** @type {Omit<Event, "call" | "source">[]} */
   const events = [];
   let agent = 0;
   while (events.length < scene.length) {
@@ -32,7 +38,10 @@ export function randomEvents(seed) {
   return numbered(events);
 }
 
-/** How the events of one list are drawn: some lists have few ordinary accesses, and in some hardly anything races. */
+/**
+ * How the events of one list are drawn: some lists have few ordinary accesses, and in some hardly anything races.
+ * @param {Dice} dice
+ */
 function someScene(dice) {
   return {
     agents: 2 + dice.below(4),
@@ -46,7 +55,12 @@ function someScene(dice) {
   };
 }
 
-/** Two events that order what one agent did before what the next will do. */
+/**
+ * Two events that order what one agent did before what the next will do.
+ * @param {Dice} dice
+ * @param {number} agent
+ * @param {number} next
+ */
 function handOver(dice, agent, next) {
   const place = { block: 0, byte: dice.of([0, 4]), size: 4 };
   const [given, taken] = dice.percent(50)
@@ -55,6 +69,7 @@ function handOver(dice, agent, next) {
   return [{ agent, ...given }, { agent: next, ...taken }];
 }
 
+/** @param {Dice} dice @param {ReturnType<typeof someScene>} scene @returns {Deed} */
 function someEvent(dice, { blocks, sizes, ordinary, sections }) {
   const block = dice.below(blocks.length);
   if (dice.percent(ordinary)) return ordinaryAccess(dice, block, blocks[block]);
@@ -66,12 +81,22 @@ function someEvent(dice, { blocks, sizes, ordinary, sections }) {
   return atomic(dice.of(ATOMICS), { block, byte: size * dice.below(blocks[block] / size), size });
 }
 
+/** @type {(access: Access, range: Range) => Deed} */
 const atomic = (access, range) => ({ ...access, ...range, atomic: true, waiters: false });
 
-/** A wait reads its word as well; the others touch no bytes. */
+/**
+ * A wait reads its word as well; the others touch no bytes.
+ * @type {(does: string, place: Range) => Deed}
+ */
 const section = (does, place) => ({ does, read: does === "wait", write: false, ...place, atomic: true, waiters: true });
 
-/** Any bytes that lie in a row, mostly few. */
+/**
+ * Any bytes that lie in a row, mostly few.
+ * @param {Dice} dice
+ * @param {number} block
+ * @param {number} length of the block
+ * @returns {Deed}
+ */
 function ordinaryAccess(dice, block, length) {
   const byte = dice.below(length);
   const size = 1 + dice.below(Math.min(length - byte, dice.percent(80) ? 4 : length));
@@ -79,8 +104,13 @@ function ordinaryAccess(dice, block, length) {
   return { does: write ? "write" : "read", read: !write, write, block, byte, size, atomic: false, waiters: false };
 }
 
-/** Each event with its source, and with the number of its agent's calls before it. */
+/**
+ * Each event with its source, and with the number of its agent's calls before it.
+ * @param {Omit<Event, "call" | "source">[]} events
+ * @returns {Event[]}
+ */
 function numbered(events) {
+  /** @type {Map<number, number>} */
   const calls = new Map();
   return events.map((event, index) => {
     const call = calls.get(event.agent) ?? 0;

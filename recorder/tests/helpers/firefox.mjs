@@ -13,13 +13,19 @@ const NAMES = ["firefox-esr", "firefox"];
 /** The Firefox of this machine, or undefined. */
 export const FIREFOX = NAMES.find((name) => spawnSync(name, ["--version"]).status === 0);
 
-/** What a key is called by the protocol. */
+/**
+ * What a key is called by the protocol.
+ * @type {Record<string, string>}
+ */
 const KEYS = {
   ArrowUp: "\uE013", ArrowDown: "\uE015", ArrowLeft: "\uE012", ArrowRight: "\uE014", Home: "\uE011", End: "\uE010",
   PageUp: "\uE00E", PageDown: "\uE00F", Tab: "\uE004", Enter: "\uE007",
 };
 
-// Nothing is asked for over a network, and what is downloaded lies in the profile.
+/**
+ * Nothing is asked for over a network, and what is downloaded lies in the profile.
+ * @param {string} room
+ */
 const settingsOf = (room) => ({
   "marionette.port": 0, "app.update.auto": false, "browser.shell.checkDefaultBrowser": false,
   "datareporting.policy.dataSubmissionEnabled": false, "toolkit.telemetry.enabled": false,
@@ -32,6 +38,9 @@ const settingsOf = (room) => ({
 const BACKGROUNDS = { dark: 0, light: 1 };
 
 export class Firefox extends StartedBrowser {
+  /** @type {import("node:net").Socket | undefined} */
+  #socket;
+
   /** Starts one. */
   static async begun() {
     const firefox = new Firefox();
@@ -40,13 +49,14 @@ export class Firefox extends StartedBrowser {
   }
 
   constructor() {
-    super();
-    const lines = Object.entries(settingsOf(this.room)).map(([name, value]) => {
-      return `user_pref(${JSON.stringify(name)}, ${JSON.stringify(value)});\n`;
+    super(FIREFOX, (room) => {
+      const lines = Object.entries(settingsOf(room)).map(([name, value]) => {
+        return `user_pref(${JSON.stringify(name)}, ${JSON.stringify(value)});\n`;
+      });
+      writeFileSync(join(room, "user.js"), lines.join(""));
+      const words = ["--headless", "--no-remote", "--marionette", "--remote-allow-system-access", "--profile", room];
+      return { words, env: { MOZ_HEADLESS: "1" } };
     });
-    writeFileSync(join(this.room, "user.js"), lines.join(""));
-    const words = ["--headless", "--no-remote", "--marionette", "--remote-allow-system-access", "--profile", this.room];
-    this.start(FIREFOX, words, { MOZ_HEADLESS: "1" });
   }
 
   async #connect() {
@@ -56,12 +66,12 @@ export class Firefox extends StartedBrowser {
       if (Date.now() > end) throw new Error("Firefox wasn't ready in time");
       await sleep(50);
     }
-    this.socket = connect(Number(readFileSync(file, "utf8")), "127.0.0.1");
+    this.#socket = connect(Number(readFileSync(file, "utf8")), "127.0.0.1");
     let bytes = Buffer.alloc(0);
     const greeted = new Promise((done) => {
       this.asked.set(0, done);
     });
-    this.socket.on("data", (part) => {
+    this.#socket.on("data", (part) => {
       bytes = Buffer.concat([bytes, part]);
       for (let colon = bytes.indexOf(":"); colon > 0; colon = bytes.indexOf(":")) {
         const end = colon + 1 + Number(bytes.subarray(0, colon));
@@ -81,18 +91,25 @@ export class Firefox extends StartedBrowser {
     this.asked.delete(id);
   }
 
-  /** Asks for something. @param {string} name @param {object} [params] */
+  /**
+   * Asks for something.
+   * @param {string} name
+   * @param {object} [params]
+   */
   async send(name, params = {}) {
     this.count += 1;
     const text = JSON.stringify([0, this.count, name, params]);
     const answer = this.answerTo(this.count, name);
-    this.socket.write(`${Buffer.byteLength(text)}:${text}`);
+    this.#socket?.write(`${Buffer.byteLength(text)}:${text}`);
     const [, , error, result] = await answer;
     if (error !== null) throw new Error(`${name}: ${error.message}`);
     return result;
   }
 
-  /** What code returns that runs in the browser's own pages. @param {string} script */
+  /**
+   * What code returns that runs in the browser's own pages.
+   * @param {string} script
+   */
   async #ownValue(script) {
     await this.send("Marionette:SetContext", { value: "chrome" });
     const { value } = await this.send("WebDriver:ExecuteScript", { script, args: [], sandbox: "system" });
@@ -100,7 +117,11 @@ export class Firefox extends StartedBrowser {
     return value;
   }
 
-  /** Opens a page, in a window of some size, for one who asks for a light or a dark background. */
+  /**
+   * Opens a page, in a window of some size, for one who asks for a light or a dark background.
+   * @param {string} url
+   * @param {import("./browser.mjs").Looks} looks
+   */
   async open(url, { width = 1280, height = 800, background = "light" } = {}) {
     const name = "layout.css.prefers-color-scheme.content-override";
     await this.#ownValue(`Services.prefs.setIntPref("${name}", ${BACKGROUNDS[background]}); Services.console.reset();`);
@@ -112,18 +133,27 @@ export class Firefox extends StartedBrowser {
     return this;
   }
 
-  /** What code of JavaScript returns in the page. @param {string} expression */
+  /**
+   * What code of JavaScript returns in the page.
+   * @param {string} expression
+   */
   async value(expression) {
     return (await this.send("WebDriver:ExecuteScript", { script: `return ${expression};`, args: [] })).value;
   }
 
-  /** Presses keys, one after the other. @param {...string} keys */
+  /**
+   * Presses keys, one after the other.
+   * @param {...string} keys
+   */
   async press(...keys) {
     const actions = keys.flatMap((key) => ["keyDown", "keyUp"].map((type) => ({ type, value: KEYS[key] ?? key })));
     await this.send("WebDriver:PerformActions", { actions: [{ type: "key", id: "keys", actions }] });
   }
 
-  /** Clicks amid an element. @param {string} selector */
+  /**
+   * Clicks amid an element.
+   * @param {string} selector
+   */
   async click(selector) {
     const element = (await this.send("WebDriver:FindElement", { using: "css selector", value: selector })).value;
     await this.send("WebDriver:ElementClick", { id: Object.values(element)[0] });
@@ -146,7 +176,7 @@ export class Firefox extends StartedBrowser {
   }
 
   close() {
-    this.socket?.destroy();
+    this.#socket?.destroy();
     return this.end(10_000);
   }
 }

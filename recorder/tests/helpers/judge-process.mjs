@@ -12,7 +12,10 @@ const WORDS = ["judge", "--trace", "--format", "json"];
 
 const [, , first, last, step] = process.argv;
 
-/** What each says about a seed's trace, and what it must say. @param {number} seed */
+/**
+ * What each says about a seed's trace, and what it must say.
+ * @param {number} seed
+ */
 function judgedBy(seed) {
   const trace = randomTrace(seed);
   const events = eventsOfTrace(trace);
@@ -23,13 +26,16 @@ function judgedBy(seed) {
   return { seed, isRacy: judged.races.length > 0, said, expected };
 }
 
+/** @typedef {ReturnType<typeof judgedBy>} JudgedSeed */
+
+/** @param {JudgedSeed} judged */
 const areEqual = ({ said, expected }) => JSON.stringify(said) === JSON.stringify(expected);
 
-const found = { seeds: 0, racy: 0, differing: [] };
+const found = { seeds: 0, racy: 0, differing: /** @type {JudgedSeed[]} */ ([]) };
 for (let seed = Number(first); seed <= Number(last); seed += Number(step)) {
   const judged = judgedBy(seed);
   found.seeds += 1;
   if (judged.isRacy) found.racy += 1;
   if (!areEqual(judged)) found.differing.push(judged);
 }
-process.send(found, () => process.disconnect());
+process.send?.(found, () => process.disconnect?.());

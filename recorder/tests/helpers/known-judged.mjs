@@ -8,13 +8,17 @@ import { simulatorAt } from "../../lib/simulator/chosen.mjs";
 import { SABSIM } from "./needs.mjs";
 import { eventsOfTrace, slowJudge } from "./slow-judge.mjs";
 
+/** @typedef {import("../../lib/simulator/module.mjs").SimulatorJob} SimulatorJob */
 /** @typedef {import("./known-process.mjs").Judged} Judged */
 
-const FORMATS = ["plain", "explained", "json", "svg", "script"];
+const FORMATS = /** @type {const} */ (["plain", "explained", "json", "svg", "script"]);
 
 const simulator = simulatorAt();
 
-/** A side as the recorder reports it, of an event of the trace. */
+/**
+ * A side as the recorder reports it, of an event of the trace.
+ * @param {import("./slow-judge.mjs").Event} event
+ */
 function sideOf({ agent, read, write, atomic, block, byte, size, call, source }) {
   const access = [...(read ? ["read"] : []), ...(write ? ["write"] : [])].join(" and ");
   return { agent, access, atomic, block, byte, size, call, source };
@@ -25,6 +29,7 @@ function sideOf({ agent, read, write, atomic, block, byte, size, call, source })
  * @param {Judged} run
  */
 export function demandOfSlowJudge({ outcome: { seed, races, trace } }) {
+  assert.ok(trace !== undefined, `seed ${seed} has no trace`);
   const events = eventsOfTrace(trace);
   const { races: [slow] } = slowJudge(events);
   assert.equal(races.length > 0, slow !== undefined, `seed ${seed}`);
@@ -33,28 +38,39 @@ export function demandOfSlowJudge({ outcome: { seed, races, trace } }) {
   assert.deepEqual(later, sideOf(events[slow.second.event]), `seed ${seed}`);
 }
 
-/** The trace that the simulator judges. @param {Judged} run */
-const traceOf = ({ judgement }) => traceText(Log.from(judgement.events));
+/**
+ * What the simulator is asked about: the script of a run, and the trace that it judges.
+ * @param {Judged} run
+ */
+function askedAbout({ outcome: { seed, script }, judgement }) {
+  assert.ok(script !== undefined && judgement !== undefined, `seed ${seed} has no script`);
+  return { script, judgement, trace: traceText(Log.from(judgement.events)) };
+}
 
-/** The module replays a run to the recorder's report, and judges it as the recorder does. @param {Judged} run */
+/**
+ * The module replays a run to the recorder's report, and judges it as the recorder does.
+ * @param {Judged} run
+ */
 export function demandOfModule(run) {
-  const { outcome: { script, report }, judgement: { racy, isInScript } } = run;
-  assert.equal(simulator.run({ job: "replay" }, script).output, report);
-  const { status } = simulator.run({ job: "judge-trace" }, traceOf(run));
+  const { script, trace, judgement: { racy, isInScript } } = askedAbout(run);
+  assert.equal(simulator.run({ job: "replay" }, script).output, run.outcome.report);
+  const { status } = simulator.run({ job: "judge-trace" }, trace);
   assert.equal(status, racy ? 5 : 0);
   // A script that hasn't all accesses is refused.
   assert.equal(simulator.run({ job: "judge" }, script).status, isInScript ? status : 1);
 }
 
-/** The native program does what the module does. @param {Judged} run */
+/**
+ * The native program does what the module does.
+ * @param {Judged} run
+ */
 export function demandOfNative(run) {
   const native = simulatorAt(SABSIM);
-  const { script } = run.outcome;
-  const jobs = [
-    ...FORMATS.map((format) => [{ job: "replay", format }, script]),
-    [{ job: "replay", format: "explained", acts: true }, script],
-    [{ job: "judge" }, script],
-    [{ job: "judge-trace" }, traceOf(run)],
-  ];
-  for (const [job, input] of jobs) assert.deepEqual(simulator.run(job, input), native.run(job, input));
+  const { script, trace } = askedAbout(run);
+  /** @param {SimulatorJob} job @param {string} input */
+  const compare = (job, input) => assert.deepEqual(simulator.run(job, input), native.run(job, input));
+  for (const format of FORMATS) compare({ job: "replay", format }, script);
+  compare({ job: "replay", format: "explained", acts: true }, script);
+  compare({ job: "judge" }, script);
+  compare({ job: "judge-trace" }, trace);
 }

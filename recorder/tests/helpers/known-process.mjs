@@ -1,5 +1,5 @@
 // A process that runs known programs, one after the other, each by a group in this process: so no process is started
-// for a program, and no outcome goes from process to process. What it is asked for is in `known.test.mjs`.
+// for a program, and few outcomes go from process to process. What it is asked for is in `known.test.mjs`.
 
 import { checkedBy } from "../../lib/check/check.mjs";
 import { CheckedRuns } from "../../lib/check/checked-runs.mjs";
@@ -33,7 +33,7 @@ import { lasting } from "./recorded.mjs";
  */
 
 /**
- * @typedef {{ outcome: CheckedOutcome, judgement: Judgement, divergence: Aside["divergence"] }} Judged all that is
+ * @typedef {{ outcome: CheckedOutcome, judgement?: Judgement, divergence: Aside["divergence"] }} Judged all that is
  * known of a run
  */
 
@@ -42,7 +42,7 @@ const madeOf = ({ seed, ending, races, bytes, checked, scriptHolds, noScript }) 
   ({ seed, ending, races: races.map(({ lines }) => lines), isWhole: bytes !== undefined, checked, scriptHolds,
     noScript });
 
-/** @param {CheckedOutcome} outcome @param {Judgement} judgement @param {Aside} aside @returns {Judged} */
+/** @type {(outcome: CheckedOutcome, judgement: Judgement | undefined, aside: Aside) => Judged} */
 const judgedOf = (outcome, judgement, { divergence }) => ({ outcome, judgement: lasting(judgement), divergence });
 
 /** The runs of a program. */
@@ -62,7 +62,7 @@ class Runs {
    * Makes runs, checks them, and makes something of each.
    * @template Kept
    * @param {import("../../lib/run/outcome.mjs").WantedRun[]} wanted
-   * @param {(outcome: CheckedOutcome, judgement: Judgement, aside: Aside) => Kept} keep
+   * @param {(outcome: CheckedOutcome, judgement: Judgement | undefined, aside: Aside) => Kept} keep
    * @returns {Promise<Kept[]>}
    */
   async made(wanted, keep) {
@@ -100,8 +100,8 @@ async function answerTo({ module, seeds, checkEvery, judged: most, again }) {
 process.on("disconnect", () => process.exit());
 process.on("message", async (question) => {
   try {
-    process.send(await answerTo(question));
+    process.send?.(await answerTo(question));
   } catch (error) {
-    process.send({ fault: error.stack ?? String(error) });
+    process.send?.({ fault: error instanceof Error ? error.stack : String(error) });
   }
 });

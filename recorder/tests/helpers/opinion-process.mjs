@@ -13,8 +13,8 @@ process.on("message", async (text) => {
   try {
     const script = readScript(Buffer.from(text));
     const outcome = await replay(script, crew);
-    process.send({ report: reportText(script, outcome), lines: outcome.entries.map((entry) => entry.text) });
+    process.send?.({ report: reportText(script, outcome), lines: outcome.entries.map((entry) => entry.text) });
   } catch (error) {
-    process.send({ fault: `${error}` });
+    process.send?.({ fault: `${error}` });
   }
 });

@@ -2,17 +2,13 @@
 // program prints goes to standard error, and behind it a line with NUL.
 
 import { writeSync } from "node:fs";
-import { defaultsOf } from "../../lib/options/table.mjs";
-import { ProgramGroup } from "../../lib/program/program-group.mjs";
+import { programGroup } from "./groups.mjs";
 
 const [seeds, own, ...urls] = process.argv.slice(2);
 
 const STDERR = 2;
 // In node what these programs do takes nearly no time. So no timer of theirs is up while something else can be done.
-const timeouts = 0;
-const always = { ...defaultsOf("record"), timeouts, program: true, seconds: 20, args: [], module: urls[0] };
-const options = { ...always, ...JSON.parse(own) };
-const group = /** @type {ProgramGroup} */ (await ProgramGroup.open(options));
+const group = await programGroup({ timeouts: 0, module: urls[0], ...JSON.parse(own) });
 for (const url of urls) {
   group.enter(url);
   for (let seed = 1; seed <= Number(seeds); seed += 1) {

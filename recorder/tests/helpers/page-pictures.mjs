@@ -20,7 +20,10 @@ const WINDOW = { width: 1120, height: 900 };
 const ROOM = "found";
 const MOST_COLOURS = 256;
 
-/** The check sum of a part of a PNG file. @param {Buffer} bytes */
+/**
+ * The check sum of a part of a PNG file.
+ * @param {Buffer} bytes
+ */
 function crc(bytes) {
   let sum = 0xffffffff;
   for (const byte of bytes) {
@@ -30,7 +33,10 @@ function crc(bytes) {
   return (sum ^ 0xffffffff) >>> 0;
 }
 
-/** The parts of a PNG file. @param {Buffer} png */
+/**
+ * The parts of a PNG file.
+ * @param {Buffer} png
+ */
 function* partsOf(png) {
   for (let at = 8; at < png.length;) {
     const length = png.readUInt32BE(at);
@@ -39,7 +45,10 @@ function* partsOf(png) {
   }
 }
 
-/** How a filter of PNG predicts each byte: by the one to its left, the one above it, and the one above that. */
+/**
+ * How a filter of PNG predicts each byte: by the one to its left, the one above it, and the one above that.
+ * @type {((left: number, up: number, corner: number) => number)[]}
+ */
 const PREDICTIONS = [
   () => 0, (left) => left, (_, up) => up, (left, up) => (left + up) >> 1,
   (left, up, corner) => {
@@ -49,7 +58,10 @@ const PREDICTIONS = [
   },
 ];
 
-/** The colours of a picture of three or four bytes a point, row by row. @param {Buffer} png */
+/**
+ * The colours of a picture of three or four bytes a point, row by row.
+ * @param {Buffer} png
+ */
 function coloursOf(png) {
   const parts = [...partsOf(png)];
   const [{ data: head }] = parts;
@@ -69,16 +81,28 @@ function coloursOf(png) {
   return { width, height, points };
 }
 
-/** How far two colours are from each other. @param {number} one @param {number} other */
+/**
+ * How far two colours are from each other.
+ * @param {number} one
+ * @param {number} other
+ */
 const distance = (one, other) =>
   [16, 8, 0].reduce((sum, bit) => sum + (((one >> bit) & 255) - ((other >> bit) & 255)) ** 2, 0);
 
-/** The position of the nearest colour. @param {number[]} palette @param {number} colour */
+/**
+ * The position of the nearest colour.
+ * @param {number[]} palette
+ * @param {number} colour
+ */
 const nearest = (palette, colour) => palette.reduce((best, each, at) => {
   return distance(each, colour) < distance(palette[best], colour) ? at : best;
 }, 0);
 
-/** A PNG file of its parts. @param {Buffer} mark that it begins with @param {[string, Buffer][]} parts */
+/**
+ * A PNG file of its parts.
+ * @param {Buffer} mark that it begins with
+ * @param {[string, Buffer][]} parts
+ */
 const pngOf = (mark, parts) => Buffer.concat([mark, ...parts.map(([name, data]) => {
   const named = Buffer.concat([Buffer.from(name), data]);
   const [length, sum] = [Buffer.alloc(4), Buffer.alloc(4)];
@@ -87,9 +111,13 @@ const pngOf = (mark, parts) => Buffer.concat([mark, ...parts.map(([name, data]) 
   return Buffer.concat([length, named, sum]);
 })]);
 
-/** A picture with few colours, which takes a third of the bytes: each goes by the nearest of the most frequent. */
+/**
+ * A picture with few colours, which takes a third of the bytes: each goes by the nearest of the most frequent.
+ * @param {Buffer} png
+ */
 function withFewColours(png) {
   const { width, height, points } = coloursOf(png);
+  /** @type {Map<number, number>} */
   const counts = new Map();
   for (const point of points) counts.set(point, (counts.get(point) ?? 0) + 1);
   const frequent = [...counts].sort(([, one], [, other]) => other - one).slice(0, MOST_COLOURS);
@@ -97,7 +125,7 @@ function withFewColours(png) {
   const numbers = new Map([...counts.keys()].map((colour) => [colour, nearest(palette, colour)]));
   const lines = Buffer.alloc((width + 1) * height);
   points.forEach((point, at) => {
-    lines[Math.floor(at / width) * (width + 1) + 1 + (at % width)] = numbers.get(point);
+    lines[Math.floor(at / width) * (width + 1) + 1 + (at % width)] = numbers.get(point) ?? 0;
   });
   const head = Buffer.alloc(13);
   head.writeUInt32BE(width, 0);
@@ -105,8 +133,9 @@ function withFewColours(png) {
   head.set([8, 3, 0, 0, 0], 8);
   const colours = Buffer.from(palette.flatMap((colour) => [colour >> 16, (colour >> 8) & 255, colour & 255]));
   const points8 = deflateSync(lines, { level: 9 });
-  const parts = [["IHDR", head], ["PLTE", colours], ["IDAT", points8], ["IEND", Buffer.alloc(0)]];
-  return pngOf(png.subarray(0, 8), parts);
+  return pngOf(png.subarray(0, 8), [
+    ["IHDR", head], ["PLTE", colours], ["IDAT", points8], ["IEND", Buffer.alloc(0)],
+  ]);
 }
 
 mkdirSync(ROOM);
@@ -114,7 +143,7 @@ const browser = new Browser();
 try {
   const words = [RECORD, RING, "--seeds", "1..200", "--out", ROOM];
   process.stdout.write(spawnSync(process.execPath, words, { encoding: "utf8" }).stdout);
-  const name = readdirSync(ROOM).find((each) => each.endsWith(".html"));
+  const name = readdirSync(ROOM).find((each) => each.endsWith(".html")) ?? "none.html";
   const page = await browser.open(pathToFileURL(resolve(ROOM, name)).href, WINDOW);
   mkdirSync(PICTURES, { recursive: true });
   writeFileSync(join(PICTURES, "race-write.png"), withFewColours(await page.picture()));

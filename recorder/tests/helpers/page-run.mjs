@@ -3,10 +3,16 @@
 import { pageData } from "../../lib/keeping/kept-page.mjs";
 import { Run } from "../../page/model.mjs";
 
+/** @typedef {import("../../lib/run/outcome.mjs").Outcome} Outcome */
+/** @typedef {import("../../script/text.mjs").View} View */
+
 // Agent 0 puts a byte into a slot and hands on a word; agent 1 waits for it, and takes the byte. Then agent 1 waits
 // again, for ever.
 
-/** A view of a whole block. */
+/**
+ * A view of a whole block.
+ * @type {(name: string, kind: string, block: number, length: number) => View}
+ */
 export const view = (name, kind, block, length) => ({ name, kind, block, offset: 0, length });
 export const SCRIPT = {
   blocks: [4, 2],
@@ -48,23 +54,36 @@ export const EVENTS = [
   { agent: 1, call: 1, does: "wait", block: 0, byte: 0, size: 4, read: true, write: false, source: "a.mjs:7:1" },
 ].map((event, at) => ({ event: at, atomic: true, waiters: false, ...event }));
 
-/** By which array the events 1, 2 and 6 were made, and what 6 has read. */
+/**
+ * By which array the events 1, 2 and 6 were made, and what 6 has read.
+ * @type {import("../../lib/run/array-accesses.mjs").ArrayAccesses}
+ */
 export const ACCESSES = {
   arrays: [{ name: "Uint8_b1", kind: "Uint8", block: 1, offset: 0, length: 2 }],
   made: [[1, 0, null], [2, 0, null], [6, 0, "7"]],
 };
 
-/** Objects as lines of JSON. @param {object[]} objects */
+/**
+ * Objects as lines of JSON.
+ * @param {object[]} objects
+ */
 export const lines = (objects) => objects.map((each) => `${JSON.stringify(each)}\n`).join("");
 const LINES = ["// The code", "const [one, other] = slots;", "slots[1] = 7;", "Atomics.store(words, FLAG, -1);",
   "Atomics.notify(words, FLAG);", "take(slots[1]);", "Atomics.wait(words, FLAG, -1);", ""];
 
+/** @type {Outcome} */
 export const OUTCOME = {
-  seed: 5, ending: "deadlock", detail: "agent 1 waits at FLAG", races: [], progress: [{}, {}],
+  seed: 5, ending: "deadlock", fails: true, detail: "agent 1 waits at FLAG", races: [], moves: 15, calls: 5,
+  ordinary: 3, progress: [{ returned: 3, calls: 3 }, { returned: 1, calls: 2 }],
+  state: { hash: "", shown: ["ffffffff", "0007"], named: null },
   script: JSON.stringify(SCRIPT), trace: lines(EVENTS), accesses: ACCESSES, scriptHolds: "all",
   sources: [{ file: "a.mjs", text: LINES.join("\n") }, { file: "b.mjs", text: null }],
 };
 export const FILE = "file:///somewhere/agents.mjs";
 
-/** The run by hand, with parts of its outcome and its facts changed. */
+/**
+ * The run by hand, with parts of its outcome and its facts changed.
+ * @param {Partial<Outcome>} [parts]
+ * @param {object[]} [facts]
+ */
 export const runOf = (parts = {}, facts = FACTS) => new Run(pageData({ ...OUTCOME, ...parts }, lines(facts), FILE));

@@ -14,17 +14,19 @@ void [process.stdin, process.stdout, process.stderr];
 
 let playing = false;
 let now = 0;
+/** @type {(() => void)[]} */
 let tasks = [];
 const isPlaying = () => playing;
+/** @param {string} name */
 const refuse = (name) => { throw new Error(`refused: ${name}`); };
 const own = new Timers({ now: () => now });
 const graph = new ProgramModules({ refuse: () => {} });
 refuseRest({ refuse, isPlaying });
-putAllSyncVersions({ isPlaying, later: (name, act) => tasks.push(act) });
+putAllSyncVersions({ isPlaying, later: (_, act) => tasks.push(act) });
 
 /** @returns {boolean} whether there was anything to do */
 function step() {
-  if (tasks.length > 0) tasks.shift()();
+  if (tasks.length > 0) tasks.shift()?.();
   else if (own.immediates > 0) own.runImmediate();
   else if (!own.runTimer()) {
     if (own.deadline === Infinity) return false;
@@ -35,6 +37,7 @@ function step() {
 
 const all = [];
 for (let run = 0; run < Number(runs); run += 1) {
+  /** @type {string[]} */
   const lines = [];
   console.log = (...given) => lines.push(util.format(...given));
   graph.begin();
@@ -43,9 +46,9 @@ for (let run = 0; run < Number(runs); run += 1) {
   graph.enter(url).catch((error) => lines.push(`failed: ${error.stack}`));
   let steps = 0;
   for (let isOver = false; !isOver; steps += 1) {
-    await new Promise((done) => turnLater(() => {
+    await new Promise((done) => void turnLater(() => {
       isOver = !step();
-      turnLater(done);
+      turnLater(() => done(undefined));
     }));
   }
   playing = false;

@@ -2,10 +2,9 @@
 // program after the other.
 
 import { checkedBy } from "../../lib/check/check.mjs";
-import { defaultsOf } from "../../lib/options/table.mjs";
-import { ProgramGroup } from "../../lib/program/program-group.mjs";
 import { simulatorAt } from "../../lib/simulator/chosen.mjs";
 import { placesOf, urlOf } from "../programs/table.mjs";
+import { programGroup } from "./groups.mjs";
 import { CHECKER } from "./needs.mjs";
 
 /** @typedef {import("../programs/table.mjs").Program} Program */
@@ -13,22 +12,16 @@ import { CHECKER } from "./needs.mjs";
 /** @typedef {import("../../lib/run/outcome.mjs").Outcome} Outcome */
 /** @typedef {import("../../lib/check/check.mjs").Check} Check */
 
-/** Places of the code are named from here. */
-const FOLDER = new URL("../programs/", import.meta.url);
-
 /** So many seeds are tried at once, until a run has failed: most wrong programs fail in the first few. */
 const FIRST_PART = 5;
 
 export class TableRuns {
-  /** @param {object} [own] options besides @returns {Promise<TableRuns>} */
-  static async open(own = {}) {
-    const options = { ...defaultsOf("record"), program: true, seconds: 20, args: [],
-      module: new URL("main.mjs", FOLDER).href };
-    const group = await ProgramGroup.open({ ...options, ...own });
-    return new TableRuns(/** @type {ProgramGroup} */ (group));
+  /** @param {Parameters<typeof programGroup>[0]} [options] of the group @returns {Promise<TableRuns>} */
+  static async open(options) {
+    return new TableRuns(await programGroup(options));
   }
 
-  /** @param {ProgramGroup} group */
+  /** @param {import("../../lib/program/program-group.mjs").ProgramGroup} group */
   constructor(group) {
     this.group = group;
     this.simulator = simulatorAt(CHECKER);

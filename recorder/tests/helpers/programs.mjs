@@ -1,48 +1,70 @@
-// Runs programs in tests: those of this folder, and the simulator.
+// Runs programs in tests, beside each other.
 
 import { spawn } from "node:child_process";
 import { fileURLToPath } from "node:url";
 import { SABSIM, hasSabsim } from "./needs.mjs";
 import { simulated } from "./simulate.mjs";
 
-/** The path of something in this repository. */
+/** @typedef {import("node:child_process").ChildProcess} ChildProcess */
+/** @typedef {import("node:child_process").StartOptions} StartOptions */
+
+/**
+ * @typedef {object} Ended how a process ends, and what it prints
+ * @property {number | null} status null: a signal has ended it
+ * @property {string} stdout
+ * @property {string} stderr
+ */
+
+/** @typedef {Ended & { signal: string | null }} EndedBy with the signal that has ended it, if one has */
+
+/**
+ * The path of something in this repository.
+ * @param {string} path from its top
+ */
 export const pathOf = (path) => fileURLToPath(new URL(`../../../${path}`, import.meta.url));
 
-/** @typedef {{ status: number | null, signal: string | null, output: string, errors: string }} Ended */
+/**
+ * What a process prints, and how it ends.
+ * @param {ChildProcess} child
+ * @returns {Promise<EndedBy>} fails if it can't be started
+ */
+export function endOf(child) {
+  const texts = { stdout: "", stderr: "" };
+  for (const name of /** @type {const} */ (["stdout", "stderr"])) {
+    child[name]?.setEncoding("utf8").on("data", (text) => (texts[name] += text));
+  }
+  return new Promise((done, fail) => {
+    child.on("error", fail);
+    child.on("close", (status, signal) => done({ ...texts, status, signal }));
+  });
+}
 
 /**
  * Starts a program.
  * @param {string} program
- * @param {string[]} args
- * @param {string | Uint8Array} [input] its whole standard input; without, its standard input stays open
- * @returns {{ child: import("node:child_process").ChildProcess, ended: Promise<Ended> }}
+ * @param {string[]} words
+ * @param {string | Uint8Array} [input] its whole standard input
+ * @param {StartOptions} [options]
+ * @returns {{ child: ChildProcess, ended: Promise<EndedBy> }}
  */
-export function start(program, args, input) {
-  const child = spawn(program, args);
-  const texts = { output: "", errors: "" };
-  child.stdout.setEncoding("utf8").on("data", (text) => (texts.output += text));
-  child.stderr.setEncoding("utf8").on("data", (text) => (texts.errors += text));
+export function start(program, words, input = "", options = {}) {
+  const child = spawn(program, words, { ...options, stdio: "pipe" });
   // A program may end before it has read everything.
   child.stdin.on("error", () => {});
-  if (input !== undefined) child.stdin.end(input);
-  const ended = new Promise((resolve, reject) => {
-    child.on("error", reject);
-    child.on("close", (status, signal) => resolve({ status, signal, ...texts }));
-  });
-  return { child, ended };
+  child.stdin.end(input);
+  return { child, ended: endOf(child) };
 }
-
-/** Runs `node` with one of this folder's programs. */
-export const runNode = (program, args, input) => start(process.execPath, [pathOf(program), ...args], input).ended;
 
 /**
  * What the simulator does: the native program beside others, if it is given, and else the module.
  * @param {string[]} words
  * @param {string | Uint8Array} input
+ * @returns {Promise<import("./simulate.mjs").SimulatedTexts>}
  */
 export async function simulatedBeside(words, input) {
   if (!hasSabsim) return simulated(words, input);
-  const { status, output, errors } = await start(SABSIM, words, input).ended;
+  const { status, signal, stdout: output, stderr: errors } = await start(SABSIM, words, input).ended;
+  if (status === null) throw new Error(`${SABSIM} was ended by ${signal}`);
   return { status, output, errors };
 }
 

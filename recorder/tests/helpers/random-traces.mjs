@@ -3,12 +3,20 @@
 
 import { Dice } from "./scripts.mjs";
 
+/** @typedef {import("./slow-judge.mjs").Event} Event */
+/** @typedef {import("./slow-judge.mjs").Range} Range */
+/** @typedef {{ read: boolean, write: boolean, atomic?: boolean, waiters?: boolean }} Effect */
+/** @typedef {{ agent: number, place: Range, isWoken: boolean }} Wait */
+
 const LOAD = { read: true, write: false };
 const STORE = { read: false, write: true };
 const CHANGE = { read: true, write: true };
 const NOTHING = { read: false, write: false };
 
-/** Calls that access an element, and what they do to it; a compareExchange that fails only reads. */
+/**
+ * Calls that access an element, and what they do to it; a compareExchange that fails only reads.
+ * @type {[does: string, effect: Effect][]}
+ */
 const ACCESSES = [
   ["load", LOAD], ["load", LOAD], ["load", LOAD], ["store", STORE], ["store", STORE], ["store", STORE],
   ["add", CHANGE], ["sub", CHANGE], ["and", CHANGE], ["or", CHANGE], ["xor", CHANGE], ["exchange", CHANGE],
@@ -33,14 +41,15 @@ class Run {
     this.staying = dice.of([0, 50, 80]);
     /** How likely what an agent did is handed over to the next one. */
     this.handing = dice.of([0, 80, 95, 100, 100]);
-    /** @type {object[]} */
+    /** @type {(Event & { event: number })[]} */
     this.events = [];
+    /** @type {number[]} */
     this.calls = Array(this.agents).fill(0);
-    /** @type {{ agent: number, place: object, isWoken: boolean }[]} who waits, in order of arrival */
+    /** @type {Wait[]} who waits, in order of arrival */
     this.waiting = [];
   }
 
-  /** @param {number} agent @param {string} does @param {object} range @param {object} effect */
+  /** @param {number} agent @param {string} does @param {Range} range @param {Effect} effect */
   add(agent, does, range, effect) {
     const { block, byte, size } = range;
     const { read, write, atomic = false, waiters = false } = effect;
@@ -50,18 +59,24 @@ class Run {
     this.events.push({ event, agent, call, does, block, byte, size, read, write, atomic, waiters, source });
   }
 
-  /** A call that begins and returns at once. */
+  /**
+   * A call that begins and returns at once.
+   * @type {Run["add"]}
+   */
   call(agent, does, range, effect) {
     this.add(agent, does, range, effect);
     this.calls[agent] += 1;
   }
 
-  /** @param {number} agent @returns {object | undefined} how it waits */
+  /** @param {number} agent @returns {Wait | undefined} how it waits */
   waitOf(agent) {
     return this.waiting.find((each) => each.agent === agent);
   }
 
-  /** A whole element of few. */
+  /**
+   * A whole element of few.
+   * @param {number[]} [sizes]
+   */
   element(sizes = this.sizes) {
     const block = this.dice.below(this.blocks.length);
     const size = this.dice.of(sizes);
@@ -87,7 +102,12 @@ export function randomTrace(seed) {
   return run.events.map((event) => `${JSON.stringify(event)}\n`).join("");
 }
 
-/** An atomic write by one agent, and a read of it by the next. */
+/**
+ * An atomic write by one agent, and a read of it by the next.
+ * @param {Run} run
+ * @param {number} agent
+ * @param {number} next
+ */
 function handOver(run, agent, next) {
   if (run.waitOf(agent) !== undefined || run.waitOf(next) !== undefined) return;
   const range = { block: 0, byte: run.dice.of([0, 4]), size: 4 };
@@ -95,7 +115,11 @@ function handOver(run, agent, next) {
   run.call(next, "load", range, { ...LOAD, atomic: true });
 }
 
-/** One event of an agent; one that waits can only leave. */
+/**
+ * One event of an agent; one that waits can only leave.
+ * @param {Run} run
+ * @param {number} agent
+ */
 function move(run, agent) {
   const { dice } = run;
   const wait = run.waitOf(agent);
@@ -106,25 +130,35 @@ function move(run, agent) {
   else callOfAccess(run, agent);
 }
 
+/** @param {Run} run @param {number} agent */
 function callOfAccess(run, agent) {
   const [does, effect] = run.dice.of(ACCESSES);
   run.call(agent, does, run.element(), { ...effect, atomic: true });
 }
 
-/** One element, unaligned bytes of a DataView, or a stretch at once, as a fill makes it. */
+/**
+ * One element, unaligned bytes of a DataView, or a stretch at once, as a fill makes it.
+ * @param {Run} run
+ * @param {number} agent
+ */
 function accessOrdinarily(run, agent) {
   const { dice } = run;
   const effect = dice.percent(50) ? LOAD : STORE;
   run.add(agent, effect.read ? "read" : "write", dice.percent(70) ? run.element() : stretch(run), effect);
 }
 
+/** @param {Run} run @returns {Range} */
 function stretch({ dice, blocks }) {
   const block = dice.below(blocks.length);
   const byte = dice.below(blocks[block]);
   return { block, byte, size: 1 + dice.below(blocks[block] - byte) };
 }
 
-/** A call that throws accesses nothing, and its index may lie anywhere. */
+/**
+ * A call that throws accesses nothing, and its index may lie anywhere.
+ * @param {Run} run
+ * @param {number} agent
+ */
 function callThatThrows(run, agent) {
   const { dice } = run;
   const range = run.element([1, 2, 4, 8]);
@@ -132,7 +166,11 @@ function callThatThrows(run, agent) {
   run.call(agent, dice.of(CALLS), { ...range, byte }, NOTHING);
 }
 
-/** A wait reads its word amid the waiters, and joins them or not; a notify wakes some of them, or finds none. */
+/**
+ * A wait reads its word amid the waiters, and joins them or not; a notify wakes some of them, or finds none.
+ * @param {Run} run
+ * @param {number} agent
+ */
 function waitOrNotify(run, agent) {
   const { dice, waiting } = run;
   if (dice.percent(50)) {
@@ -151,12 +189,17 @@ function waitOrNotify(run, agent) {
   }
 }
 
+/** @param {Run} run @param {Range} place @param {number} most how many it wakes at most */
 function wake({ waiting }, { block, byte }, most) {
   const there = waiting.filter(({ place, isWoken }) => place.block === block && place.byte === byte && !isWoken);
   for (const each of there.slice(0, most)) each.isWoken = true;
 }
 
-/** A wait that was woken returns, or its time is up at some time. */
+/**
+ * A wait that was woken returns, or its time is up at some time.
+ * @param {Run} run
+ * @param {Wait} wait
+ */
 function leaveAtLast(run, wait) {
   if (!wait.isWoken && run.dice.percent(70)) return;
   run.waiting = run.waiting.filter((each) => each !== wait);

@@ -32,6 +32,7 @@ const withoutCounts = (report) =>
  * @returns {Result}
  */
 export function readReport(report, isWell) {
+  /** @param {string} name */
   const count = (name) => Number(new RegExp(`^# ${name} (\\d+)$`, "m").exec(report)?.[1] ?? 0);
   const [passed, failed] = [count("pass"), count("fail") + count("cancelled")];
   const leftOut = [...report.matchAll(/^ *ok \d+ - .* # SKIP (.*)$/gm)].map(([, why]) => why);
@@ -43,7 +44,10 @@ export function readReport(report, isWell) {
   return { passed, failed: isSound ? failed : failed + 1, leftOut, failing, problems };
 }
 
-/** How many of something, in words. @param {number} count */
+/**
+ * How many of something, in words.
+ * @param {number} count
+ */
 const tests = (count) => `${count} ${count === 1 ? "test" : "tests"}`;
 
 /**
@@ -52,6 +56,7 @@ const tests = (count) => `${count} ${count === 1 ? "test" : "tests"}`;
  * @returns {string[]}
  */
 function leftOutLines(reasons) {
+  /** @type {Map<string, number>} */
   const counts = new Map();
   for (const reason of reasons) counts.set(reason, (counts.get(reason) ?? 0) + 1);
   const entries = [...counts].map(([reason, count]) => `${tests(count)} (${reason})`);
@@ -73,7 +78,7 @@ function secondLines(second) {
  * What comes of all files. With sabsim, each test that was left out for lack of it counts as failed.
  * @param {Result[]} results
  * @param {Second[]} second the files that passed only the second time
- * @param {{ hasSabsim?: boolean, requireAll?: boolean }} [how] whether there is sabsim, and whether each test that was
+ * @param {{ hasSabsim?: boolean, requireAll?: boolean }} how whether there is sabsim, and whether each test that was
  * left out, or passed only the second time, counts as failed
  * @returns {Whole}
  */
@@ -81,7 +86,8 @@ export function wholeOf(results, second = [], { hasSabsim = false, requireAll = 
   const leftOut = results.flatMap((result) => result.leftOut);
   const unwanted = leftOut.filter((reason) => requireAll || (hasSabsim && reason === "no sabsim"));
   const seconds = second.map(({ failing }) => Math.max(failing.length, 1)).reduce((sum, count) => sum + count, 0);
-  const count = (part) => results.reduce((before, { [part]: own }) => before + own, 0);
+  /** @param {"passed" | "failed"} part */
+  const count = (part) => results.reduce((sum, result) => sum + result[part], 0);
   return {
     passed: count("passed") - (requireAll ? seconds : 0),
     failed: count("failed") + unwanted.length + (requireAll ? seconds : 0),

@@ -1,11 +1,7 @@
 // All that is known of runs of the table's programs: the programs are run one after the other, in the same threads.
 
-import { defaultsOf } from "../../lib/options/table.mjs";
-import { ProgramGroup } from "../../lib/program/program-group.mjs";
 import { PROGRAMS, urlOf } from "../programs/table.mjs";
-
-/** Places in the code are named from here, whichever program comes first. */
-const FOLDER = new URL("../programs/", import.meta.url);
+import { programGroup } from "./groups.mjs";
 
 /** @typedef {{ seed: number, text: string }} Known all that is known of a run: its text, which is JSON */
 /** @typedef {{ runs: Known[], problem?: string }} OfProgram with what was thrown */
@@ -18,7 +14,7 @@ function moduleOf(name) {
 }
 
 /**
- * @param {ProgramGroup} group
+ * @param {import("../../lib/program/program-group.mjs").ProgramGroup} group
  * @param {string} module
  * @param {{ seeds: number[], isFresh: boolean }} how as below
  * @returns {Promise<Known[]>}
@@ -41,13 +37,11 @@ async function runsOf(group, module, { seeds, isFresh }) {
 /**
  * @param {string[]} names of the programs, in their order
  * @param {number[]} seeds in their order
- * @param {{ isFresh?: boolean }} [how] whether the first run of each program has fresh threads
+ * @param {{ isFresh?: boolean }} how whether the first run of each program has fresh threads
  * @returns {Promise<Record<string, OfProgram>>} by their names
  */
 export async function sameRuns(names, seeds, { isFresh = false } = {}) {
-  const options = { ...defaultsOf("record"), program: true, seconds: 20, args: [],
-    module: new URL("main.mjs", FOLDER).href };
-  const group = /** @type {ProgramGroup} */ (await ProgramGroup.open(/** @type {any} */ (options)));
+  const group = await programGroup();
   /** @type {Record<string, OfProgram>} */
   const all = {};
   for (const name of names) {

@@ -16,18 +16,22 @@ export const SIMULATOR_WORDS = hasSabsim
 /** @type {Simulator | undefined} */
 let module;
 
-/** @param {string[]} words @param {string | Uint8Array} input */
+/** @typedef {import("../../schedule/editing.mjs").Simulated} Simulated */
+/** @typedef {{ status: number, output: string, errors: string }} SimulatedTexts */
+
+/** @param {string[]} words @param {string | Uint8Array} input @returns {Simulated} */
 function byModule(words, input) {
   module ??= new Simulator(new WebAssembly.Module(readFileSync(MODULE)));
   const { status, output, complaint } = module.command(words, () => Buffer.from(input));
   return { status, output: Buffer.from(output), complaint: Buffer.from(complaint) };
 }
 
-/** @type {import("../../schedule/editing.mjs").Simulate} */
+/** @param {string[]} words @param {string | Uint8Array} input @returns {Simulated} */
 export function simulate(words, input) {
   if (!hasSabsim) return byModule(words, input);
-  const { status, stdout, stderr, error } = spawnSync(SABSIM, words, { input, maxBuffer: 2 ** 28 });
+  const { status, signal, stdout, stderr, error } = spawnSync(SABSIM, words, { input, maxBuffer: 2 ** 28 });
   if (error !== undefined && error.code !== "EPIPE") throw error;
+  if (status === null) throw new Error(`${SABSIM} was ended by ${signal}`);
   return { status, output: stdout, complaint: stderr };
 }
 
@@ -35,6 +39,7 @@ export function simulate(words, input) {
  * The same with texts.
  * @param {string[]} words
  * @param {string | Uint8Array} input
+ * @returns {SimulatedTexts}
  */
 export function simulated(words, input) {
   const { status, output, complaint } = simulate(words, input);

@@ -43,6 +43,8 @@ export const MEMBERS = [
  * @property {number} size on how many bytes the two overlap
  */
 
+/** @typedef {Pick<Event, "block" | "byte" | "size">} Range of bytes */
+
 /** @typedef {Uint8Array[]} Relation whether the i-th event is related to the j-th: `relation[i][j]` is 1, and else 0 */
 
 /** @param {Event} event */
@@ -61,7 +63,11 @@ const haveOneRange = (one, other) => isAtOnePlace(one, other) && one.size === ot
 const overlap = (one, other) =>
   one.block === other.block && one.byte < other.byte + other.size && other.byte < one.byte + one.size;
 
-/** Whether both are atomic accesses of equal ranges. @param {Event} one @param {Event} other */
+/**
+ * Whether both are atomic accesses of equal ranges.
+ * @param {Event} one
+ * @param {Event} other
+ */
 const areAlike = (one, other) =>
   accesses(one) && accesses(other) && one.atomic && other.atomic && haveOneRange(one, other);
 
@@ -218,7 +224,8 @@ function raceOf(events, writers, before, i, j) {
  * @returns {[number, number][]} their indices, the smaller one first
  */
 export function slowRaces(events) {
-  const pairs = slowJudge(events).races.map(({ first, second }) => /** @type {const} */ ([first.event, second.event]));
+  /** @type {[number, number][]} */
+  const pairs = slowJudge(events).races.map(({ first, second }) => [first.event, second.event]);
   return pairs.sort(([one, other], [first, second]) => one - first || other - second);
 }
 
@@ -231,5 +238,9 @@ export function racingLines(events) {
   return [...new Set(slowRaces(events).map((pair) => pair.map(lineOf).sort().join(" and ")))].sort();
 }
 
-/** The events of a trace. @param {string} trace lines of JSON @returns {Event[]} */
+/**
+ * The events of a trace.
+ * @param {string} trace lines of JSON
+ * @returns {Event[]}
+ */
 export const eventsOfTrace = (trace) => trace.split("\n").slice(0, -1).map((line) => JSON.parse(line));

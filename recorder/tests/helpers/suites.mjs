@@ -3,13 +3,13 @@
 import { spawn } from "node:child_process";
 import { mkdirSync } from "node:fs";
 import { join } from "node:path";
-import { endOf } from "./common.mjs";
+import { endOf } from "./programs.mjs";
 
 /**
  * Runs a file of tests.
  * @param {string} folder it is in
  * @param {string} file
- * @param {{ env?: object, reporter?: string }} [how]
+ * @param {{ env?: Record<string, string>, reporter?: string }} how
  */
 export async function suiteIn(folder, file, { env = {}, reporter = "spec" } = {}) {
   const temporary = join(folder, "temporary");

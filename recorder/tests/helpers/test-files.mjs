@@ -29,7 +29,10 @@ function secondsKept() {
 /** What counts while this process runs. */
 const LAST = secondsKept();
 
-/** Keeps how many seconds files took. @param {{ name: string, seconds: number }[]} results */
+/**
+ * Keeps how many seconds files took.
+ * @param {{ name: string, seconds: number }[]} results
+ */
 export function keepSeconds(results) {
   const took = Object.fromEntries(results.map(({ name, seconds }) => [name, seconds]));
   try {
@@ -61,7 +64,10 @@ export class Mistaken extends Error {}
 /** The options, by their names, in the form that node takes. */
 const OPTIONS = /** @type {const} */ ({ unit: { type: "boolean" }, "require-all": { type: "boolean" } });
 
-/** What a file took the last time; one that wasn't run yet may take long. @param {string} name */
+/**
+ * What a file took the last time; one that wasn't run yet may take long.
+ * @param {string} name
+ */
 const lastOf = (name) => LAST[name] ?? Number.MAX_VALUE;
 
 /** The names of all files, with their folders. Those that took longest begin first, so that none is left alone. */
@@ -86,6 +92,7 @@ export function askedBy(args) {
   const { tokens } = parseArgs({ args, options: OPTIONS, allowPositionals: true, strict: false, tokens: true });
   const given = new Set();
   let names = namesOfAll();
+  /** @type {string[]} */
   const words = [];
   for (const token of tokens) {
     if (token.kind === "positional") words.push(token.value);

@@ -5,7 +5,7 @@ import assert from "node:assert/strict";
 import { AsyncLocalStorage } from "node:async_hooks";
 import { once } from "node:events";
 import { isDeepStrictEqual } from "node:util";
-import threads from "node:worker_threads";
+import { Worker } from "node:worker_threads";
 import { countAnew, leaveContexts } from "../../lib/program/internals.mjs";
 import { turnLater } from "../../lib/program/real-loop.mjs";
 import { Timers } from "../../lib/program/timers.mjs";
@@ -13,29 +13,39 @@ import { BY_NODE, SCENARIOS, TIMERS } from "./timer-scenarios.mjs";
 
 const own = TIMERS;
 
+/**
+ * Settled when the real loop has turned.
+ * @returns {Promise<void>}
+ */
+const realTurn = () => new Promise((done) => void turnLater(done));
+
 /** A thread's loop: timers that are due, a round of immediates, and then the clock goes on to the next deadline. */
 class Loop {
   now = 0;
+  /** @type {Error[]} */
   thrown = [];
   timers = new Timers({ now: () => this.now });
 
-  /** Microtasks and ticks run behind each callback. */
-  async #drained(act) {
+  /**
+   * Microtasks and ticks run behind each callback.
+   * @param {() => boolean} act
+   * @returns {Promise<boolean>}
+   */
+  #drained(act) {
     let did = true;
-    await new Promise((done) => turnLater(() => {
+    return new Promise((done) => void turnLater(() => {
       try {
         did = act();
       } catch (error) {
         leaveContexts();
-        this.thrown.push(error);
+        this.thrown.push(/** @type {Error} */ (error));
       }
-      turnLater(done);
+      turnLater(() => done(did));
     }));
-    return did;
   }
 
   async run(allOfThem = false) {
-    await new Promise((done) => turnLater(done));
+    await realTurn();
     while (this.timers.alive || (allOfThem && (this.timers.deadline < Infinity || this.timers.immediates > 0))) {
       while (await this.#drained(() => this.timers.runTimer()));
       if (this.timers.immediates > 0) {
@@ -48,23 +58,33 @@ class Loop {
   }
 }
 
-let byNode;
+/** @type {Worker | undefined} a thread that nothing is replaced in */
+let nodeThread;
 
-/** What a scenario logs with node's timers, in a thread that nothing is replaced in. */
+/**
+ * What a scenario logs with node's timers.
+ * @param {string} name
+ * @param {number} time how many milliseconds it gets
+ * @returns {Promise<unknown[]>}
+ */
 async function loggedByNode(name, time) {
-  byNode ??= new threads.Worker(new URL("timer-scenarios.mjs", import.meta.url), { execArgv: [], workerData: BY_NODE });
-  byNode.ref();
-  byNode.postMessage({ name, time });
-  const [logged] = await once(byNode, "message");
-  byNode.unref();
+  nodeThread ??= new Worker(new URL("timer-scenarios.mjs", import.meta.url), { execArgv: [], workerData: BY_NODE });
+  nodeThread.ref();
+  nodeThread.postMessage({ name, time });
+  const [logged] = await once(nodeThread, "message");
+  nodeThread.unref();
   return logged;
 }
 
-/** What it logs with those of a run. */
+/**
+ * What it logs with those of a run.
+ * @param {string} name
+ */
 async function loggedHere(name) {
   const loop = new Loop();
+  /** @type {unknown[]} */
   const logged = [];
-  SCENARIOS[name](TIMERS, (text) => logged.push(text));
+  SCENARIOS[name](TIMERS, (what) => logged.push(what));
   await loop.run(true);
   return logged;
 }
@@ -109,6 +129,7 @@ cases["the loop gets the earliest deadline, and how many immediates are ready"] 
 
 cases["a timer runs when its time is reached and not before, one at a time"] = () => {
   const loop = new Loop();
+  /** @type {string[]} */
   const ran = [];
   own.setTimeout(() => ran.push("a"), 5);
   own.setTimeout(() => ran.push("b"), 5);
@@ -117,7 +138,7 @@ cases["a timer runs when its time is reached and not before, one at a time"] = (
   assert.equal(loop.timers.nextTimer(), undefined);
   assert.equal(loop.timers.runTimer(), false);
   loop.now = 5;
-  assert.equal(loop.timers.nextTimer().text, "a timer of 5 ms");
+  assert.equal(loop.timers.nextTimer()?.text, "a timer of 5 ms");
   assert.equal(loop.timers.runTimer(), true);
   assert.deepEqual(ran, ["a"]);
   assert.equal(loop.timers.runTimer(), true);
@@ -127,20 +148,20 @@ cases["a timer runs when its time is reached and not before, one at a time"] = (
 };
 
 cases["a stuck program names what keeps each thread alive, with its place"] = () => {
-  const timers2 = new Timers({ now: () => 0, here: () => () => "main.mjs:1:2" });
+  const timers = new Timers({ now: () => 0, here: () => () => "main.mjs:1:2" });
   own.setTimeout(() => {}, 7);
   own.setInterval(() => {}, 3);
   own.setTimeout(() => {}, 1).unref();
   own.setImmediate(() => {});
   own.setImmediate(() => {}).unref();
   const where = "main.mjs:1:2";
-  assert.deepEqual(timers2.liveHandles(), [
+  assert.deepEqual(timers.liveHandles(), [
     { text: "an interval of 3 ms", where }, { text: "a timer of 7 ms", where }, { text: "an immediate", where },
   ]);
-  assert.equal(timers2.alive, true);
-  timers2.clear();
-  const { alive, deadline, immediates } = timers2;
-  assert.deepEqual([alive, timers2.liveHandles(), deadline, immediates], [false, [], Infinity, 0]);
+  assert.equal(timers.alive, true);
+  timers.clear();
+  const { alive, deadline, immediates } = timers;
+  assert.deepEqual([alive, timers.liveHandles(), deadline, immediates], [false, [], Infinity, 0]);
 };
 
 cases["nothing keeps a thread alive once its timers have run, were cleared, or are unref'd"] = () => {
@@ -183,6 +204,7 @@ cases["an immediate that an immediate makes belongs to the next round"] = () => 
 
 cases["an error of a callback goes to the loop, and the other callbacks run"] = async () => {
   const loop = new Loop();
+  /** @type {unknown[]} */
   const ran = [];
   const storage = new AsyncLocalStorage();
   storage.run("store", () => own.setTimeout(() => { throw new Error("of a timer"); }, 1));
@@ -225,6 +247,7 @@ cases["a number of an earlier run clears nothing"] = () => {
 
 cases["immediates that are left when one throws don't get into the next run"] = () => {
   const { timers: run } = new Loop();
+  /** @type {string[]} */
   const ran = [];
   own.setImmediate(() => { throw new Error("of an immediate"); });
   own.setImmediate(() => ran.push("earlier"));
@@ -239,7 +262,7 @@ cases["immediates that are left when one throws don't get into the next run"] = 
 cases["what the recorder does later is no immediate or timer of the run"] = async () => {
   const { timers: run } = new Loop();
   const counts = () => [run.immediates, run.alive, run.deadline];
-  const turned = new Promise((done) => turnLater(done));
+  const turned = realTurn();
   assert.deepEqual(counts(), [0, false, Infinity]);
   own.setImmediate(() => {});
   assert.deepEqual(counts(), [1, true, Infinity]);
@@ -251,6 +274,7 @@ cases["what the recorder does later is no immediate or timer of the run"] = asyn
 
 cases["of timers that are due at the same time, the list of the duration asked for first comes first"] = () => {
   const loop = new Loop();
+  /** @type {string[]} */
   const ran = [];
   own.setTimeout(() => ran.push("10 at 0"), 10);
   loop.now = 4;

@@ -7,13 +7,22 @@ import timersPromises from "node:timers/promises";
 import util from "node:util";
 import { isMainThread, parentPort, workerData } from "node:worker_threads";
 
-/** What the scenarios use. */
-export const TIMERS = { ...timers, promises: timersPromises, timeoutSignal: (ms) => AbortSignal.timeout(ms) };
+/** What the scenarios use. They pass wrong arguments, too. */
+export const TIMERS = {
+  ...timers,
+  promises: timersPromises,
+  timeoutSignal: (/** @type {number} */ ms) => AbortSignal.timeout(ms),
+};
 
 /** Given as `workerData`: the thread runs scenarios. */
 export const BY_NODE = "by node";
 
-/** Scenarios in which nothing hangs on how long something takes. */
+/** @typedef {(t: typeof TIMERS, log: (what: unknown) => void) => unknown} Scenario what it logs has to be the same */
+
+/**
+ * Scenarios in which nothing hangs on how long something takes.
+ * @type {Record<string, Scenario>}
+ */
 export const SCENARIOS = {
   "timers come in the order of their deadlines, and those alike in the order of their making": (t, log) => {
     t.setTimeout(log, 20, "20");
@@ -25,9 +34,10 @@ export const SCENARIOS = {
     t.setTimeout(log, undefined, "and undefined");
     t.setTimeout(log, "1", "and a text");
     t.setTimeout(log, 1.9, "1.9");
-    t.setTimeout((...all) => log(all.join()), 12, 1, 2, 3, 4, 5);
-    t.setTimeout((...all) => log(`${all.length} given`), 14);
-    t.setTimeout((...all) => log(`${all.length} given`), 15, undefined);
+    t.setTimeout((/** @type {unknown[]} */ ...all) => log(all.join()), 12, 1, 2, 3, 4, 5);
+    const count = (/** @type {unknown[]} */ ...all) => log(`${all.length} given`);
+    t.setTimeout(count, 14);
+    t.setTimeout(count, 15, undefined);
   },
   "ticks and microtasks come between two callbacks": (t, log) => {
     for (const name of ["a", "b"]) {
@@ -53,32 +63,31 @@ export const SCENARIOS = {
     });
   },
   "an immediate clears one of its round, and a later one": (t, log) => {
-    let [second, later] = [];
     t.setImmediate(() => {
       log("first");
       t.clearImmediate(second);
       t.clearImmediate(later);
       t.clearImmediate(later);
     });
-    second = t.setImmediate(log, "second");
-    later = t.setImmediate(log, "later");
+    const second = t.setImmediate(log, "second");
+    const later = t.setImmediate(log, "later");
     t.setImmediate(log, "last");
     t.clearImmediate(undefined);
   },
   "a callback has its timer as this": (t, log) => {
-    const timer = t.setTimeout(function () { log(this === timer); }, 1);
+    const timer = t.setTimeout(/** @this {unknown} */ function () { log(this === timer); }, 1);
   },
   "a callback has its immediate as this": (t, log) => {
-    const immediate = t.setImmediate(function () { log(this === immediate); });
+    const immediate = t.setImmediate(/** @this {unknown} */ function () { log(this === immediate); });
   },
   "an interval goes on until it is cleared, also by itself": (t, log) => {
     let times = 0;
-    const interval = t.setInterval((word) => {
+    const interval = t.setInterval((/** @type {string} */ word) => {
       times += 1;
       log(`${word} ${times}`);
       if (times === 3) t.clearInterval(interval);
     }, 4, "again");
-    const once = t.setInterval(function () {
+    const once = t.setInterval(/** @this {any} */ function () {
       log("once");
       t.clearTimeout(this);
       log(this.hasRef());
@@ -86,7 +95,9 @@ export const SCENARIOS = {
     log(typeof once.refresh);
   },
   "timers are cleared by object, number and text": (t, log) => {
-    for (const form of [(x) => x, (x) => +x, (x) => `${x}`]) t.clearTimeout(form(t.setTimeout(log, 1, "never")));
+    /** @type {((timer: any) => unknown)[]} */
+    const forms = [(x) => x, (x) => +x, (x) => `${x}`];
+    for (const form of forms) t.clearTimeout(form(t.setTimeout(log, 1, "never")));
     t.clearInterval(+t.setInterval(log, 1, "never"));
     t.clearTimeout("no number");
     t.clearTimeout(null);
@@ -199,7 +210,8 @@ export const SCENARIOS = {
     })();
   },
   "timers/promises: signals": (t, log) => {
-    const shown = (error) => log([error.name, error.code, error.message, String(error.cause)].join());
+    const shown = (/** @type {Error} */ { name, code, message, cause }) =>
+      log([name, code, message, String(cause)].join());
     const controller = new AbortController();
     const { signal } = controller;
     t.promises.setTimeout(500, 1, { signal }).catch(shown);
@@ -222,12 +234,13 @@ export const SCENARIOS = {
     t.setTimeout(log, 12, "end");
   },
   "wrong arguments are refused as by node": async (t, log) => {
+    /** @type {Error[]} */
     const errors = [];
-    const note = (act) => {
+    const note = (/** @type {() => unknown} */ act) => {
       try {
         return act();
       } catch (error) {
-        return errors.push(error);
+        return errors.push(/** @type {Error} */ (error));
       }
     };
     for (const wrong of [undefined, null, "x", {}]) {
@@ -241,7 +254,8 @@ export const SCENARIOS = {
       t.promises.setImmediate(1, "x"), t.promises.setImmediate(1, { signal: null }),
       t.promises.setInterval("x").next(), t.promises.setInterval(1, 1, { ref: 0 }).next(),
     ];
-    for (const each of await Promise.allSettled(rejected)) errors.push(each.reason);
+    const settled = await Promise.allSettled(rejected);
+    errors.push(...settled.map((each) => /** @type {PromiseRejectedResult} */ (each).reason));
     for (const error of errors) log(`${error.name} ${error.code} ${error.message}`);
   },
   "AsyncLocalStorage holds": (t, log) => {
@@ -273,9 +287,10 @@ export const SCENARIOS = {
 };
 
 if (!isMainThread && workerData === BY_NODE) {
-  parentPort.on("message", async ({ name, time }) => {
+  parentPort?.on("message", async ({ name, time }) => {
+    /** @type {unknown[]} */
     const logged = [];
-    await SCENARIOS[name](TIMERS, (text) => logged.push(text));
-    timers.setTimeout(() => parentPort.postMessage(logged), time);
+    await SCENARIOS[name](TIMERS, (what) => logged.push(what));
+    timers.setTimeout(() => parentPort?.postMessage(logged), time);
   });
 }

@@ -7,10 +7,17 @@ const MOST_LISTED = 100;
 const NO_RACE = 0;
 const RACES = 5;
 
-/** The status that the program ends with. @param {Judged} judged */
+/**
+ * The status that the program ends with.
+ * @param {Judged} judged
+ */
 export const statusOf = ({ races }) => (races.length === 0 ? NO_RACE : RACES);
 
-/** With `--format json`. @param {Judged} judged @returns {string} */
+/**
+ * With `--format json`.
+ * @param {Judged} judged
+ * @returns {string}
+ */
 export function jsonText({ accesses, agents, races }) {
   const listed = races.slice(0, MOST_LISTED);
   const data_races = dataRacesIn(races);
@@ -19,7 +26,11 @@ export function jsonText({ accesses, agents, races }) {
   return [...listed, last].map((each) => `${JSON.stringify(each)}\n`).join("");
 }
 
-/** In plain words. @param {Judged} judged @returns {string} */
+/**
+ * In plain words.
+ * @param {Judged} judged
+ * @returns {string}
+ */
 export function plainText({ accesses, agents, races }) {
   if (races.length === 0) return `no data race: ${accessesOf(accesses)} by ${agentsOf(agents)}\n`;
   const lines = races.slice(0, MOST_LISTED).map(raceLine);

@@ -9,8 +9,10 @@ import { Worker } from "node:worker_threads";
  * @param {string} name of a module in `agents`
  */
 export async function testWatched(name) {
+  /** @param {string} file */
   const path = (file) => new URL(`../agents/${file}.mjs`, import.meta.url);
   const worker = new Worker(path("watched-worker"), { workerData: { module: path(name).href } });
+  /** @type {{ name: string, problem?: string }[]} */
   const results = await new Promise((done, failed) => {
     worker.on("message", done);
     worker.on("error", failed);

@@ -43,7 +43,7 @@ export async function linesInBrowser(browser, path) {
   const server = createServer((request, response) => void serve(request, response));
   await new Promise((done) => { server.listen(0, "127.0.0.1", () => done(undefined)); });
   try {
-    const { port } = /** @type {any} */ (server.address());
+    const { port } = /** @type {{ port: number }} */ (server.address());
     const page = await browser.open(`http://127.0.0.1:${port}/page?/${path}`);
     for (let turn = 0; turn < TURNS; turn += 1) {
       const lines = await page.value("globalThis.lines ?? []");

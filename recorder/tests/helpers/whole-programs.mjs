@@ -8,20 +8,18 @@ import { dirname, join } from "node:path";
 import { after } from "node:test";
 import { pathToFileURL } from "node:url";
 import { checkedBy } from "../../lib/check/check.mjs";
-import { defaultsOf } from "../../lib/options/table.mjs";
-import { ProgramGroup } from "../../lib/program/program-group.mjs";
 import { keepsGlobals } from "../../lib/seeds/first-again.mjs";
 import { simulatorAt } from "../../lib/simulator/chosen.mjs";
 import { temporaryFolder } from "./common.mjs";
+import { programGroup } from "./groups.mjs";
 import { CHECKER } from "./needs.mjs";
 
+/** @typedef {import("../../lib/program/program-group.mjs").ProgramGroup} ProgramGroup */
+/** @typedef {import("../../lib/run/group.mjs").GroupOptions} GroupOptions */
 /** @typedef {import("../../lib/run/outcome.mjs").Outcome & import("../../lib/check/check.mjs").Check} Checked */
 
 /** @param {Checked[]} outcomes @returns {string[]} how they end, each way once */
 export const endingsOf = (outcomes) => [...new Set(outcomes.map(({ ending, detail }) => `${ending}: ${detail}`))];
-
-/** What is left of the recorder's own defaults. */
-const OPTIONS = Object.freeze({ ...defaultsOf("record"), program: true, seconds: 20 });
 
 /**
  * How main begins that shares `words` with a worker, which `started` starts.
@@ -68,7 +66,7 @@ class Threads {
   /** @type {Promise<unknown>} settled when no program is being run */
   #rest = Promise.resolve();
 
-  /** @param {object} options */
+  /** @param {Partial<GroupOptions>} options */
   constructor(options) {
     this.options = options;
   }
@@ -93,8 +91,7 @@ class Threads {
   async #made(files, { seeds, args }) {
     rmSync(this.#folder, { recursive: true });
     const module = pathToFileURL(programIn(this.#folder, files)).href;
-    const options = /** @type {any} */ ({ ...OPTIONS, module, args: [], ...this.options });
-    this.#group ??= /** @type {ProgramGroup} */ (await ProgramGroup.open(options));
+    this.#group ??= await programGroup({ module, ...this.options });
     this.#group.enter(module, args);
     /** @type {Checked[]} */
     const outcomes = [];
@@ -116,7 +113,7 @@ after(() => Promise.all([...all.values()].map((threads) => threads.end())));
  * Runs a program.
  * @param {import("node:test").TestContext} _context
  * @param {Record<string, string>} files as `programIn` takes them
- * @param {{ seeds?: number[], args?: string[], options?: object }} [how]
+ * @param {{ seeds?: number[], args?: string[], options?: Partial<GroupOptions> }} how
  * @returns {Promise<Checked[]>} in the order of the seeds; fails where the simulator says something else
  */
 export function runsOf(_context, files, { seeds = [1], args = [], options = {} } = {}) {
@@ -126,7 +123,10 @@ export function runsOf(_context, files, { seeds = [1], args = [], options = {} }
   return threads.runs(files, { seeds, args });
 }
 
-/** Runs a program that finishes with each seed. @type {typeof runsOf} */
+/**
+ * Runs a program that finishes with each seed.
+ * @type {typeof runsOf}
+ */
 export async function finishing(context, files, how) {
   const outcomes = await runsOf(context, files, how);
   assert.deepEqual(endingsOf(outcomes), ["finished: "]);

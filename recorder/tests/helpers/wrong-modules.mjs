@@ -4,9 +4,13 @@ import { readFileSync } from "node:fs";
 
 const SIMULATOR = new URL("../../wasm/sabsim.wasm", import.meta.url);
 
+/** @param {string} text */
 const bytesOf = (text) => new TextEncoder().encode(text);
 
-/** A module with one function. @param {number[]} code of the function, with how long it is */
+/**
+ * A module with one function.
+ * @param {...number} code of the function, with how long it is
+ */
 export const moduleOfOne = (...code) => Uint8Array.from([
   ...[0, 0x61, 0x73, 0x6d, 1, 0, 0, 0],
   // A type with five numbers of 32 bits and five of 64, a function of it, a memory of a page.

@@ -9,8 +9,7 @@ import { record } from "../../recorder.mjs";
 import { Editing } from "../../schedule/editing.mjs";
 import { earlier, later } from "../../schedule/edits.mjs";
 import { whyNotOnCode } from "../../schedule/on-code.mjs";
-import { agentsOf, temporaryFolder } from "../helpers/common.mjs";
-import { runNode } from "../helpers/programs.mjs";
+import { agentsIn, commandThere, temporaryFolder } from "../helpers/common.mjs";
 import { simulate } from "../helpers/simulate.mjs";
 
 // Agent 1 stores a word for agent 0. If the last argument says so, what agent 0 does depends on it.
@@ -25,7 +24,7 @@ else Atomics.store(words, 1, 5);`;
  */
 async function movedOnCode(context, args) {
   const folder = temporaryFolder(context);
-  const module = agentsOf(folder, BODY);
+  const module = agentsIn(folder, BODY);
   const { script } = await record({ module, args, agents: 2, buffers: [12], sabsim: false, seed: 1 });
   const moved = new Editing(script, simulate);
   let at = moved.now.turns.findIndex(({ agent }) => agent === 1);
@@ -34,21 +33,21 @@ async function movedOnCode(context, args) {
   assert.equal(whyNotOnCode(moved), undefined);
   const file = join(folder, "seed-1.changed.json");
   writeFileSync(file, moved.text);
-  return { moved, ended: await runNode("recorder/record.mjs", [module, "--replay", file, "--", ...args]) };
+  return { moved, ended: await commandThere([module, "--replay", file, "--", ...args]) };
 }
 
 test("code that makes the same calls makes them in the changed order", async (context) => {
-  const { moved, ended: { status, output, errors } } = await movedOnCode(context, ["stores"]);
+  const { moved, ended: { status, stdout, stderr } } = await movedOnCode(context, ["stores"]);
   assert.ok(moved.isChanged);
-  assert.deepEqual([status, errors], [0, ""]);
-  assert.match(output, /1 run made 2 calls|finished/);
+  assert.deepEqual([status, stderr], [0, ""]);
+  assert.match(stdout, /1 run made 2 calls|finished/);
 });
 
 test("code that takes another path is reported with the place", async (context) => {
-  const { moved, ended: { status, errors } } = await movedOnCode(context, ["reads"]);
+  const { moved, ended: { status, stderr } } = await movedOnCode(context, ["reads"]);
   assert.ok(moved.differences.answers.length > 0);
   assert.equal(status, 3);
-  assert.match(errors, /no longer does the same: agent 0's call 1 was \["store", .*\] in the script, and is now/);
+  assert.match(stderr, /no longer does the same: agent 0's call 1 was \["store", .*\] in the script, and is now/);
 });
 
 test("the command has the options that the run depends on, as a shell takes them", () => {

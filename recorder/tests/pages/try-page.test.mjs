@@ -6,9 +6,9 @@ import { join } from "node:path";
 import { test } from "node:test";
 import { gunzipSync } from "node:zlib";
 import { builtSimulator } from "../../lib/keeping/document.mjs";
-import { nodeNow, temporaryFolder } from "../helpers/common.mjs";
+import { nodeNow, nodeThere, temporaryFolder } from "../helpers/common.mjs";
 import { needing } from "../helpers/needs.mjs";
-import { pathOf, runNode } from "../helpers/programs.mjs";
+import { pathOf } from "../helpers/programs.mjs";
 
 const whereBuilt = needing("module of the simulator", builtSimulator() !== undefined);
 
@@ -27,8 +27,8 @@ function partsOf(path) {
 
 test("docs/try.html is what tools/try-page.mjs makes", whereBuilt, async (context) => {
   const file = join(temporaryFolder(context), "try.html");
-  const { status, errors } = await runNode("tools/try-page.mjs", [file]);
-  assert.deepEqual([status, errors], [0, ""]);
+  const { status, stderr } = await nodeThere([pathOf("tools/try-page.mjs"), file]);
+  assert.deepEqual([status, stderr], [0, ""]);
   const [made, kept] = [file, pathOf("docs/try.html")].map(partsOf);
   const isSame = made.page === kept.page && made.module === kept.module;
   assert.ok(isSame, "docs/try.html is of another module or of other code: run node tools/try-page.mjs");

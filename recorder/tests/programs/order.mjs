@@ -4,6 +4,7 @@
 import { spawn } from "node:child_process";
 import { readdirSync } from "node:fs";
 import { fileURLToPath } from "node:url";
+import { endOf } from "../helpers/programs.mjs";
 
 const FOLDER = new URL("./order/", import.meta.url);
 const SECONDS = 120;
@@ -20,9 +21,7 @@ const WARNING = /^(?:\((?:node:\d+|Use `node --trace-warnings)|Timeout duration 
 const RECORDING = fileURLToPath(new URL("../helpers/order-process.mjs", import.meta.url));
 
 /** @param {string} name of a program @returns {string} the path of its file */
-export function pathOf(name) {
-  return fileURLToPath(new URL(name, FOLDER));
-}
+export const orderPath = (name) => fileURLToPath(new URL(name, FOLDER));
 
 /**
  * Runs a program in node itself.
@@ -67,16 +66,11 @@ export function runInNode(path, { args = [], whenPrinted = () => {} } = {}) {
 export async function runsInRecorder(names, seeds, { folder = FOLDER, options = {} } = {}) {
   const urls = names.map((name) => new URL(name, folder).href);
   const words = [RECORDING, String(seeds), JSON.stringify(options), ...urls];
-  const child = spawn(process.execPath, words, { stdio: ["ignore", "pipe", "pipe"] });
-  const texts = { stdout: "", stderr: "" };
-  for (const name of /** @type {const} */ (["stdout", "stderr"])) {
-    child[name].setEncoding("utf8").on("data", (text) => { texts[name] += text; });
-  }
-  await new Promise((done) => child.on("close", done));
+  const { stdout, stderr } = await endOf(spawn(process.execPath, words, { stdio: ["ignore", "pipe", "pipe"] }));
   // What the program prints goes to standard error, and between two runs there is a line with NUL.
-  const printed = texts.stderr.split("\0\n");
-  const endings = texts.stdout.split("\n").slice(0, -1);
-  if (endings.length !== names.length * seeds) throw new Error(`the recorder has ended: ${texts.stderr}`);
+  const printed = stderr.split("\0\n");
+  const endings = stdout.split("\n").slice(0, -1);
+  if (endings.length !== names.length * seeds) throw new Error(`the recorder has ended: ${stderr}`);
   const linesOf = (/** @type {string} */ text) =>
     text.split("\n").slice(0, -1).map((line) => line.replace(THREAD, "")).filter((line) => !WARNING.test(line));
   const runs = endings.map((line, at) => ({ ...JSON.parse(line), lines: linesOf(printed[at]) }));

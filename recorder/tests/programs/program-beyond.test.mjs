@@ -36,7 +36,7 @@ for (let at = 0; at < ${count}; at += 1) port1.postMessage(at);`;
     assert.equal(crowded.ending, "finished");
     assert.equal(crowded.noScript, MISSED);
     assert.equal(crowded.trace?.split("\n")[0], JSON.stringify({ unseen: MISSED }));
-    const { stdout } = await recorded(programOf(context, { "main.mjs": sends(16_385) }), "1..1", "--check", "0");
+    const { stdout } = await command(programOf(context, { "main.mjs": sends(16_385) }), "1..1", "--check", "0");
     assert.ok(stdout.split("\n").includes(`1 run has no script: ${MISSED}`), stdout);
   });
 });
@@ -96,7 +96,7 @@ describe("more than 1,000 calls of a thread", { concurrency: 3 }, () => {
   });
 
   it("are counted in the summary", async (context) => {
-    const { stdout } = await recorded(programOf(context, filesOf(ADDS, LOOKS)), "1..3");
+    const { stdout } = await command(programOf(context, filesOf(ADDS, LOOKS)), "1..3");
     assert.ok(stdout.split("\n").includes(`3 runs have no script, and weren't replayed: ${BEYOND}`), stdout);
     assert.doesNotMatch(stdout, /no run was checked/);
   });
@@ -196,7 +196,7 @@ if (Math.random() < 0.5) {
   it("are counted in the summary, and a failing run is kept and made again by its row", async (context) => {
     const main = programOf(context, sharing(`${WAKES}\n${WRITES}\n${FILLS}`, FINDS));
     const folder = join(dirname(main), "kept");
-    const { status, stdout } = await recorded(main, "1..8", "--out", folder, "--no-shorten");
+    const { status, stdout } = await command(main, "1..8", "--out", folder, "--no-shorten");
     const lines = stdout.split("\n");
     assert.equal(status, 1);
     assert.ok(lines.includes(`8 runs have no script, and weren't replayed: ${MEMORY}`), stdout);
@@ -214,5 +214,5 @@ if (Math.random() < 0.5) {
 });
 
 /** @param {string} main @param {string} seeds @param {string[]} more */
-const recorded = (main, seeds, ...more) =>
+const command = (main, seeds, ...more) =>
   commandThere(["--program", main, "--seeds", seeds, ...more]);

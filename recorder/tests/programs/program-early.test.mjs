@@ -7,9 +7,8 @@ import { Board } from "../../lib/board/board.mjs";
 import { waysOf } from "../../lib/board/strategy/ways.mjs";
 import { LOOP, PHASE } from "../../lib/memory/layout.mjs";
 import { emptyMemory } from "../helpers/boards.mjs";
+import { seedsTo } from "../helpers/recorded.mjs";
 import { endingsOf, finishing, runsOf } from "../helpers/whole-programs.mjs";
-
-const seedsTo = (last) => Array.from({ length: last }, (_, at) => at + 1);
 
 /** A program's board: agent 0 waits for a time, agent 1 asks for a call, agent 2 sleeps. */
 function boardOf({ early = 100, milliseconds = 50, memory = emptyMemory() } = {}) {

@@ -6,9 +6,9 @@ import { execFile } from "node:child_process";
 import { describe, it } from "node:test";
 import { fileURLToPath, pathToFileURL } from "node:url";
 import { promisify } from "node:util";
-import { defaultsOf } from "../../lib/options/table.mjs";
 import { GRAPH_FLAGS } from "../../lib/program/graph-flags.cjs";
-import { MOST_GROUP_RUNS, ProgramGroup } from "../../lib/program/program-group.mjs";
+import { MOST_GROUP_RUNS } from "../../lib/program/program-group.mjs";
+import { programGroup } from "../helpers/groups.mjs";
 import { programOf, runsOf } from "../helpers/whole-programs.mjs";
 
 const execute = promisify(execFile);
@@ -87,10 +87,8 @@ describe("threads that are kept", () => {
         const rounds = globalThis.runs === 1 ? 9 : globalThis.runs % 7;
         for (let left = rounds; left > 0; left -= 1) await new Promise((done) => setImmediate(done));`,
     });
-    const module = pathToFileURL(main).href;
     // Pilots would be runs of these threads, too.
-    const options = { ...defaultsOf("record"), program: true, seconds: 20, args: [], module, everywhere: true };
-    const group = await ProgramGroup.open(options);
+    const group = await programGroup({ module: pathToFileURL(main).href, everywhere: true });
     context.after(() => group.close());
     const moves = [];
     const seeds = Array.from({ length: MOST_GROUP_RUNS + 1 }, (_, at) => ({

@@ -11,13 +11,11 @@ import { RunStore } from "../../lib/keeping/run-store.mjs";
 import { keepProgram, keptProgram } from "../../lib/keeping/kept-program.mjs";
 import { runKindOf } from "../../lib/options/run-kinds.mjs";
 import { Refused } from "../../lib/options/refused.mjs";
-import { defaultsOf } from "../../lib/options/table.mjs";
-import { ProgramGroup } from "../../lib/program/program-group.mjs";
 import { shorten } from "../../lib/shorter/shorten.mjs";
 import { explore } from "../../recorder.mjs";
 import { commandHere } from "../helpers/command-here.mjs";
 import { commandNow, temporaryFolder } from "../helpers/common.mjs";
-import { firstFailing } from "../helpers/groups.mjs";
+import { firstFailing, programGroup } from "../helpers/groups.mjs";
 import { WORKER, mainWith, programIn, programOf } from "../helpers/whole-programs.mjs";
 
 // Main looks at the word when the first message has come. The worker may have stored it or not.
@@ -30,13 +28,6 @@ const SETS = `${WORKER}await new Promise((done) => setTimeout(done, 5));
 parentPort.postMessage("ready");
 Atomics.store(words, 0, 7);
 `;
-
-/**
- * Runs the command line in a process of its own. With --replay it makes its run there, so `commandHere` does the same.
- * @param {string[]} words of the command line
- * @param {object} [options]
- */
-const recorded = commandNow;
 
 /**
  * A program of which a failing run is kept.
@@ -69,7 +60,7 @@ test("a kept run of a program is made again from its file alone: the same script
   assert.deepEqual([program, args, options], [main, ["mine"], { timeouts: 0.2 }]);
   assert.deepEqual([script, row.length > 0], [join(folder, `${name}.json`), true]);
   // In another folder than that of the runs.
-  const { status, stdout, stderr } = recorded(["--replay", join("found", `${name}.program.json`), "--out", "again"],
+  const { status, stdout, stderr } = commandNow(["--replay", join("found", `${name}.program.json`), "--out", "again"],
     { cwd: dirname(main) });
   assert.deepEqual([status, stderr], [1, ""], stderr);
   const [title, failed, , detail] = stdout.split("\n");
@@ -202,11 +193,11 @@ test("a file that is no kept run of a program is refused, and so is a program th
   const { script } = keptProgram(JSON.stringify({ ...right, script: { file: "seed-1.json", row: "another" } }), file);
   assert.equal(script, undefined);
   writeFileSync(file, JSON.stringify(right));
-  assert.deepEqual(recorded(["--replay", file]), {
+  assert.deepEqual(commandNow(["--replay", file]), {
     status: 2, stdout: "",
     stderr: `record: there is no file ${join(folder, "main.mjs")}: --program says where the program is\n`,
   });
-  const { status, stderr } = recorded(["--replay", join(folder, "seed-1.json")]);
+  const { status, stderr } = commandNow(["--replay", join(folder, "seed-1.json")]);
   assert.deepEqual([status, stderr], [2, "record: the agents' module is missing; --help shows more\n"]);
 });
 
@@ -228,9 +219,7 @@ test("a run in fresh threads is shortened by runs in fresh threads", async (cont
       if (globalThis.times === 1 && Atomics.load(words, 0) > 3) throw new Error("too soon");`,
     "worker.mjs": `${WORKER}for (let time = 0; time < 3; time += 1) Atomics.add(words, 0, 1);`,
   });
-  const options = { ...defaultsOf("record"), program: true, seconds: 20, args: [],
-    module: pathToFileURL(program).href };
-  const group = await ProgramGroup.open(/** @type {any} */ ({ ...options, fresh: true }));
+  const group = await programGroup({ module: pathToFileURL(program).href, fresh: true });
   context.after(() => group.close());
   const { shortened } = await shorten(group, await firstFailing(group), { milliseconds: 60_000, most: 5 });
   assert.doesNotMatch(shortened.unchanged ?? "", /couldn't be made again/);
@@ -249,7 +238,7 @@ test("a run in fresh threads is shown with its lines, kept and replayed in fresh
   assert.deepEqual(JSON.parse(readFileSync(file, "utf8")).options, { fresh: true });
   assert.match(readFileSync(join(folder, `${name}.words`), "utf8"),
     /wait\(Int32_b0, 1, 0\) waits .*, at main\.mjs:7:\d+$/m);
-  const { status, stdout, stderr } = recorded(["--replay", file]);
+  const { status, stdout, stderr } = commandNow(["--replay", file]);
   assert.deepEqual([status, stderr], [1, ""]);
   assert.match(stdout, /^1 of 1 run failed: 1 deadlock$/m);
 });

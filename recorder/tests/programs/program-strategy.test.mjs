@@ -14,6 +14,7 @@ import { FLAG } from "../../lib/memory/log.mjs";
 import { byteOf } from "../../lib/memory/recorded-memory.mjs";
 import { Moves, TO_CHANNELS, toPort } from "../../lib/program/moves.mjs";
 import { emptyMemory } from "../helpers/boards.mjs";
+import { seedsTo } from "../helpers/recorded.mjs";
 import { runsOf } from "../helpers/whole-programs.mjs";
 
 const { WAITERS } = FLAG;
@@ -212,7 +213,7 @@ describe("findings", () => {
     const names = ["late-answer.mjs", "calls.mjs", "slow-worker.mjs"];
     const files = Object.fromEntries(names.map((name) => [name, fileOf(`calls/${name}`)]));
     const main = 'import "./late-answer.mjs";';
-    const seeds = Array.from({ length: 120 }, (_, at) => at + 1);
+    const seeds = seedsTo(120);
     const failing = (await runsOf(context, { "main.mjs": main, ...files }, { seeds })).filter(({ fails }) => fails);
     assert.ok(failing.length >= 1, "no seed fails");
     for (const { detail, onlyIf } of failing) {
@@ -222,7 +223,7 @@ describe("findings", () => {
   });
 
   it("code that tries again when its time is up ends", async (context) => {
-    const seeds = Array.from({ length: 12 }, (_, at) => at + 1);
+    const seeds = seedsTo(12);
     const main = fileOf("deadline/race-of-promises.mjs");
     const outcomes = await runsOf(context, { "main.mjs": main }, { seeds });
     assert.deepEqual([...new Set(outcomes.map(({ ending, detail }) => ending + detail))], ["finished"]);
@@ -231,7 +232,7 @@ describe("findings", () => {
   it("an await between look and take is found within ten seeds", async (context) => {
     const names = ["await-between.mjs", "pool.mjs", "worker.mjs"];
     const files = Object.fromEntries(names.map((name) => [name, fileOf(`pool/${name}`)]));
-    const seeds = Array.from({ length: 10 }, (_, at) => at + 1);
+    const seeds = seedsTo(10);
     const outcomes = await runsOf(context, { "main.mjs": 'import "./await-between.mjs";', ...files }, { seeds });
     assert.ok(outcomes.some(({ ending, detail }) => ending === "failed" && /resolve/.test(detail)));
   });

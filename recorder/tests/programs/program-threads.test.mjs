@@ -6,10 +6,11 @@ import { readFileSync } from "node:fs";
 import { join } from "node:path";
 import { after, before, describe, it } from "node:test";
 import { pathToFileURL } from "node:url";
-import { defaultsOf } from "../../lib/options/table.mjs";
-import { ProgramGroup } from "../../lib/program/program-group.mjs";
 import { temporaryFolder } from "../helpers/common.mjs";
+import { programGroup } from "../helpers/groups.mjs";
 import { WORKER, mainWith, programOf } from "../helpers/whole-programs.mjs";
+
+/** @typedef {import("../../lib/program/program-group.mjs").ProgramGroup} ProgramGroup */
 
 const MAIN = mainWith(4);
 const EXITS = { "main.mjs": `${MAIN}started();`, "worker.mjs": "process.exit(3);" };
@@ -21,10 +22,9 @@ const ANSWERS = `${WORKER}parentPort.on("message", (value) => parentPort.postMes
  * @param {{ seconds?: number, web?: boolean }} [options]
  * @returns {Promise<ProgramGroup>}
  */
-async function opened(module, { seconds = 20, web = false } = {}) {
+function opened(module, { seconds = 20, web = false } = {}) {
   // Pilots would be further runs.
-  const options = { ...defaultsOf("record"), program: true, everywhere: true, seconds, args: [], web, module };
-  return /** @type {ProgramGroup} */ (await ProgramGroup.open(options));
+  return programGroup({ everywhere: true, seconds, web, module });
 }
 
 /**

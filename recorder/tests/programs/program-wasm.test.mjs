@@ -8,6 +8,7 @@ import { describe, it } from "node:test";
 import { fileURLToPath, pathToFileURL } from "node:url";
 import { hasSharedMemory, translated } from "../../lib/program/wasm/translate.mjs";
 import { commandNow, temporaryFolder } from "../helpers/common.mjs";
+import { seedsTo } from "../helpers/recorded.mjs";
 import { endingsOf, finishing, racing, runsOf } from "../helpers/whole-programs.mjs";
 import { ATOMIC, code, moduleOf } from "../programs/wasm/assembled.mjs";
 import { locks } from "../programs/wasm/locks.mjs";
@@ -371,7 +372,7 @@ describe("findings", () => {
   });
 
   it("aren't races if accesses are relaxed, but what is lost is found", async (context) => {
-    const seeds = Array.from({ length: 30 }, (_, at) => at + 1);
+    const seeds = seedsTo(30);
     const outcomes = await runsOf(context, COUNTING, { seeds, options: { wasmAccesses: "relaxed" } });
     assert.deepEqual(outcomes.flatMap(({ races }) => races), []);
     assert.deepEqual([...new Set(outcomes.map(({ ending }) => ending))].sort(), ["failed", "finished"]);

@@ -7,14 +7,13 @@ import { dirname, join } from "node:path";
 import { after, before, describe, it, test } from "node:test";
 import { pathToFileURL } from "node:url";
 import { checkedBy } from "../../lib/check/check.mjs";
-import { defaultsOf } from "../../lib/options/table.mjs";
 import { GRAPH_FLAGS } from "../../lib/program/graph-flags.cjs";
-import { ProgramGroup } from "../../lib/program/program-group.mjs";
 import { simulatorAt } from "../../lib/simulator/chosen.mjs";
 import { record } from "../../recorder.mjs";
 import { assertProgram } from "../../testing.mjs";
 import { Browser, withBrowser } from "../helpers/browser.mjs";
 import { commandNow, jsonOf, nodeNow, temporaryFolder } from "../helpers/common.mjs";
+import { programGroup } from "../helpers/groups.mjs";
 import { CHECKER } from "../helpers/needs.mjs";
 import { TableRuns } from "../helpers/program-findings.mjs";
 import { linesInBrowser } from "../helpers/web-page.mjs";
@@ -32,12 +31,10 @@ const linesOf = (name) => readFileSync(new URL(name.replace(/mjs$/, "lines"), FO
 
 /** Little programs are written to this folder, one after the other, and run in the same threads. */
 const room = temporaryFolder();
-/** @type {ProgramGroup} */
+/** @type {Awaited<ReturnType<typeof programGroup>>} */
 let group;
 before(async () => {
-  const module = pathToFileURL(join(room, "main.mjs")).href;
-  const options = { ...defaultsOf("record"), program: true, web: true, seconds: 20, args: [], module };
-  group = /** @type {ProgramGroup} */ (await ProgramGroup.open(options));
+  group = await programGroup({ web: true, module: pathToFileURL(join(room, "main.mjs")).href });
 });
 after(() => group.close());
 
@@ -332,8 +329,7 @@ test("a thread's first run that fetches goes the same way again: node makes no t
     const words = new Int32Array(new SharedArrayBuffer(4));
     new Worker("w.js").postMessage(words);
     for (let at = 0; at < 50; at += 1) Atomics.add(words, 0, 1);`, "w.js": "onmessage = () => {};" });
-  const options = { ...defaultsOf("record"), program: true, web: true, args: [], module: pathToFileURL(main).href };
-  const own = /** @type {ProgramGroup} */ (await ProgramGroup.open(options));
+  const own = await programGroup({ web: true, module: pathToFileURL(main).href });
   try {
     const wanted = { seed: 1, whole: true, needsTrace: true, isSilent: true };
     await own.run([wanted], ({ detail, noTrace }) => { assert.deepEqual([detail, noTrace], ["", undefined]); });

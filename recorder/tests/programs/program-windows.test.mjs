@@ -9,6 +9,7 @@ import { keptProgram } from "../../lib/keeping/kept-program.mjs";
 import { windowNames } from "../../lib/run/window-names.mjs";
 import { TouchedPages, Windows } from "../../lib/run/windows.mjs";
 import { commandThere, refusedInALine, temporaryFolder } from "../helpers/common.mjs";
+import { seedsTo } from "../helpers/recorded.mjs";
 import { slowRaces } from "../helpers/slow-judge.mjs";
 import { programIn, runsOf } from "../helpers/whole-programs.mjs";
 
@@ -252,7 +253,7 @@ const { all, mine } = workerData;
 Atomics.add(all[0], 0, 1);
 Atomics.notify(all[0], 0);
 Atomics.wait(all[mine], 0, 0);`,
-    }, { seeds: Array.from({ length: 12 }, (_, at) => at + 1) });
+    }, { seeds: seedsTo(12) });
     const both = outcomes.filter(({ answers = [] }) => answers[1].includes("ok") && answers[2].includes("ok"));
     assert.ok(both.length > 0);
     for (const outcome of outcomes) readOf(outcome);

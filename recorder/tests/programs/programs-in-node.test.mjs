@@ -5,7 +5,7 @@ import assert from "node:assert/strict";
 import { readFileSync, readdirSync } from "node:fs";
 import { before, describe, it, test } from "node:test";
 import { fileURLToPath } from "node:url";
-import { ORDER, pathOf, runInNode, runsInRecorder } from "../programs/order.mjs";
+import { ORDER, orderPath, runInNode, runsInRecorder } from "../programs/order.mjs";
 import { PROGRAMS, placesOf, urlOf } from "../programs/table.mjs";
 import { withSignals } from "../helpers/needs.mjs";
 
@@ -95,7 +95,8 @@ describe("programs on the order of events print the same in node and each run", 
 
   for (const name of ORDER) {
     it(name, async () => {
-      const [one, other, inRecorder] = await Promise.all([runInNode(pathOf(name)), runInNode(pathOf(name)), recorded]);
+      const path = orderPath(name);
+      const [one, other, inRecorder] = await Promise.all([runInNode(path), runInNode(path), recorded]);
       assert.ok(one.lines.length > 0 && one.status !== null && !one.lines.some((line) => /\bnever\b/.test(line)), name);
       assert.deepEqual([other.lines, other.status], [one.lines, one.status]);
       const runs = inRecorder.get(name) ?? [];

@@ -7,7 +7,7 @@ import { join } from "node:path";
 import { test } from "node:test";
 import { fileURLToPath } from "node:url";
 import { MACHINE } from "../../lib/processes/platform.cjs";
-import { RECORD, agentsOf, agentsPath, temporaryFolder } from "../helpers/common.mjs";
+import { RECORD, agentsIn, agentsPath, temporaryFolder } from "../helpers/common.mjs";
 import { withShell, withSignals } from "../helpers/needs.mjs";
 import { programIn } from "../helpers/whole-programs.mjs";
 
@@ -71,7 +71,7 @@ new Worker(new URL("./worker.mjs", import.meta.url));
 
 test("a job without a group of its own isn't ended by the console's SIGINT", withSignals, (context) => {
   const folder = temporaryFolder(context);
-  const module = agentsOf(folder, `
+  const module = agentsIn(folder, `
     if (agent === 0) process.kill(process.pid, "SIGINT");
     Atomics.add(new Int32Array(buffers[0]), 0, 1);
   `);
@@ -88,7 +88,7 @@ test("a job without a group of its own isn't ended by the console's SIGINT", wit
 test("a SIGINT that the command and its job both get ends both, after what was found is printed", withSignals,
   async (context) => {
     const folder = temporaryFolder(context);
-    const module = agentsOf(folder, `
+    const module = agentsIn(folder, `
       if (agent === 0 && globalThis.hasBegun === undefined) console.log(globalThis.hasBegun = "begun");
       Atomics.add(new Int32Array(buffers[0]), 0, 1);
     `);

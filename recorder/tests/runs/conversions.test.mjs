@@ -9,7 +9,7 @@ import { explore, record } from "../../recorder.mjs";
 import { KIND_NAMES, found } from "../agents/conversions.mjs";
 import { CASE_WORD } from "../helpers/case-word.mjs";
 import { Cases } from "../helpers/cases.mjs";
-import { agentsOf, agentsPath, temporaryFolder } from "../helpers/common.mjs";
+import { agentsIn, agentsPath, temporaryFolder } from "../helpers/common.mjs";
 import { CHECKER } from "../helpers/needs.mjs";
 
 /** With `everywhere` no pilots are made first. `record` throws if sabsim doesn't replay the script to the report. */
@@ -22,7 +22,7 @@ const HOW = { agents: 1, buffers: [64], sabsim: CHECKER, seconds: 60, everywhere
  * @param {object} [options]
  */
 const recordBody = (context, body, options = {}) =>
-  record({ ...HOW, module: agentsOf(temporaryFolder(context), body), ...options });
+  record({ ...HOW, module: agentsIn(temporaryFolder(context), body), ...options });
 
 /** @param {{ script: string }} outcome @returns {any[][][]} the calls of each agent */
 const callsOf = ({ script }) => JSON.parse(script).agents.map(({ calls }) => calls);
@@ -263,7 +263,7 @@ describe("code of an agent that runs in a conversion comes before the call", () 
   });
 
   test("a wait in it, which another agent ends", async (context) => {
-    const module = agentsOf(temporaryFolder(context), `${WORDS}
+    const module = agentsIn(temporaryFolder(context), `${WORDS}
       if (agent === 0) {
         const late = () => (Atomics.wait(words, 0, 0), Atomics.load(words, 2) + 0.5);
         return void Atomics.store(words, 1, { valueOf: late });

@@ -8,15 +8,16 @@ import { Crew, EngineFault } from "../engine/crew.mjs";
 import { replay } from "../engine/replay.mjs";
 import { summary } from "../engine/report.mjs";
 import { readScript, ScriptFault } from "../engine/script.mjs";
-import { withSignals } from "../helpers/needs.mjs";
 import { AskedProcesses } from "../helpers/asked-processes.mjs";
-import { pathOf, replayBySabsim, runNode, start } from "../helpers/programs.mjs";
+import { nodeThere } from "../helpers/common.mjs";
+import { withSignals } from "../helpers/needs.mjs";
+import { pathOf, replayBySabsim, start } from "../helpers/programs.mjs";
 import { seedsTo } from "../helpers/recorded.mjs";
 import { generatedScript, timedScript } from "../helpers/scripts.mjs";
 
 const DATA = pathOf("tests/scripts");
 const EXAMPLES = `${DATA}/examples`;
-const ENGINE = "recorder/tests/engine/main.mjs";
+const ENGINE = pathOf("recorder/tests/engine/main.mjs");
 const SCRIPTS = 200;
 const TIMED_SCRIPTS = 10;
 
@@ -95,34 +96,37 @@ describe("scripts with their reports", () => {
 describe("the program", () => {
   const script = readFileSync(`${EXAMPLES}/timed-wait.json`, "utf8");
 
+  /** @param {string[]} words @param {string} [input] */
+  const engine = (words, input) => nodeThere([ENGINE, ...words], { input });
+
   test("writes the report, and counts on standard error the moves that aren't the engine's", async () => {
-    const { status, output, errors } = await runNode(ENGINE, [], script);
-    assert.equal(output, readFileSync(`${EXAMPLES}/timed-wait.report`, "utf8"));
+    const { status, stdout, stderr } = await engine([], script);
+    assert.equal(stdout, readFileSync(`${EXAMPLES}/timed-wait.report`, "utf8"));
     const counts = /^engine: node \S+, V8 \S+: \d+ of \d+ moves are the engine's answers; the script's own: .*\n$/;
-    assert.match(errors, counts);
+    assert.match(stderr, counts);
     assert.equal(status, 0);
   });
 
   test("shows help", async () => {
-    const { status, output, errors } = await runNode(ENGINE, ["--help"]);
-    assert.match(output, /Usage: node recorder\/tests\/engine\/main\.mjs \[FILE\]/);
-    assert.ok(output.split("\n").every((line) => line.length <= 120));
-    assert.deepEqual([status, errors], [0, ""]);
+    const { status, stdout, stderr } = await engine(["--help"]);
+    assert.match(stdout, /Usage: node recorder\/tests\/engine\/main\.mjs \[FILE\]/);
+    assert.ok(stdout.split("\n").every((line) => line.length <= 120));
+    assert.deepEqual([status, stderr], [0, ""]);
   });
 
   test("reads a script from a file, or from standard input if it is - or missing", async () => {
     const report = readFileSync(`${EXAMPLES}/timed-wait.report`, "utf8");
     for (const [words, input] of [[[`${EXAMPLES}/timed-wait.json`], ""], [["-"], script], [[], script]]) {
-      const { status, output } = await runNode(ENGINE, words, input);
-      assert.deepEqual([status, output], [0, report], words.join());
+      const { status, stdout } = await engine(words, input);
+      assert.deepEqual([status, stdout], [0, report], words.join());
     }
   });
 
   test("names a file that can't be read, with status 3", async () => {
     for (const name of [`${EXAMPLES}/none.json`, EXAMPLES, "/dev/null/none"]) {
-      const { status, output, errors } = await runNode(ENGINE, [name], script);
-      assert.ok(errors.startsWith(`engine: ${name} can't be read: E`), errors);
-      assert.deepEqual([status, output, errors.split("\n").length], [3, "", 2]);
+      const { status, stdout, stderr } = await engine([name], script);
+      assert.ok(stderr.startsWith(`engine: ${name} can't be read: E`), stderr);
+      assert.deepEqual([status, stdout, stderr.split("\n").length], [3, "", 2]);
     }
   });
 
@@ -131,16 +135,16 @@ describe("the program", () => {
       "--file": /^engine: --file is no option; .*\n$/, "a.json b.json": /^engine: .* one script only; .*\n$/,
     };
     for (const [words, refusal] of Object.entries(wrong)) {
-      const { status, output, errors } = await runNode(ENGINE, words.split(" "), script);
-      assert.match(errors, refusal);
-      assert.deepEqual([status, output], [2, ""]);
+      const { status, stdout, stderr } = await engine(words.split(" "), script);
+      assert.match(stderr, refusal);
+      assert.deepEqual([status, stdout], [2, ""]);
     }
   });
 
   test("refuses a script with one line and status 1", async () => {
-    const { status, output, errors } = await runNode(ENGINE, [], "{");
-    assert.match(errors, /^engine: the script is no JSON text in UTF-8.*\n$/);
-    assert.deepEqual([status, output], [1, ""]);
+    const { status, stdout, stderr } = await engine([], "{");
+    assert.match(stderr, /^engine: the script is no JSON text in UTF-8.*\n$/);
+    assert.deepEqual([status, stdout], [1, ""]);
   });
 
   test("ends at once when it is killed in a wait", { ...withSignals, timeout: 30_000 }, async () => {
@@ -148,7 +152,7 @@ describe("the program", () => {
     const calls = [["wait", "w", 0, 0, 1]];
     const views = [{ name: "w", kind: "Int32", offset: 0, length: null }];
     const text = JSON.stringify({ bytes: 4, views, agents: [{ block: true, calls }], schedule: moves });
-    const { child, ended } = start(process.execPath, [pathOf(ENGINE)], text);
+    const { child, ended } = start(process.execPath, [ENGINE], text);
     await new Promise((resolve) => setTimeout(resolve, 1_000));
     assert.equal(child.exitCode, null);
     child.kill("SIGTERM");

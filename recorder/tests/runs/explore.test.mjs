@@ -11,9 +11,10 @@ import { setTimeout as sleep } from "node:timers/promises";
 import { Delivery } from "../../lib/seeds/delivery.mjs";
 import { Difference, LostJob, NoSabsim, Refused, explore, record } from "../../recorder.mjs";
 import {
-  LIES, agentsOf, agentsPath, endOf, processesWith, refusedInALine, shellProgram, soon, stayingWith, temporaryFolder,
+  LIES, agentsIn, agentsPath, processesWith, refusedInALine, shellProgram, soon, stayingWith, temporaryFolder,
 } from "../helpers/common.mjs";
 import { CHECKER, NOWHERE, onLinux, withShell } from "../helpers/needs.mjs";
+import { endOf } from "../helpers/programs.mjs";
 
 const LIBRARY = new URL("../../recorder.mjs", import.meta.url).href;
 /** Drawn for before each call, so that there are no pilots, which call `init` too. */
@@ -118,7 +119,7 @@ test("with failFast the first failing run is the last, and with fresh workers ar
     const outcomes = await allOf(explore({ ...naive, seeds: "10..100000", failFast: true, jobs }));
     assert.deepEqual([outcomes.length, outcomes.at(-1).seed, outcomes.at(-1).fails], [20, 29, true]);
   }
-  const module = agentsOf(temporaryFolder(context), `
+  const module = agentsIn(temporaryFolder(context), `
     globalThis.runs = (globalThis.runs ?? 0) + 1;
     Atomics.store(new Uint8Array(buffers[0]), 0, globalThis.runs);
   `);
@@ -174,7 +175,7 @@ test("a difference ends it, and so does a job's process that ends", withShell, a
     const runs = explore({ ...cases("addition"), sabsim: lying, seeds: "5..100000", checkEvery: 50, jobs });
     await assert.rejects(allOf(runs), (error) => error instanceof Difference && error.outcome.seed % 50 === 5);
   }
-  const module = agentsOf(folder, `
+  const module = agentsIn(folder, `
     globalThis.runs = (globalThis.runs ?? 0) + 1;
     Atomics.add(new Int32Array(buffers[0]), 0, 1);
     if (globalThis.runs === 3) process.kill(process.pid, "SIGKILL");

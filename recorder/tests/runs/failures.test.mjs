@@ -7,7 +7,7 @@ import { standstillOf, thrownIn } from "../../lib/run/failure.mjs";
 import { SourceNames } from "../../lib/run/source-names.mjs";
 import { checkedNames } from "../../lib/options/names.mjs";
 import { record } from "../../recorder.mjs";
-import { agentsOf, temporaryFolder } from "../helpers/common.mjs";
+import { agentsIn, temporaryFolder } from "../helpers/common.mjs";
 import { hexOf } from "../helpers/recorded.mjs";
 
 const names = new SourceNames("file:///home/me/project/lock.agents.mjs");
@@ -74,7 +74,7 @@ test("runs with the same ending and the same bytes have the same state, and othe
 });
 
 test("an outcome has what its run failed by", async (context) => {
-  const module = agentsOf(temporaryFolder(context), [
+  const module = agentsIn(temporaryFolder(context), [
     "const words = new Int32Array(buffers[0]);",
     'if (args[0] === "throws") throw new RangeError("no such luck");',
     'if (args[0] === "waits") Atomics.wait(words, 0, 0);',

@@ -3,7 +3,7 @@
 import assert from "node:assert/strict";
 import { test } from "node:test";
 import { fileURLToPath } from "node:url";
-import { RECORD, agentsOf, nodeNow, temporaryFolder } from "../helpers/common.mjs";
+import { RECORD, agentsIn, nodeNow, temporaryFolder } from "../helpers/common.mjs";
 import { WATCHING } from "../helpers/watched-garbage.mjs";
 
 const GARBAGE = new URL("../../lib/processes/garbage.mjs", import.meta.url).href;
@@ -40,7 +40,7 @@ test("the process of a job collects garbage in the workers that it begins before
 });
 
 test("agents have `gc` only if node was started with it", (context) => {
-  const module = agentsOf(temporaryFolder(context), `
+  const module = agentsIn(temporaryFolder(context), `
     Atomics.add(new Int32Array(buffers[0]), 0, 1);
     console.log(typeof globalThis.gc);
   `);

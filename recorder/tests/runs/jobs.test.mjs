@@ -16,9 +16,10 @@ import { isWorthIt, moreJobs } from "../../lib/seeds/more-jobs.mjs";
 import { jobWords } from "../../lib/seeds/start-job.cjs";
 import { commandHere } from "../helpers/command-here.mjs";
 import {
-  RECORD, agentsOf, agentsPath, endOf, moduleOf, nodeNow, processesWith, stayingWith, temporaryFolder,
+  RECORD, agentsIn, agentsPath, moduleOf, nodeNow, processesWith, stayingWith, temporaryFolder,
 } from "../helpers/common.mjs";
 import { CHECKING, onLinux, withSignals } from "../helpers/needs.mjs";
+import { endOf } from "../helpers/programs.mjs";
 
 /**
  * Runs the command line to its end.
@@ -30,7 +31,7 @@ const run = (words, nodeWords = [], options = {}) => nodeNow([...nodeWords, RECO
 
 /** The words for two agents, without pilots, which would take twice as many workers, and could end a job before. */
 const small = (folder, body) =>
-  [agentsOf(folder, body), "--agents", "2", "--buffers", "8", "--check", "0", "--everywhere"];
+  [agentsIn(folder, body), "--agents", "2", "--buffers", "8", "--check", "0", "--everywhere"];
 
 test("a job gets node's own words, but not those about the program and how it is debugged", () => {
   const loads = ["--require", "pre.cjs", "-r", "other.cjs", "--import=./pre.mjs", "--stack-size=2000", "--no-warnings"];
@@ -99,7 +100,7 @@ const SINCE = 300;
 
 test("further jobs are taken while processors are idle, and the outcomes are those of one job", async (context) => {
   // Runs of some milliseconds each, on a machine of three processors that nobody else uses.
-  const module = pathToFileURL(agentsOf(temporaryFolder(context), `
+  const module = pathToFileURL(agentsIn(temporaryFolder(context), `
     for (let step = 0; step < 1_000_000; step += 1);
     Atomics.add(new Int32Array(buffers[0]), 0, agent + Math.floor(Math.random() * 100));
   `)).href;

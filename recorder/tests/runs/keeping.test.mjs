@@ -6,8 +6,9 @@ import { existsSync, mkdirSync, readFileSync, readdirSync, symlinkSync, writeFil
 import { join } from "node:path";
 import { test } from "node:test";
 import { NotKept, RunStore } from "../../lib/keeping/run-store.mjs";
-import { RECORD, agentsPath, endOf, nodeNow, refusedInALine, soon, temporaryFolder } from "../helpers/common.mjs";
+import { RECORD, agentsPath, nodeNow, refusedInALine, soon, temporaryFolder } from "../helpers/common.mjs";
 import { CHECKING, onLinux, withLinks, withShell, withSignals } from "../helpers/needs.mjs";
+import { endOf } from "../helpers/programs.mjs";
 
 const run = (seed, parts) => ({ seed, script: `script ${seed}`, report: `report ${seed}`, ...parts });
 const filesOf = (seed) => [`seed-${seed}.json`, `seed-${seed}.report`];

@@ -6,7 +6,7 @@ import { test } from "node:test";
 import { pathToFileURL } from "node:url";
 import { Difference, NoSabsim, Refused, explore, record } from "../../recorder.mjs";
 import {
-  LIES, agentsOf, agentsPath, recordCase, refusedInALine, shellProgram, temporaryFolder,
+  LIES, agentsIn, agentsPath, recordCase, refusedInALine, shellProgram, temporaryFolder,
 } from "../helpers/common.mjs";
 import { CHECKER, NOWHERE, hasSabsim, withShell } from "../helpers/needs.mjs";
 import { simulated } from "../helpers/simulate.mjs";
@@ -252,7 +252,7 @@ const RACY = `
 const OF_TWO = { agents: 2, buffers: [8], sabsim: false, everywhere: true };
 
 test("`races` says whether a run with unordered accesses fails", async (context) => {
-  const options = { module: agentsOf(temporaryFolder(context), RACY), ...OF_TWO };
+  const options = { module: agentsIn(temporaryFolder(context), RACY), ...OF_TWO };
   const failing = await record(options);
   assert.deepEqual([failing.ending, failing.fails, failing.races.length], ["race", true, 1]);
   const allowed = await record({ ...options, races: "allow" });
@@ -261,7 +261,7 @@ test("`races` says whether a run with unordered accesses fails", async (context)
 });
 
 test("`ordinary` says what is seen of reads and writes", async (context) => {
-  const options = { module: agentsOf(temporaryFolder(context), RACY), ...OF_TWO };
+  const options = { module: agentsIn(temporaryFolder(context), RACY), ...OF_TWO };
   const stored = await record({ ...options, ordinary: "store" });
   assert.deepEqual([stored.ending, stored.races], ["finished", []]);
   assert.equal((await record({ ...options, ordinary: "refuse" })).ending, "failed");
@@ -276,7 +276,7 @@ test("`limits` says whether a run that meets a limit fails", async () => {
 });
 
 test("with `clock: run` the same seed gives the same time, and `clock: real` gives the machine's", async (context) => {
-  const path = agentsOf(temporaryFolder(context), `
+  const path = agentsIn(temporaryFolder(context), `
     const words = new Int32Array(buffers[0]);
     Atomics.store(words, 0, Date.now() > 1_600_000_000_000 ? 1 : 0);
     Atomics.store(words, 1, Math.floor(Math.random() * 1_000_000_000));
@@ -290,7 +290,7 @@ test("with `clock: run` the same seed gives the same time, and `clock: real` giv
 });
 
 test("with `timeouts` 0 a wait that can be woken isn't ended by its time, and with 1 it may be", async (context) => {
-  const path = agentsOf(temporaryFolder(context), `
+  const path = agentsIn(temporaryFolder(context), `
     const words = new Int32Array(buffers[0]);
     if (agent === 0) {
       Atomics.store(words, 1, Atomics.wait(words, 0, 0, 60_000) === "timed-out" ? 1 : 2);

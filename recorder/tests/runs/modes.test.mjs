@@ -7,7 +7,7 @@ import { before, describe, it } from "node:test";
 import { UNSEEN } from "../../lib/run/transcript.mjs";
 import { PROGRAMS } from "../agents/modes.mjs";
 import { agentsPath } from "../helpers/common.mjs";
-import { different, hexOf, placesOf, recorded, seedsTo, summaryLines } from "../helpers/recorded.mjs";
+import { different, hexOf, placesOfText, recorded, seedsTo, summaryLines } from "../helpers/recorded.mjs";
 
 const MODES = ["watch", "store", "refuse"];
 const NAMES = Object.keys(PROGRAMS);
@@ -68,7 +68,7 @@ describe("ordinary accesses in each mode", () => {
   it("an unguarded counter races under each seed if accesses are watched, and else never", () => {
     const { watch, store } = outcomesOf("unlocked");
     assert.deepEqual(different(watch, "ending"), ["race"]);
-    const [line] = placesOf("modes", "count[0] += 1;\n    Atomics.load").map(({ line: number }) => number);
+    const [line] = placesOfText("modes", "count[0] += 1;\n    Atomics.load").map(({ line: number }) => number);
     for (const { detail, races, bytes } of watch) {
       // The write of each with the read of the other, and with its write.
       const columns = races.map(({ lines }) => lines.map((place) => {
@@ -130,7 +130,7 @@ describe("ordinary accesses in each mode", () => {
     for (const { ending, detail, progress, calls, answers } of [...watch, ...store]) {
       assert.equal(ending, "deadlock");
       const own = 'agent 0 waits at byte 0 of block 0: its call 2, ["wait", "Int32_b0", 0, 0]';
-      const [{ line, column }] = placesOf("modes", "wait(words, 0, 0)");
+      const [{ line, column }] = placesOfText("modes", "wait(words, 0, 0)");
       assert.equal(detail, `${own}, at modes.mjs:${line}:${column}, which is 4 in the script`);
       assert.deepEqual([progress[0], calls, answers[0]], [{ returned: 2, calls: 3 }, 4, ["0", "0", null]]);
     }

@@ -5,7 +5,7 @@ import assert from "node:assert/strict";
 import { join } from "node:path";
 import { describe, test } from "node:test";
 import { record } from "../../recorder.mjs";
-import { RECORD, agentsOf, nodeNow, temporaryFolder } from "../helpers/common.mjs";
+import { RECORD, agentsIn, nodeNow, temporaryFolder } from "../helpers/common.mjs";
 import { CHECKER } from "../helpers/needs.mjs";
 
 const COUNTS = `const count = new Int32Array(buffers[0]);
@@ -13,7 +13,7 @@ for (let time = 0; time < 5; time += 1) count[0] += 1;`;
 
 /** Without pilots, half as many workers are needed. @param {import("node:test").TestContext} context */
 const outcomeOf = (context, body, options = {}) => {
-  const module = agentsOf(temporaryFolder(context), body);
+  const module = agentsIn(temporaryFolder(context), body);
   const fixed = { module, agents: 2, buffers: [16], everywhere: true, sabsim: CHECKER, seconds: 5 };
   return record({ ...fixed, ...options });
 };
@@ -54,7 +54,7 @@ describe("agents without a call of Atomics", { concurrency: 4 }, () => {
   test("aren't shortened, and the summary says why", (context) => {
     const folder = temporaryFolder(context);
     const agents = ["--agents", "2", "--everywhere", "--buffers", "16"];
-    const words = [RECORD, agentsOf(folder, COUNTS), ...agents, "--seeds", "1..2", "--out", join(folder, "out")];
+    const words = [RECORD, agentsIn(folder, COUNTS), ...agents, "--seeds", "1..2", "--out", join(folder, "out")];
     const { status, stdout } = nodeNow(words);
     assert.equal(status, 1);
     const lines = stdout.split("\n");

@@ -6,7 +6,7 @@ import { readFileSync, writeFileSync } from "node:fs";
 import { join } from "node:path";
 import { test } from "node:test";
 import { explore, record } from "../../recorder.mjs";
-import { agentsOf, agentsPath, commandNow, recordCase, temporaryFolder } from "../helpers/common.mjs";
+import { agentsIn, agentsPath, commandNow, recordCase, temporaryFolder } from "../helpers/common.mjs";
 
 /**
  * Runs the command line to its end, without sabsim.
@@ -16,7 +16,7 @@ import { agentsOf, agentsPath, commandNow, recordCase, temporaryFolder } from ".
 const run = (words, jobs = 1) => commandNow([...words, "--check", "0", "--jobs", `${jobs}`]);
 
 test("output of agents in pilots isn't shown, and no module remembers pilots", (context) => {
-  const module = agentsOf(temporaryFolder(context), `
+  const module = agentsIn(temporaryFolder(context), `
     globalThis.runs = (globalThis.runs ?? 0) + 1;
     console.log("run", globalThis.runs, "of agent", agent);
     Atomics.add(new Int32Array(buffers[0]), 0, globalThis.runs);
@@ -28,7 +28,7 @@ test("output of agents in pilots isn't shown, and no module remembers pilots", (
 });
 
 test("calls beside ordinary accesses that race are places to switch, though none of the calls is shared", (context) => {
-  const module = agentsOf(temporaryFolder(context), `
+  const module = agentsIn(temporaryFolder(context), `
     const words = new Int32Array(buffers[0]);
     Atomics.add(words, 4 + agent, 1);
     const before = words[0];
@@ -42,7 +42,7 @@ test("calls beside ordinary accesses that race are places to switch, though none
 });
 
 test("what init leaves doesn't end pilots: agents change at their calls as without init", async (context) => {
-  const module = agentsOf(temporaryFolder(context), `
+  const module = agentsIn(temporaryFolder(context), `
     const words = new Int32Array(buffers[0]);
     if (agent === 0) words[0] = 0;
     Atomics.store(words, 0, Atomics.load(words, 0) + 1);
@@ -65,7 +65,7 @@ test("what init leaves doesn't end pilots: agents change at their calls as witho
 test("an agent that waits for what pilots couldn't see doesn't spin for ever", (context) => {
   // A pilot is cut after 10,000 moves, before agent 1 makes its store: six agents make 700 calls of three moves each.
   // So for all that pilots show the flag is agent 0's own.
-  const module = agentsOf(temporaryFolder(context), `
+  const module = agentsIn(temporaryFolder(context), `
     const words = new Int32Array(buffers[0]);
     for (let time = 0; agent > 0 && time < 700; time += 1) Atomics.add(words, agent, 1);
     if (agent === 1) Atomics.store(words, 0, 1);

@@ -25,9 +25,10 @@ import { SourceNames } from "../../lib/run/source-names.mjs";
 import { startJob } from "../../lib/seeds/start-job.cjs";
 import { keptFolder } from "../../lib/suite/kept-folder.mjs";
 import { Browser, withBrowser } from "../helpers/browser.mjs";
-import { endOf, temporaryFolder } from "../helpers/common.mjs";
+import { temporaryFolder } from "../helpers/common.mjs";
 import { needing, withPosixPaths, withSignals } from "../helpers/needs.mjs";
 import { FACTS, FILE, OUTCOME, lines as linesOf } from "../helpers/page-run.mjs";
+import { endOf } from "../helpers/programs.mjs";
 
 const RECORDER = fileURLToPath(new URL("../../", import.meta.url));
 

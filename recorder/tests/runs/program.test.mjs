@@ -10,10 +10,11 @@ import { test } from "node:test";
 import { commandOptionsOf, USAGE } from "../../lib/command/options.mjs";
 import { commandHere } from "../helpers/command-here.mjs";
 import {
-  LIES, RECORD, WITHOUT_SABSIM, agentsOf, agentsPath, commandNow, commandThere, endOf, processesWith, refusedInALine,
+  LIES, RECORD, WITHOUT_SABSIM, agentsIn, agentsPath, commandNow, commandThere, processesWith, refusedInALine,
   shellProgram, soon, stayingWith, temporaryFolder,
 } from "../helpers/common.mjs";
 import { CHECKING, NOWHERE, hasSabsim, onLinux, withDevices, withShell } from "../helpers/needs.mjs";
+import { endOf } from "../helpers/programs.mjs";
 import { simulated } from "../helpers/simulate.mjs";
 
 /** Which simulator checks the runs of these tests. */
@@ -314,7 +315,7 @@ test("arguments after -- go to the agents, and what they print goes to standard 
   assert.equal(printed.status, 0);
   const lines = printed.stderr.trimEnd().split("\n");
   assert.deepEqual(lines.map((line) => Number(line.split(" ")[3])), [0, 1, 2, 3, 4, 5]);
-  const agents = agentsOf(temporaryFolder(context), "throw new Error(JSON.stringify([agent, agents, args]));");
+  const agents = agentsIn(temporaryFolder(context), "throw new Error(JSON.stringify([agent, agents, args]));");
   const group = ["--agents", "1", "--buffers", "4", "--seeds", "1", "--check", "0"];
   const words = [...group, "--", "--seeds", "--", "x y"];
   assert.match((await commandHere([agents, ...words])).stdout, /agent 0 threw Error: \[0,1,\["--seeds","--","x y"\]\]/);

@@ -12,7 +12,7 @@ import { Refused, record } from "../../recorder.mjs";
 import { ASKS } from "../agents/deep.mjs";
 import { CASE_WORD } from "../helpers/case-word.mjs";
 import { Cases } from "../helpers/cases.mjs";
-import { agentsOf, moduleOf, temporaryFolder } from "../helpers/common.mjs";
+import { agentsIn, moduleOf, temporaryFolder } from "../helpers/common.mjs";
 import { CHECKER } from "../helpers/needs.mjs";
 import { recorded } from "../helpers/recorded.mjs";
 
@@ -55,7 +55,7 @@ async function recordText(context, text, options = {}) {
 
 /** The same, where only the agent's body is given. */
 async function recordBody(context, body, options = {}) {
-  const agents = agentsOf(temporaryFolder(context), body);
+  const agents = agentsIn(temporaryFolder(context), body);
   return record({ ...HOW, module: agents, ...options });
 }
 

@@ -5,13 +5,11 @@ import { test } from "node:test";
 import { setTimeout as sleep } from "node:timers/promises";
 import { fileURLToPath } from "node:url";
 import { moduleUrl } from "../../lib/library/module-url.mjs";
-import { defaultsOf } from "../../lib/options/table.mjs";
-import { ProgramGroup } from "../../lib/program/program-group.mjs";
 import { keepThread, keptThread } from "../../lib/processes/thread.mjs";
 import { Group } from "../../lib/run/group.mjs";
 import { Refused, record } from "../../recorder.mjs";
-import { agentsOf, agentsPath, temporaryFolder } from "../helpers/common.mjs";
-import { groupOf } from "../helpers/groups.mjs";
+import { agentsIn, agentsPath, temporaryFolder } from "../helpers/common.mjs";
+import { groupOf, programGroup } from "../helpers/groups.mjs";
 import { seedsTo } from "../helpers/recorded.mjs";
 
 const SEEDS = 20;
@@ -44,9 +42,7 @@ const WITH_PILOTS = { everywhere: false };
 const ofAgents = (options = {}) =>
   Group.open({ ...FIXED, module: moduleUrl(agentsPath("naive-mutex")), ...FEW_WORKERS, ...options });
 
-const ofProgram = () => ProgramGroup.open(/** @type {any} */ ({
-  ...defaultsOf("record"), ...FIXED, program: true, module: exampleUrl("count-together"),
-}));
+const ofProgram = () => programGroup({ seconds: 5, module: exampleUrl("count-together") });
 
 test("a group that begins before the referee of an earlier one has finished has another thread", async (context) => {
   const group = await ofAgents();
@@ -72,7 +68,7 @@ test("groups that come one after the other have one referee's thread, and nothin
 
 test("a module that can't be loaded, and a single run of the library, leave the thread to others", async (context) => {
   const { thread } = await madeBy(ofAgents());
-  const module = agentsOf(temporaryFolder(context), "}\nexport const setup = 5; {");
+  const module = agentsIn(temporaryFolder(context), "}\nexport const setup = 5; {");
   await assert.rejects(ofAgents({ module: moduleUrl(module) }), Refused);
   // It ends as soon as it has the outcome.
   await record({ module: agentsPath("naive-mutex"), sabsim: false, ...FEW_WORKERS });

@@ -5,9 +5,8 @@ import assert from "node:assert/strict";
 import { readFileSync, readdirSync, writeFileSync } from "node:fs";
 import { join } from "node:path";
 import { test } from "node:test";
-import { temporaryFolder } from "../helpers/common.mjs";
+import { commandThere, temporaryFolder } from "../helpers/common.mjs";
 import { CHECKING } from "../helpers/needs.mjs";
-import { runNode } from "../helpers/programs.mjs";
 import { simulated } from "../helpers/simulate.mjs";
 
 const MODULE = `
@@ -35,19 +34,19 @@ async function replayed(context, script, { code = MODULE, words = [] } = {}) {
   writeFileSync(module, code);
   writeFileSync(file, script);
   const options = words.map((word) => word.replace("FOLDER", folder));
-  const ended = await runNode("recorder/record.mjs", [module, "--replay", file, ...CHECKING, ...options]);
+  const ended = await commandThere([module, "--replay", file, ...CHECKING, ...options]);
   return { folder, file, module, ...ended };
 }
 
 test("an interleaving that somebody has in mind is made on the code, and its page is kept", async (context) => {
-  const { folder, file, status, output, errors } =
+  const { folder, file, status, stdout, stderr } =
     await replayed(context, byHand(LOST_ADDITION), { words: ["--out", "FOLDER/found"] });
-  assert.deepEqual([status, errors], [1, ""], errors);
+  assert.deepEqual([status, stderr], [1, ""], stderr);
   const found = join(folder, "found");
   const names = ["json", "report", "trace.jsonl", "explained", "svg", "html"].map((end) => `mine.replayed.${end}`);
-  const lines = output.trimEnd().split("\n");
+  const lines = stdout.trimEnd().split("\n");
   assert.ok(lines[0].startsWith(`replayed ${file}, with the clocks and random numbers of seed 1`));
-  assert.ok(lines.includes("1 of 1 run failed: 1 check failed"), output);
+  assert.ok(lines.includes("1 of 1 run failed: 1 check failed"), stdout);
   assert.equal(lines.at(-1), `kept in ${found}: ${names.join(", ")}`);
   assert.deepEqual(readdirSync(found).sort(), [...names].sort());
   const kept = (end) => readFileSync(join(found, `mine.replayed.${end}`), "utf8");
@@ -61,9 +60,9 @@ test("an interleaving that somebody has in mind is made on the code, and its pag
 test("a run that finishes is kept too, and a script of the older form is taken", async (context) => {
   const inOrder = [0, 0, 0, 0, 0, 0, 1, 1, 1, 1, 1, 1];
   const script = byHand(inOrder, { bytes: 4 }, {}).replace('["store","n",0,1]]}]', '["store","n",0,2]]}]');
-  const { folder, status, output } = await replayed(context, script, { words: ["--out", "FOLDER/found"] });
-  assert.equal(status, 0, output);
-  assert.match(output, /^1 run: 1 finished$/m);
+  const { folder, status, stdout } = await replayed(context, script, { words: ["--out", "FOLDER/found"] });
+  assert.equal(status, 0, stdout);
+  assert.match(stdout, /^1 run: 1 finished$/m);
   assert.ok(readdirSync(join(folder, "found")).includes("mine.replayed.html"));
 });
 
@@ -78,33 +77,33 @@ test("moves without an effect are left out, as `sabsim replay` has it, and a lin
       "1 move has no effect and is left out, as in `sabsim replay`; the first is move 0: stuck not-waiting"],
   ];
   for (const [schedule, line] of cases) {
-    const { status, output, errors } = await replayed(context, byHand(schedule));
-    assert.equal(status, 1, errors);
-    assert.equal(output.split("\n")[1], line);
-    assert.match(output, /^1 of 1 run failed: 1 check failed$/m);
+    const { status, stdout, stderr } = await replayed(context, byHand(schedule));
+    assert.equal(status, 1, stderr);
+    assert.equal(stdout.split("\n")[1], line);
+    assert.match(stdout, /^1 of 1 run failed: 1 check failed$/m);
   }
 });
 
 test("a folder that can't be made is refused before the run", async (context) => {
   const words = ["--out", "FOLDER/count.mjs"];
-  const { status, output, errors } = await replayed(context, byHand(LOST_ADDITION), { words });
-  assert.deepEqual([status, output], [2, ""]);
-  assert.match(errors, /^record: --out .*count\.mjs can't be used: /);
+  const { status, stdout, stderr } = await replayed(context, byHand(LOST_ADDITION), { words });
+  assert.deepEqual([status, stdout], [2, ""]);
+  assert.match(stderr, /^record: --out .*count\.mjs can't be used: /);
 });
 
 test("a script of another module is refused for that, and it is said what to do", async (context) => {
   const larger = MODULE.replace("buffers: [4]", "buffers: [8]").replace("COUNT: 0", "COUNT: 0, LAST: 1");
-  const { file, module, status, errors } = await replayed(context, byHand(LOST_ADDITION), { code: larger });
+  const { file, module, status, stderr } = await replayed(context, byHand(LOST_ADDITION), { code: larger });
   assert.equal(status, 2);
-  assert.ok(errors.startsWith(`record: ${file} is a script of another module: it has 2 agents and buffers of 4 bytes, `
-    + `but in ${module} \`names\` puts LAST at index 1`), errors);
-  assert.ok(errors.endsWith("Replay it with the module that it was kept from\n"), errors);
+  assert.ok(stderr.startsWith(`record: ${file} is a script of another module: it has 2 agents and buffers of 4 bytes, `
+    + `but in ${module} \`names\` puts LAST at index 1`), stderr);
+  assert.ok(stderr.endsWith("Replay it with the module that it was kept from\n"), stderr);
 });
 
 test("if an agent's first call differs, the error says that the script may be of another module", async (context) => {
   const other = MODULE.replace("Atomics.store(", "Atomics.exchange(words, 0, 5);\n  Atomics.store(");
-  const { status, errors } = await replayed(context, byHand(LOST_ADDITION), { code: other });
+  const { status, stderr } = await replayed(context, byHand(LOST_ADDITION), { code: other });
   assert.equal(status, 3);
-  assert.match(errors, /^record: the code no longer does the same: agent 0's call 0 was /);
-  assert.ok(errors.endsWith("; if the script is of another module, replay it with that one\n"), errors);
+  assert.match(stderr, /^record: the code no longer does the same: agent 0's call 0 was /);
+  assert.ok(stderr.endsWith("; if the script is of another module, replay it with that one\n"), stderr);
 });

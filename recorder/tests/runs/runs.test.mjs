@@ -7,9 +7,9 @@ import { Group } from "../../lib/run/group.mjs";
 import { Difference, NoSabsim, Refused, record } from "../../recorder.mjs";
 import { NAMES } from "../agents/refused.mjs";
 import { Cases } from "../helpers/cases.mjs";
-import { agentsOf, agentsPath, recordCase, shellProgram, temporaryFolder } from "../helpers/common.mjs";
+import { agentsIn, agentsPath, recordCase, shellProgram, temporaryFolder } from "../helpers/common.mjs";
 import { CHECKER, withShell } from "../helpers/needs.mjs";
-import { placesOf, recorded } from "../helpers/recorded.mjs";
+import { placesOfText, recorded } from "../helpers/recorded.mjs";
 
 /** Records a module of the tests. Sabsim checks the run where it is given. */
 function recordChecked(name, options) {
@@ -69,7 +69,7 @@ test("a run in which no agent calls Atomics is no pass, and its script has no ca
 test("a wait that nobody ends is a deadlock, reported with who waits where", async () => {
   const outcome = await recordCase("waitsForEver", { sabsim: CHECKER });
   assert.equal(outcome.ending, "deadlock");
-  const [{ line, column }] = placesOf("cases", "wait(words(buffers), 1, 0)");
+  const [{ line, column }] = placesOfText("cases", "wait(words(buffers), 1, 0)");
   const where = `at cases.mjs:${line}:${column}`;
   assert.equal(outcome.detail, `agent 0 waits at byte 4 of block 0: its call 0, ["wait", "Int32", 1, 0], ${where}`);
   assert.deepEqual(outcome.answers, [[null], ["0"]]);
@@ -100,7 +100,7 @@ test("what an agent throws is reported with its message and its causes", async (
       /^agent 0 threw Error: one\n +at [^\n]*agents\.mjs[^\n]*\ncaused by RangeError: two\n +at [^\n]*\ncaused by 3$/,
   };
   for (const [thrown, detail] of Object.entries(details)) {
-    const agents = agentsOf(temporaryFolder(context), `throw ${thrown};`);
+    const agents = agentsIn(temporaryFolder(context), `throw ${thrown};`);
     const outcome = await record({ module: agents, agents: 1, buffers: [4], sabsim: false });
     assert.match(outcome.detail, detail);
   }
@@ -237,7 +237,7 @@ test("each call that no script can have is refused by name and line, also if the
 });
 
 test("the agents' Atomics look like the engine's", async (context) => {
-  const agents = agentsOf(temporaryFolder(context), `
+  const agents = agentsIn(temporaryFolder(context), `
     const names = Object.getOwnPropertyNames(Atomics).map((name) => [name, Atomics[name].name, Atomics[name].length]);
     throw new Error(JSON.stringify([String(Atomics), names, Atomics.isLockFree(4)]));`);
   const { detail } = await record({ module: agents, agents: 1, buffers: [4], sabsim: false });

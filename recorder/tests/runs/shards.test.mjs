@@ -11,7 +11,7 @@ import { commandOptionsOf } from "../../lib/command/options.mjs";
 import { seedsWithout, shardOf, united } from "../../lib/seeds/ranges.mjs";
 import { commandHere } from "../helpers/command-here.mjs";
 import {
-  RECORD, agentsOf, agentsPath, moduleOf, nodeNow, nodeThere, refusedInALine, temporaryFolder,
+  RECORD, agentsIn, agentsPath, moduleOf, nodeNow, nodeThere, refusedInALine, temporaryFolder,
 } from "../helpers/common.mjs";
 import { CHECKING, needing, withSignals } from "../helpers/needs.mjs";
 import { pathOf } from "../helpers/programs.mjs";
@@ -92,7 +92,7 @@ const shared = { folder: temporaryFolder(), files: [], words: [] };
 
 before(async () => {
   const { folder } = shared;
-  const module = agentsOf(folder, `
+  const module = agentsIn(folder, `
     const words = new Int32Array(buffers[0]);
     Atomics.add(words, 0, 1);
     if (Math.random() < 0.2) Atomics.wait(words, 1, 0);
@@ -203,7 +203,7 @@ test("merge.mjs reports wrong words and files with status 2, and prints its help
 
 test("merge.mjs ends with status 0 if no run of any shard failed", async (context) => {
   const folder = temporaryFolder(context);
-  const module = agentsOf(folder, "Atomics.add(new Int32Array(buffers[0]), 0, 1);");
+  const module = agentsIn(folder, "Atomics.add(new Int32Array(buffers[0]), 0, 1);");
   const words = [module, "--agents", "2", "--buffers", "4", "--seeds", "1..4", "--check", "0", "--everywhere"];
   const lines = await Promise.all(["1/2", "2/2"].map((shard) => summaryOf([...words, "--shard", shard])));
   const input = lines.map((line) => JSON.stringify(line)).join("\n");
@@ -213,7 +213,7 @@ test("merge.mjs ends with status 0 if no run of any shard failed", async (contex
 });
 
 test("the JSON summary reports a job that died, in its member `problems`", withSignals, async (context) => {
-  const module = agentsOf(temporaryFolder(context), `
+  const module = agentsIn(temporaryFolder(context), `
     globalThis.seeds = (globalThis.seeds ?? 0) + 1;
     Atomics.add(new Int32Array(buffers[0]), 0, 1);
     if (globalThis.seeds === 9) process.kill(process.pid, "SIGKILL");
@@ -228,7 +228,7 @@ test("the JSON summary reports a job that died, in its member `problems`", withS
 });
 
 test("a shard whose job dies in its first run has a JSON summary for merging", withSignals, async (context) => {
-  const module = agentsOf(temporaryFolder(context), `
+  const module = agentsIn(temporaryFolder(context), `
     Atomics.add(new Int32Array(buffers[0]), 0, 1);
     if (process.env.RECORDER_TEST === "dies") process.kill(process.pid, "SIGKILL");
   `);

@@ -16,7 +16,7 @@ import {
 } from "../../lib/shorter/stretches.mjs";
 import { record } from "../../recorder.mjs";
 import { commandHere } from "../helpers/command-here.mjs";
-import { agentsOf, agentsPath, commandThere, temporaryFolder } from "../helpers/common.mjs";
+import { agentsIn, agentsPath, commandThere, temporaryFolder } from "../helpers/common.mjs";
 import { firstFailing, groupOf } from "../helpers/groups.mjs";
 import { CHECKER, CHECKING } from "../helpers/needs.mjs";
 import { simulated } from "../helpers/simulate.mjs";
@@ -192,7 +192,7 @@ test("a run that met a limit, or whose worker died, isn't shortened", async (con
 
 test("a run that can't be made again stays as it was found", async (context) => {
   const folder = temporaryFolder(context);
-  const module = agentsOf(folder, [
+  const module = agentsIn(folder, [
     "globalThis.runs = (globalThis.runs ?? 0) + 1;",
     "Atomics.add(new Int32Array(buffers[0]), 0, 1);",
     "if (globalThis.runs === 3) throw new Error(`run ${globalThis.runs}`);",

@@ -4,7 +4,7 @@ import assert from "node:assert/strict";
 import { before, describe, it } from "node:test";
 import { SCRIPT_LIMITS } from "../../script/limits.mjs";
 import { agentsPath } from "../helpers/common.mjs";
-import { placesOf, recorded, seedsTo, summaryLines } from "../helpers/recorded.mjs";
+import { placesOfText, recorded, seedsTo, summaryLines } from "../helpers/recorded.mjs";
 
 /**
  * The outcomes of some ways to go on, by their names. With a trace each run is made once, and is the next way. There
@@ -22,7 +22,7 @@ const ENDLESS = ["alternately", "nothing"];
 
 /** The place of a text in the agents' code, as the recorder reports it. */
 function placeOf(text) {
-  const [{ line, column }] = placesOf("spins", text);
+  const [{ line, column }] = placesOfText("spins", text);
   return `spins.mjs:${line}:${column}`;
 }
 
@@ -80,7 +80,7 @@ describe("agents that go on and on", () => {
     assert.equal(ending, "limit");
     const [spin, ...sleepers] = detail.split("\n");
     const at = (text) => {
-      const [{ line, column }] = placesOf("sleeps-beside", text);
+      const [{ line, column }] = placesOfText("sleeps-beside", text);
       return `sleeps-beside.mjs:${line}:${column}`;
     };
     assert.equal(spin, `agent 1 spins at ${at("load(words, 1) === 0")}: it has made ${MOST} calls, and goes on`);

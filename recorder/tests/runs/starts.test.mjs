@@ -11,6 +11,7 @@ import { PHASE } from "../../lib/memory/layout.mjs";
 import { explore, record } from "../../recorder.mjs";
 import { emptyMemory } from "../helpers/boards.mjs";
 import { temporaryFolder } from "../helpers/common.mjs";
+import { seedsTo } from "../helpers/recorded.mjs";
 
 const AGENTS = 4;
 const SEEDS = 128;
@@ -41,7 +42,7 @@ function begun(seed, { row, isPilot = false } = {}) {
   return order;
 }
 
-const seeds = Array.from({ length: SEEDS }, (_, at) => at + 1);
+const seeds = seedsTo(SEEDS);
 const agentsOf = (/** @type {ReturnType<typeof begun>} */ order) => order.map(({ agent }) => agent).join("");
 
 describe("agents of a module begin", () => {

@@ -12,10 +12,9 @@ import { FirstFailing, comesBefore } from "../../lib/run/order.mjs";
 import { shorten } from "../../lib/shorter/shorten.mjs";
 import { explore, record } from "../../recorder.mjs";
 import { assertAgents } from "../../testing.mjs";
-import { agentsPath, temporaryFolder } from "../helpers/common.mjs";
+import { agentsPath, commandThere, temporaryFolder } from "../helpers/common.mjs";
 import { groupOf } from "../helpers/groups.mjs";
-import { runNode } from "../helpers/programs.mjs";
-import { placesOf, recorded, seedsTo, summaryLines } from "../helpers/recorded.mjs";
+import { placesOfText, recorded, seedsTo, summaryLines } from "../helpers/recorded.mjs";
 
 const { timeouts: DEFAULT_TIMEOUTS } = defaultsOf("record");
 
@@ -42,7 +41,7 @@ const wordsOf = ({ bytes }) => [...new Int32Array(Uint8Array.from(Buffer.from(by
 
 /** Where the code waits, as the recorder reports it. */
 function placeOf(text) {
-  const [{ line, column }] = placesOf("timed", text);
+  const [{ line, column }] = placesOfText("timed", text);
   return `timed.mjs:${line}:${column}`;
 }
 
@@ -249,8 +248,8 @@ describe("joined, kept and stopped", { concurrency: 2 }, () => {
     const summaries = await Promise.all([1, 2].map(async (jobs) => {
       const out = join(folder, `jobs-${jobs}`);
       const more = ["--jobs", `${jobs}`, "--out", out, "--", "both"];
-      const { output } = await runNode("recorder/record.mjs", [...words, ...more]);
-      return { ...JSON.parse(output), files: readdirSync(out).sort() };
+      const { stdout } = await commandThere([...words, ...more]);
+      return { ...JSON.parse(stdout), files: readdirSync(out).sort() };
     }));
     const [one, two] = summaries;
     assert.deepEqual([one.firstFailing, one.early, one.files], [two.firstFailing, two.early, two.files]);
@@ -263,14 +262,13 @@ describe("joined, kept and stopped", { concurrency: 2 }, () => {
   it("a script of a deadlock by `never` is replayed with the same option, and its page has it", async () => {
     const out = join(folder, "never");
     /** @param {string[]} words */
-    const ran = (words) =>
-      runNode("recorder/record.mjs", [both.module, "--timeouts", "never", ...words, "--", "lost"]);
-    const { output } = await ran(["--out", out]);
-    const [, seed] = /first failing seed: (\d+), deadlock/.exec(output) ?? assert.fail(output);
+    const ran = (words) => commandThere([both.module, "--timeouts", "never", ...words, "--", "lost"]);
+    const { stdout } = await ran(["--out", out]);
+    const [, seed] = /first failing seed: (\d+), deadlock/.exec(stdout) ?? assert.fail(stdout);
     const script = join(out, `seed-${seed}.json`);
     assert.match(readFileSync(join(out, `seed-${seed}.html`), "utf8"), /--timeouts never/);
     const again = await ran(["--replay", script]);
-    assert.match(again.output, /1 of 1 run failed: 1 deadlock/);
+    assert.match(again.stdout, /1 of 1 run failed: 1 deadlock/);
     const other = await record({ ...both, args: ["lost"], seed: Number(seed), timeouts: "never" });
     assert.equal(other.ending, "deadlock");
   });

@@ -8,7 +8,7 @@ import { assertAgents } from "../../testing.mjs";
 import { Cases } from "../helpers/cases.mjs";
 import { agentsPath, moduleOf, temporaryFolder } from "../helpers/common.mjs";
 import { CHECKER } from "../helpers/needs.mjs";
-import { placesOf, recorded, summaryLines } from "../helpers/recorded.mjs";
+import { placesOfText, recorded, summaryLines } from "../helpers/recorded.mjs";
 
 const MODULE = agentsPath("unrecorded");
 
@@ -24,7 +24,7 @@ function casesOf(ways, options) {
 }
 
 /** The line of the agents' module in which a text stands. */
-const lineOf = (text) => placesOf("unrecorded", text)[0].line;
+const lineOf = (text) => placesOfText("unrecorded", text)[0].line;
 
 const MADE_AT_LOADING = lineOf("const atLoading");
 

@@ -18,7 +18,7 @@ import { assertAgents } from "../../testing.mjs";
 import { commandHere } from "../helpers/command-here.mjs";
 import { agentsPath, commandNow, temporaryFolder } from "../helpers/common.mjs";
 import { CHECKER, CHECKING, withShell } from "../helpers/needs.mjs";
-import { recorded } from "../helpers/recorded.mjs";
+import { recorded, seedsTo } from "../helpers/recorded.mjs";
 import { simulated } from "../helpers/simulate.mjs";
 import { whereNodeHasIt } from "../helpers/where-node-has-it.mjs";
 
@@ -127,8 +127,7 @@ test("a test that fails, and --replay, have the values of the code", async (cont
 });
 
 /** Runs of the ring, each with its trace. @param {object} [more] */
-const ringRuns = (more = {}) => recorded({ module: RING, strategy: "uniform", trace: true, ...more },
-  Array.from({ length: 40 }, (_, at) => at + 1));
+const ringRuns = (more = {}) => recorded({ module: RING, strategy: "uniform", trace: true, ...more }, seedsTo(40));
 
 /** @type {ReturnType<typeof ringRuns> | undefined} the same runs for several tests */
 let sameRuns;
