@@ -2,20 +2,15 @@
 // its trace.
 
 import assert from "node:assert/strict";
-import { spawnSync } from "node:child_process";
 import { existsSync, readFileSync, writeFileSync } from "node:fs";
 import { join } from "node:path";
 import { test } from "node:test";
 import { commandHere } from "../helpers/command-here.mjs";
-import { RECORD, agentsOf, agentsPath, temporaryFolder } from "../helpers/common.mjs";
+import { agentsOf, agentsPath, commandNow, temporaryFolder } from "../helpers/common.mjs";
 import { CHECKING } from "../helpers/needs.mjs";
 
 /** Runs the recorder in a process of its own. What its agents print comes from there. */
-function recorded(words, seconds = 120) {
-  const options = { encoding: "utf8", timeout: seconds * 1_000 };
-  const { status, stdout, stderr } = spawnSync(process.execPath, [RECORD, ...words], options);
-  return { status, output: stdout, errors: stderr };
-}
+const recorded = (words) => commandNow(words, { timeout: 120_000 });
 
 /** The words for agents that catch in a way, without pilots, which would take twice as many workers. */
 const wordsOf = (seeds, ...others) =>
@@ -26,13 +21,13 @@ const FAILING = 14;
 
 test("a loop that catches everything ends with its run, prints nothing of that, and its trace is kept", (context) => {
   const out = temporaryFolder(context);
-  const { status, output, errors } = recorded(wordsOf("1..200", "--out", out, "--", "loop"));
-  assert.deepEqual([status, errors], [1, ""], errors.slice(0, 200));
-  assert.match(output,
+  const { status, stdout, stderr } = recorded(wordsOf("1..200", "--out", out, "--", "loop"));
+  assert.deepEqual([status, stderr], [1, ""], stderr.slice(0, 200));
+  assert.match(stdout,
     new RegExp(`^first failing seed: ${FAILING}, threw\n  agent 0 threw Error: job 2 isn't done$`, "m"));
-  assert.doesNotMatch(output, /^not kept: /m);
+  assert.doesNotMatch(stdout, /^not kept: /m);
   // Each shorter run that is tried needs another worker. A slow machine ends that after ten seconds, and says so.
-  const original = /^not shortened: .*, stopped after 10 s/m.test(output) ? [] : ["original.trace.jsonl"];
+  const original = /^not shortened: .*, stopped after 10 s/m.test(stdout) ? [] : ["original.trace.jsonl"];
   for (const ending of ["trace.jsonl", ...original]) {
     const trace = readFileSync(join(out, `seed-${FAILING}.${ending}`), "utf8");
     assert.match(trace, /"source":"catches-all\.mjs:\d+:\d+"/);
@@ -43,8 +38,8 @@ test("code that catches it and ends soon keeps its worker, and a loop gets anoth
   const seeds = `${FAILING}..${FAILING + 1}`;
   // The failing run is made once more to learn its lines.
   for (const [how, served] of [["once", [1, 2, 3]], ["loop", [1, 1, 1]]]) {
-    const { errors } = recorded(wordsOf(seeds, "--", how, "prints"));
-    assert.equal(errors, served.map((run) => `serves run ${run} of its worker\n`).join(""), how);
+    const { stderr } = recorded(wordsOf(seeds, "--", how, "prints"));
+    assert.equal(stderr, served.map((run) => `serves run ${run} of its worker\n`).join(""), how);
   }
 });
 
@@ -76,5 +71,5 @@ test("what `init` prints is printed, also after a run that was over for its agen
   writeFileSync(module, `${readFileSync(module, "utf8")}export function init() { console.error("filled"); }\n`);
   const words = [module, "--agents", "2", "--buffers", "4", "--seeds", "1..3", "--check", "0"];
   // The first run is made once more to learn its lines. What it prints at the end, when it is made again, is left out.
-  assert.equal(recorded(words).errors, "filled\n".repeat(4));
+  assert.equal(recorded(words).stderr, "filled\n".repeat(4));
 });

@@ -26,13 +26,10 @@ export default function agent({ buffers, agent: self }) {
 }
 `;
 
-/** @param {string[]} words */
-const recorded = (...words) => commandThere(words);
-
 test("unordered accesses that no state shows are found by real runs, shown and kept", async (context) => {
   const module = moduleOf(context, EXCHANGE);
   const out = temporaryFolder(context);
-  const done = await recorded(module, "--all", "--seeds", "1..6", "--out", out);
+  const done = await commandThere([module, "--all", "--seeds", "1..6", "--out", out]);
   assert.equal(done.status, 1, done.stderr);
   const [first, found, shown, states, learned] = done.stdout.split("\n");
   assert.equal(first, "every schedule of 2 agents was tried: agents can race");
@@ -43,16 +40,16 @@ test("unordered accesses that no state shows are found by real runs, shown and k
   assert.match(states, /^ {2}4 states, 4 acts; /);
   assert.match(learned, /; 6 real runs agree$/);
   assert.match(done.stdout, /\nkept in .*: all\.automata\.json, all-1\.json, all-1\.report, all-1\.trace\.jsonl, /);
-  const replayed = await recorded(module, "--replay", join(out, "all-1.json"));
+  const replayed = await commandThere([module, "--replay", join(out, "all-1.json")]);
   assert.match(replayed.stdout, /1 of 1 run failed: 1 race/);
-  const json = JSON.parse((await recorded(module, "--all", "--seeds", "1..6", "--format", "json")).stdout);
+  const json = JSON.parse((await commandThere([module, "--all", "--seeds", "1..6", "--format", "json"])).stdout);
   const [{ kind, runs, seed, states: inStates }] = json.found;
   assert.deepEqual([kind, seed, inStates], ["race", Number(firstSeed), 0]);
   assert.ok(runs > 0 && runs <= 6);
 });
 
 test("if not every schedule was tried, they are in the summary of the seeds", async (context) => {
-  const done = await recorded(moduleOf(context, EXCHANGE), "--all", "--states", "2", "--seeds", "1..6");
+  const done = await commandThere([moduleOf(context, EXCHANGE), "--all", "--states", "2", "--seeds", "1..6"]);
   assert.equal(done.status, 1, done.stderr);
   assert.match(done.stdout, /^not every schedule was tried: all of up to 0 acts were, 2 states; there are more\n/);
   assert.match(done.stdout, /\n\d of 6 runs failed: \d race/);
@@ -63,9 +60,8 @@ test("a data race of a real run contradicts a search without conflicts", async (
 export default ({ buffers }) => void (new Int32Array(buffers[0])[0] += 1);
 `), trace: true, seed: 1 });
   assert.equal(races.ending, "race");
-  const contradicts = /^the run of seed 1 has a data race, and .* none that does: agent/;
-  assert.throws(() => new OnlyRuns([], simulatorAt()).take(races, true), (/** @type {any} */ problem) =>
-    problem instanceof NotAsLearned && contradicts.test(problem.message));
+  const message = /^the run of seed 1 has a data race, and .* none that does: agent/;
+  assert.throws(() => new OnlyRuns([], simulatorAt()).take(races, true), { constructor: NotAsLearned, message });
   const unordered = await record({ module: moduleOf(context, EXCHANGE), trace: true, seed: 1 });
   assert.equal(unordered.ending, "race");
   const only = new OnlyRuns([], simulatorAt());
@@ -78,10 +74,10 @@ export default ({ buffers }) => void (new Int32Array(buffers[0])[0] += 1);
 
 test("runs that meet a limit, or in which nothing was tried, are listed", async (context) => {
   const words = [moduleOf(context, COUNTS), "--all", "--seeds", "1..3", "--max-moves", "2"];
-  const met = await recorded(...words);
+  const met = await commandThere(words);
   assert.equal(met.status, 1, met.stderr);
   assert.match(met.stdout, /: agents can meet a limit\n {2}limit, in 3 of 3 real runs, seed 1 the first\n {4}more /);
-  const allowed = await recorded(...words, "--limits", "allow");
+  const allowed = await commandThere([...words, "--limits", "allow"]);
   assert.equal(allowed.status, 0, allowed.stderr);
   const module = moduleOf(context, "export const setup = { agents: 2, buffers: [4] };\nexport default () => {};\n");
   const wanted = /: agents can fail in another way\n {2}failed, in 2 of 2 real runs, .*\n .*: nothing was tried\n/;
@@ -90,9 +86,8 @@ test("runs that meet a limit, or in which nothing was tried, are listed", async 
 
 test("a `check` that finds something else in the same bytes isn't as it was learned", async (context) => {
   const module = moduleOf(context, `${COUNTS}let calls = 0;\nexport const check = () => (calls += 1) < 3;\n`);
-  const problem = await everySchedule({ module, seeds: 6 }).catch((error) => error);
-  assert.ok(problem instanceof NotAsLearned, problem);
-  assert.match(problem.message, /^the run of seed \d fails check, .*: check returned false\. `check` may go by some/);
+  const message = /^the run of seed \d fails check, .*: check returned false\. `check` may go by some/;
+  await assert.rejects(everySchedule({ module, seeds: 6 }), { constructor: NotAsLearned, message });
 });
 
 test("a run whose trace lacks accesses isn't compared, and the summary says so", async (context) => {

@@ -12,16 +12,9 @@ import { searched } from "../../lib/every/search/searched-file.mjs";
 import { NotAsLearned, Refused, everySchedule, record } from "../../recorder.mjs";
 import { assertAgents } from "../../testing.mjs";
 import { BODIES, moduleOf as nastyOf } from "../every/nasty.mjs";
-import { agentsPath, commandThere, moduleOf, temporaryFolder } from "../helpers/common.mjs";
+import { RECORD, agentsPath, commandThere, moduleOf, temporaryFolder } from "../helpers/common.mjs";
 
-const RECORD = fileURLToPath(new URL("../../record.mjs", import.meta.url));
 const EXAMPLES = fileURLToPath(new URL("../../examples/", import.meta.url));
-
-/** @param {string[]} words @returns {Promise<{ status: number | null, out: string, problems: string }>} */
-const recorded = async (...words) => {
-  const { status, stdout, stderr } = await commandThere(words);
-  return { status, out: stdout, problems: stderr };
-};
 
 const OTHER_NEXT = "Object.getPrototypeOf([][Symbol.iterator]()).next = () => ({ done: true });";
 
@@ -37,10 +30,10 @@ export default function agent({ buffers, agent: self }) {
 test("a right lock: every schedule was tried, and nothing was found", async (context) => {
   const out = temporaryFolder(context);
   const module = join(EXAMPLES, "mutex-three-state.agents.mjs");
-  const done = await recorded(module, "--all", "--seeds", "1..20", "--out", out);
-  assert.equal(done.problems, "");
+  const done = await commandThere([module, "--all", "--seeds", "1..20", "--out", out]);
+  assert.equal(done.stderr, "");
   assert.equal(done.status, 0);
-  const [first, states, learned, ...rest] = done.out.split("\n");
+  const [first, states, learned, ...rest] = done.stdout.split("\n");
   assert.equal(first, "every schedule of 3 agents was tried: none deadlocks, throws, has a data race or fails check; "
     + "from every state all agents can still end");
   assert.match(states, /^ {2}3,620 states, 9,333 acts; 1 final state: /);
@@ -58,20 +51,21 @@ test("a right lock: every schedule was tried, and nothing was found", async (con
 test("a lost wake-up is found, and shown by a run of the code that can be replayed", async (context) => {
   const out = temporaryFolder(context);
   const module = join(EXAMPLES, "mutex-naive.agents.mjs");
-  const done = await recorded(module, "--all", "--seeds", "1..5", "--out", out);
-  assert.equal(done.status, 1, done.problems);
-  assert.match(done.out, /^every schedule of 3 agents was tried: agents can deadlock\n/);
-  assert.match(done.out, /agent \d waits at BELL: its call 1, .* at mutex-naive.mjs:23:15/);
-  assert.match(done.out, /all-1\.json, all-1\.report, all-1\.trace\.jsonl, all-1\.explained, all-1\.svg, all-1\.html/);
-  const replayed = await recorded(module, "--replay", join(out, "all-1.json"));
-  assert.equal(replayed.status, 1, replayed.problems);
-  assert.match(replayed.out, /1 of 1 run failed: 1 deadlock/);
+  const { status, stdout, stderr } = await commandThere([module, "--all", "--seeds", "1..5", "--out", out]);
+  assert.equal(status, 1, stderr);
+  assert.match(stdout, /^every schedule of 3 agents was tried: agents can deadlock\n/);
+  assert.match(stdout, /agent \d waits at BELL: its call 1, .* at mutex-naive.mjs:23:15/);
+  assert.match(stdout, /all-1\.json, all-1\.report, all-1\.trace\.jsonl, all-1\.explained, all-1\.svg, all-1\.html/);
+  const replayed = await commandThere([module, "--replay", join(out, "all-1.json")]);
+  assert.equal(replayed.status, 1, replayed.stderr);
+  assert.match(replayed.stdout, /1 of 1 run failed: 1 deadlock/);
 });
 
 test("JSON has what the text says", async () => {
-  const done = await recorded(join(EXAMPLES, "late-notify.agents.mjs"), "--all", "--seeds", "1..5", "--format", "json");
-  assert.equal(done.status, 1, done.problems);
-  const { areAlike, every, closed, found, notProved, realRuns, searchProved, states } = JSON.parse(done.out);
+  const words = ["--all", "--seeds", "1..5", "--format", "json"];
+  const done = await commandThere([join(EXAMPLES, "late-notify.agents.mjs"), ...words]);
+  assert.equal(done.status, 1, done.stderr);
+  const { areAlike, every, closed, found, notProved, realRuns, searchProved, states } = JSON.parse(done.stdout);
   assert.deepEqual({ every, closed, realRuns, states }, { every: 1, closed: true, realRuns: 5, states: 428 });
   assert.equal(areAlike, false);
   assert.deepEqual([searchProved, notProved], [true, null]);
@@ -154,6 +148,14 @@ test("what a module throws is learned as it is written", async (context) => {
   }
 });
 
+/**
+ * An agent does something else than was learned.
+ * @param {object} options of everySchedule
+ * @param {RegExp} [message]
+ */
+const demandNotAsLearned = (options, message = /./) =>
+  assert.rejects(everySchedule({ seeds: 1, ...options }), { constructor: NotAsLearned, message });
+
 test("what agents do before any call is learned a second time", async (context) => {
   const module = moduleOf(context, `let runs = 0;
 export const setup = { agents: 2, buffers: [8] };
@@ -162,25 +164,22 @@ export default function agent({ agent: self }) {
   if (runs > 1) throw new Error("not the first, " + self);
 }
 `);
-  const problem = await everySchedule({ module, seeds: 1 }).catch((error) => error);
-  assert.ok(problem instanceof NotAsLearned, problem);
+  await demandNotAsLearned({ module });
 });
 
 test("agents that keep something from run to run aren't as they were learned", async () => {
-  const problem = await everySchedule({ module: agentsPath("remembers"), seeds: 20 }).catch((error) => error);
-  assert.ok(problem instanceof NotAsLearned, problem);
-  assert.match(problem.message, /does something else than was learned\. .* keep something from run to run: with --f/);
-  const done = await recorded(agentsPath("remembers"), "--all", "--seeds", "1..20");
+  await demandNotAsLearned({ module: agentsPath("remembers"), seeds: 20 },
+    /does something else than was learned\. .* keep something from run to run: with --f/);
+  const done = await commandThere([agentsPath("remembers"), "--all", "--seeds", "1..20"]);
   assert.equal(done.status, 3);
-  assert.match(done.problems, /^record: .*does something else than was learned/);
+  assert.match(done.stderr, /^record: .*does something else than was learned/);
 });
 
 test("an agent that goes by the depth of its stack isn't as it was learned", async (context) => {
   const deep = "let n = 0;\n  const deep = () => { n += 1; deep(); };\n  try { deep(); } catch {}";
   const module = moduleOf(context, LOADS(`${deep}\n  Atomics.store(words, 1, n);`));
-  const problem = await everySchedule({ module, seeds: 1 }).catch((error) => error);
-  assert.ok(problem instanceof NotAsLearned, problem);
-  assert.match(problem.message, /something else than was learned.*\["store","Int32_0",1,\d+\]; and now it does: \[/);
+  await demandNotAsLearned({ module },
+    /something else than was learned.*\["store","Int32_0",1,\d+\]; and now it does: \[/);
   const other = moduleOf(context, LOADS(deep));
   assert.deepEqual((await everySchedule({ module: other, seeds: 1 })).found, []);
 });
@@ -194,7 +193,7 @@ test("with new workers for each run they are as they were learned", async () => 
 test("a real run that isn't a way through the automata is noticed", async (context) => {
   const out = temporaryFolder(context);
   const module = join(EXAMPLES, "mutex-three-state.agents.mjs");
-  await recorded(module, "--all", "--seeds", "1..2", "--out", out);
+  await commandThere([module, "--all", "--seeds", "1..2", "--out", out]);
   const file = readFileSync(join(out, "all.automata.json"), "utf8");
   const outcome = await record({ module, trace: true, seed: 3 });
   const right = new Agreement(programOf(JSON.parse(file)));
@@ -230,13 +229,13 @@ test("moments that were merged wrongly are noticed by the second learning", asyn
 
 test("if not every schedule can be tried, it goes on with the seeds", async () => {
   const module = join(EXAMPLES, "mutex-three-state.agents.mjs");
-  const done = await recorded(module, "--all", "--states", "500", "--seeds", "1..5");
-  assert.equal(done.status, 0, done.problems);
-  assert.match(done.out, /^not every schedule was tried: all of up to \d+ acts were, 500 states/);
-  assert.match(done.out, /the agents of automaton 0 have \d+ nodes; \d+ answers at [\w.-]+:\d+:\d+ lead on/);
-  assert.match(done.out, /\n5 runs: 5 finished\n/);
-  const json = await recorded(module, "--all", "--states", "500", "--seeds", "1..5", "--format", "json");
-  const { every, runs } = JSON.parse(json.out);
+  const done = await commandThere([module, "--all", "--states", "500", "--seeds", "1..5"]);
+  assert.equal(done.status, 0, done.stderr);
+  assert.match(done.stdout, /^not every schedule was tried: all of up to \d+ acts were, 500 states/);
+  assert.match(done.stdout, /the agents of automaton 0 have \d+ nodes; \d+ answers at [\w.-]+:\d+:\d+ lead on/);
+  assert.match(done.stdout, /\n5 runs: 5 finished\n/);
+  const json = await commandThere([module, "--all", "--states", "500", "--seeds", "1..5", "--format", "json"]);
+  const { every, runs } = JSON.parse(json.stdout);
   assert.equal(every.closed, false);
   assert.equal(runs, 5);
 });
@@ -244,30 +243,31 @@ test("if not every schedule can be tried, it goes on with the seeds", async () =
 test("what was found is shown if not every schedule can be tried, too", async (context) => {
   const out = temporaryFolder(context);
   const module = join(EXAMPLES, "mutex-naive.agents.mjs");
-  const done = await recorded(module, "--all", "--states", "1000", "--seeds", "1..1", "--out", out);
-  assert.equal(done.status, 1, done.problems);
-  assert.match(done.out, /^not every schedule was tried: all of up to \d+ acts were, 1,000 states; there are more\n/);
-  assert.match(done.out, /\n1 run: 1 finished\n/);
-  assert.match(done.out,
+  const words = [module, "--all", "--states", "1000", "--seeds", "1..1", "--out", out];
+  const { status, stdout, stderr } = await commandThere(words);
+  assert.equal(status, 1, stderr);
+  assert.match(stdout, /^not every schedule was tried: all of up to \d+ acts were, 1,000 states; there are more\n/);
+  assert.match(stdout, /\n1 run: 1 finished\n/);
+  assert.match(stdout,
     /\n {2}among those that were tried, agents can deadlock\n {2}deadlock, in \d+ states?; shown /);
-  assert.match(done.out, /\n {4}agent \d waits at BELL: its call \d/);
-  assert.match(done.out, /\nkept in .*: all-1\.json, all-1\.report, /);
-  const replayed = await recorded(module, "--replay", join(out, "all-1.json"));
-  assert.match(replayed.out, /1 of 1 run failed: 1 deadlock/);
+  assert.match(stdout, /\n {4}agent \d waits at BELL: its call \d/);
+  assert.match(stdout, /\nkept in .*: all-1\.json, all-1\.report, /);
+  const replayed = await commandThere([module, "--replay", join(out, "all-1.json")]);
+  assert.match(replayed.stdout, /1 of 1 run failed: 1 deadlock/);
 });
 
 test("an agent that never comes back ends its thread", async (context) => {
   const module = moduleOf(context, LOADS("if (self === 1) for (;;);"));
-  const done = await recorded(module, "--all", "--seeds", "1..2", "--seconds", "1");
-  assert.match(done.out, /^not every schedule was tried: an agent that was called alone didn't come back within 1 s/);
-  assert.equal(done.status, 1);
+  const { status, stdout } = await commandThere([module, "--all", "--seeds", "1..2", "--seconds", "1"]);
+  assert.match(stdout, /^not every schedule was tried: an agent that was called alone didn't come back within 1 s/);
+  assert.equal(status, 1);
 });
 
 test("an agent that catches everything is broken off", async (context) => {
   const module = moduleOf(context, LOADS("for (;;) try { Atomics.add(words, 0, 1); } catch {}"));
-  const done = await recorded(module, "--all", "--seeds", "1..2", "--seconds", "2");
+  const done = await commandThere([module, "--all", "--seeds", "1..2", "--seconds", "2"]);
   const late = /^not every schedule was tried: an agent .* alone didn't come back within 2 s: .* catches everything/;
-  assert.match(done.out, late);
+  assert.match(done.stdout, late);
 });
 
 test("options that don't go with it are refused by name", async () => {
@@ -276,14 +276,14 @@ test("options that don't go with it are refused by name", async () => {
     ["--shard", "1/2"], ["--replay", "x.json"], ["--clock", "real"], ["--ordinary", "store"],
     ["--ordinary", "refuse"], ["--races", "allow"], ["--unrecorded", "allow"], ["--timeouts", "0"],
   ]) {
-    const done = await recorded(module, "--all", ...words);
+    const done = await commandThere([module, "--all", ...words]);
     assert.equal(done.status, 2, words.join(" "));
-    assert.ok(done.problems.includes(words[0]) && done.problems.includes("doesn't go with --all"), done.problems);
+    assert.ok(done.stderr.includes(words[0]) && done.stderr.includes("doesn't go with --all"), done.stderr);
   }
-  const program = await recorded("--program", RECORD, "--all");
-  assert.match(program.problems, /--program doesn't go with --all/);
+  const program = await commandThere(["--program", RECORD, "--all"]);
+  assert.match(program.stderr, /--program doesn't go with --all/);
   for (const word of ["--within", "--states"]) {
-    assert.match((await recorded(module, word, "5")).problems, new RegExp(`${word} needs --all`));
+    assert.match((await commandThere([module, word, "5"])).stderr, new RegExp(`${word} needs --all`));
   }
   await assert.rejects(everySchedule({ module, init: () => {} }), /`init` can't be given/);
 });
@@ -343,9 +343,7 @@ test("a time that is over at any moment, or never", async (context) => {
 
 test("an agent that changes the language's own objects isn't as it was learned", async (context) => {
   const module = moduleOf(context, LOADS("Math.abs = () => 1;"));
-  const problem = await everySchedule({ module, seeds: 2 }).catch((error) => error);
-  assert.ok(problem instanceof NotAsLearned, problem);
-  assert.match(problem.message, /changes the language's own objects/);
+  await demandNotAsLearned({ module, seeds: 2 }, /changes the language's own objects/);
 });
 
 test("modules that import from each other in all forms are learned as they are written", async (context) => {
