@@ -60,6 +60,12 @@ export function placesOf(name, text) {
   });
 }
 
+/** The first of these places, as the recorder reports it. @param {string} name @param {string} text */
+export function placeIn(name, text) {
+  const [{ line, column }] = placesOf(name, text);
+  return `${name}.mjs:${line}:${column}`;
+}
+
 /**
  * The lines of the summary of some outcomes.
  * @param {Outcome[]} outcomes

@@ -7,25 +7,18 @@ import { join } from "node:path";
 import { after, describe, it } from "node:test";
 import { pathToFileURL } from "node:url";
 import { REAL_ANSWER } from "../../lib/board/drawn-schedule.mjs";
-import { defaultsOf } from "../../lib/options/table.mjs";
-import { ProgramGroup } from "../../lib/program/program-group.mjs";
 import { areSame } from "../../lib/run/same.mjs";
 import { TIMES_TRIED } from "../../lib/run/summary-words.mjs";
 import { programDivergenceText } from "../../lib/shorter/differing.mjs";
 import { CLOSED, LISTENS, ONE_THREAD, RACE } from "../helpers/real-programs.mjs";
 import { temporaryFolder } from "../helpers/common.mjs";
 import { withShell } from "../helpers/needs.mjs";
+import { programGroup } from "../helpers/program-groups.mjs";
 import { programOf } from "../helpers/whole-programs.mjs";
 
-/** @type {Promise<ProgramGroup> | undefined} */
+/** @type {ReturnType<typeof programGroup> | undefined} */
 let opened;
 after(async () => (await opened)?.close());
-
-/** @param {string} module of the first program @returns {Promise<ProgramGroup>} */
-async function groupWith(module) {
-  const options = { ...defaultsOf("record"), program: true, seconds: 20, module, args: [], programOutput: "none" };
-  return /** @type {ProgramGroup} */ (await ProgramGroup.open(/** @type {any} */ (options)));
-}
 
 /**
  * @param {import("node:test").TestContext} context
@@ -34,7 +27,7 @@ async function groupWith(module) {
  */
 async function runsBy(context, files) {
   const module = pathToFileURL(programOf(context, files)).href;
-  opened ??= groupWith(module);
+  opened ??= programGroup(module, { programOutput: "none" });
   const group = await opened;
   group.enter(module);
   return (wanted) => group.one({ seed: 1, whole: true, wantsActs: true, isSilent: true, ...wanted });

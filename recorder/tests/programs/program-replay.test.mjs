@@ -11,13 +11,12 @@ import { RunStore } from "../../lib/keeping/run-store.mjs";
 import { keepProgram, keptProgram } from "../../lib/keeping/kept-program.mjs";
 import { runKindOf } from "../../lib/options/run-kinds.mjs";
 import { Refused } from "../../lib/options/refused.mjs";
-import { defaultsOf } from "../../lib/options/table.mjs";
-import { ProgramGroup } from "../../lib/program/program-group.mjs";
 import { shorten } from "../../lib/shorter/shorten.mjs";
 import { explore } from "../../recorder.mjs";
 import { commandHere } from "../helpers/command-here.mjs";
 import { commandNow, temporaryFolder } from "../helpers/common.mjs";
 import { firstFailing } from "../helpers/groups.mjs";
+import { programGroup } from "../helpers/program-groups.mjs";
 import { WORKER, mainWith, programIn, programOf } from "../helpers/whole-programs.mjs";
 
 // Main looks at the word when the first message has come. The worker may have stored it or not.
@@ -228,9 +227,7 @@ test("a run in fresh threads is shortened by runs in fresh threads", async (cont
       if (globalThis.times === 1 && Atomics.load(words, 0) > 3) throw new Error("too soon");`,
     "worker.mjs": `${WORKER}for (let time = 0; time < 3; time += 1) Atomics.add(words, 0, 1);`,
   });
-  const options = { ...defaultsOf("record"), program: true, seconds: 20, args: [],
-    module: pathToFileURL(program).href };
-  const group = await ProgramGroup.open(/** @type {any} */ ({ ...options, fresh: true }));
+  const group = await programGroup(pathToFileURL(program).href, { fresh: true });
   context.after(() => group.close());
   const { shortened } = await shorten(group, await firstFailing(group), { milliseconds: 60_000, most: 5 });
   assert.doesNotMatch(shortened.unchanged ?? "", /couldn't be made again/);

@@ -6,9 +6,8 @@ import { readFileSync } from "node:fs";
 import { join } from "node:path";
 import { after, before, describe, it } from "node:test";
 import { pathToFileURL } from "node:url";
-import { defaultsOf } from "../../lib/options/table.mjs";
-import { ProgramGroup } from "../../lib/program/program-group.mjs";
 import { temporaryFolder } from "../helpers/common.mjs";
+import { programGroup } from "../helpers/program-groups.mjs";
 import { WORKER, mainWith, programOf } from "../helpers/whole-programs.mjs";
 
 const MAIN = mainWith(4);
@@ -16,16 +15,10 @@ const EXITS = { "main.mjs": `${MAIN}started();`, "worker.mjs": "process.exit(3);
 const LEAVES_TICK = { ...EXITS, "worker.mjs": "process.nextTick(() => {});\nprocess.exit(3);" };
 const ANSWERS = `${WORKER}parentPort.on("message", (value) => parentPort.postMessage(value));`;
 
-/**
- * @param {string} module the URL of a program
- * @param {{ seconds?: number, web?: boolean }} [options]
- * @returns {Promise<ProgramGroup>}
- */
-async function opened(module, { seconds = 20, web = false } = {}) {
-  // Pilots would be further runs.
-  const options = { ...defaultsOf("record"), program: true, everywhere: true, seconds, args: [], web, module };
-  return /** @type {ProgramGroup} */ (await ProgramGroup.open(options));
-}
+/** @typedef {import("../../lib/program/program-group.mjs").ProgramGroup} ProgramGroup */
+
+/** Without pilots, which would be further runs. @param {string} module a program's URL @param {object} [options] */
+const opened = (module, options = {}) => programGroup(module, { everywhere: true, ...options });
 
 /**
  * Opens a group for a program, has something done with it, and closes it.

@@ -2,14 +2,12 @@
 // what goes wrong is found with its thread and line.
 
 import assert from "node:assert/strict";
-import { mkdirSync, readFileSync, readdirSync, writeFileSync } from "node:fs";
+import { readFileSync, readdirSync } from "node:fs";
 import { dirname, join } from "node:path";
 import { after, before, describe, it, test } from "node:test";
 import { pathToFileURL } from "node:url";
 import { checkedBy } from "../../lib/check/check.mjs";
-import { defaultsOf } from "../../lib/options/table.mjs";
 import { GRAPH_FLAGS } from "../../lib/program/graph-flags.cjs";
-import { ProgramGroup } from "../../lib/program/program-group.mjs";
 import { simulatorAt } from "../../lib/simulator/chosen.mjs";
 import { record } from "../../recorder.mjs";
 import { assertProgram } from "../../testing.mjs";
@@ -17,8 +15,10 @@ import { Browser, withBrowser } from "../helpers/browser.mjs";
 import { commandNow, jsonOf, nodeNow, temporaryFolder } from "../helpers/common.mjs";
 import { CHECKER } from "../helpers/needs.mjs";
 import { TableRuns } from "../helpers/program-findings.mjs";
+import { programGroup } from "../helpers/program-groups.mjs";
+import { seedsTo } from "../helpers/recorded.mjs";
 import { linesInBrowser } from "../helpers/web-page.mjs";
-import { programOf, runsOf } from "../helpers/whole-programs.mjs";
+import { programIn, programOf, runsOf } from "../helpers/whole-programs.mjs";
 import { runsInRecorder } from "../programs/order.mjs";
 import { PROGRAMS } from "../programs/table.mjs";
 
@@ -32,13 +32,9 @@ const linesOf = (name) => readFileSync(new URL(name.replace(/mjs$/, "lines"), FO
 
 /** Little programs are written to this folder, one after the other, and run in the same threads. */
 const room = temporaryFolder();
-/** @type {ProgramGroup} */
+/** @type {Awaited<ReturnType<typeof programGroup>>} */
 let group;
-before(async () => {
-  const module = pathToFileURL(join(room, "main.mjs")).href;
-  const options = { ...defaultsOf("record"), program: true, web: true, seconds: 20, args: [], module };
-  group = /** @type {ProgramGroup} */ (await ProgramGroup.open(options));
-});
+before(async () => { group = await programGroup(pathToFileURL(join(room, "main.mjs")).href, { web: true }); });
 after(() => group.close());
 
 /**
@@ -49,13 +45,9 @@ after(() => group.close());
  * @returns {Promise<(import("../../lib/run/outcome.mjs").Outcome & import("../../lib/check/check.mjs").Check)[]>}
  */
 async function webRuns(files, seeds = 1, needsTrace = false) {
-  for (const [name, text] of Object.entries(files)) {
-    mkdirSync(dirname(join(room, name)), { recursive: true });
-    writeFileSync(join(room, name), text);
-  }
-  group.enter(pathToFileURL(join(room, "main.js" in files ? "main.js" : "main.mjs")).href);
+  group.enter(pathToFileURL(programIn(room, files)).href);
   const outcomes = [];
-  const wanted = Array.from({ length: seeds }, (_, at) => ({ seed: at + 1, whole: true, needsTrace, isSilent: true }));
+  const wanted = seedsTo(seeds).map((seed) => ({ seed, whole: true, needsTrace, isSilent: true }));
   await group.run(wanted, (outcome, judgement, aside) => {
     outcomes.push(checkedBy(simulatorAt(CHECKER), { outcome, judgement, aside }));
   });
@@ -332,14 +324,10 @@ test("a thread's first run that fetches goes the same way again: node makes no t
     const words = new Int32Array(new SharedArrayBuffer(4));
     new Worker("w.js").postMessage(words);
     for (let at = 0; at < 50; at += 1) Atomics.add(words, 0, 1);`, "w.js": "onmessage = () => {};" });
-  const options = { ...defaultsOf("record"), program: true, web: true, args: [], module: pathToFileURL(main).href };
-  const own = /** @type {ProgramGroup} */ (await ProgramGroup.open(options));
-  try {
-    const wanted = { seed: 1, whole: true, needsTrace: true, isSilent: true };
-    await own.run([wanted], ({ detail, noTrace }) => { assert.deepEqual([detail, noTrace], ["", undefined]); });
-  } finally {
-    await own.close();
-  }
+  const own = await programGroup(pathToFileURL(main).href, { web: true });
+  context.after(() => own.close());
+  const { outcome } = await own.one({ seed: 1, whole: true, needsTrace: true, isSilent: true });
+  assert.deepEqual([outcome.detail, outcome.noTrace], ["", undefined]);
 });
 
 test("functions that node shares with browsers still work", async () => {
@@ -405,14 +393,13 @@ test("a kept run knows that it is one for browsers, and is made again", (context
     "w.js": "onmessage = ({ data }) => {\n  if (Atomics.load(data, 0) === 0) Atomics.wait(data, 1, 0);\n};",
   });
   const out = join(dirname(main), "found");
-  const run = (...words) => commandNow(words);
   const words = ["--seeds", "1..50", "--fail-fast", "--no-shorten", "--out", out];
-  const { status, stdout } = run("--program", main, "--web", ...words);
+  const { status, stdout } = commandNow(["--program", main, "--web", ...words]);
   assert.equal(status, 1, stdout);
   const [, seed] = /^first failing seed: (\d+), deadlock$/m.exec(stdout) ?? [];
   const kept = join(out, `seed-${seed}.program.json`);
   assert.deepEqual(JSON.parse(readFileSync(kept, "utf8")).options, { web: true });
-  const again = run("--replay", kept);
+  const again = commandNow(["--replay", kept]);
   assert.equal(again.status, 1, again.stderr);
   assert.match(again.stdout, /agent 1 \(w\.js, started at main\.mjs:1:16\) waits at byte 4 of block 0/);
 });

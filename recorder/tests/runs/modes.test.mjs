@@ -7,7 +7,7 @@ import { before, describe, it } from "node:test";
 import { UNSEEN } from "../../lib/run/transcript.mjs";
 import { PROGRAMS } from "../agents/modes.mjs";
 import { agentsPath } from "../helpers/common.mjs";
-import { different, hexOf, placesOf, recorded, seedsTo, summaryLines } from "../helpers/recorded.mjs";
+import { different, hexOf, placeIn, placesOf, recorded, seedsTo, summaryLines } from "../helpers/recorded.mjs";
 
 const MODES = ["watch", "store", "refuse"];
 const NAMES = Object.keys(PROGRAMS);
@@ -130,8 +130,7 @@ describe("ordinary accesses in each mode", () => {
     for (const { ending, detail, progress, calls, answers } of [...watch, ...store]) {
       assert.equal(ending, "deadlock");
       const own = 'agent 0 waits at byte 0 of block 0: its call 2, ["wait", "Int32_b0", 0, 0]';
-      const [{ line, column }] = placesOf("modes", "wait(words, 0, 0)");
-      assert.equal(detail, `${own}, at modes.mjs:${line}:${column}, which is 4 in the script`);
+      assert.equal(detail, `${own}, at ${placeIn("modes", "wait(words, 0, 0)")}, which is 4 in the script`);
       assert.deepEqual([progress[0], calls, answers[0]], [{ returned: 2, calls: 3 }, 4, ["0", "0", null]]);
     }
   });

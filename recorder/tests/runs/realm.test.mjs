@@ -6,7 +6,6 @@ import assert from "node:assert/strict";
 import { writeFileSync } from "node:fs";
 import { join } from "node:path";
 import { after, before, describe, test } from "node:test";
-import { pathToFileURL } from "node:url";
 import { Group } from "../../lib/run/group.mjs";
 import { Refused, record } from "../../recorder.mjs";
 import { ASKS } from "../agents/deep.mjs";
@@ -506,16 +505,8 @@ test("a worker that takes the place of another one begins nothing before it is a
         process.exit(3);
       }
     }`);
-  const group = await Group.open({
-    module: pathToFileURL(path).href, args: [], agents: 2, buffers: [4], maxMoves: 100, seconds: 5, fresh: false,
-    everywhere: true,
-  });
-  const found = [];
-  try {
-    await group.run([1, 2, 3, 4, 5].map((seed) => ({ seed, whole: true })), (outcome) => found.push(outcome));
-  } finally {
-    await group.close();
-  }
+  const how = { module: path, agents: 2, buffers: [4], maxMoves: 100, everywhere: true };
+  const found = await recorded(how, [1, 2, 3, 4, 5]);
   assert.equal(found.length, 5);
   for (const { detail, bytes } of found) {
     assert.match(detail, /^agent 0's worker died: .*exit code 3$/);

@@ -5,13 +5,12 @@ import { test } from "node:test";
 import { setTimeout as sleep } from "node:timers/promises";
 import { fileURLToPath } from "node:url";
 import { moduleUrl } from "../../lib/library/module-url.mjs";
-import { defaultsOf } from "../../lib/options/table.mjs";
-import { ProgramGroup } from "../../lib/program/program-group.mjs";
 import { keepThread, keptThread } from "../../lib/processes/thread.mjs";
 import { Group } from "../../lib/run/group.mjs";
 import { Refused, record } from "../../recorder.mjs";
 import { agentsOf, agentsPath, temporaryFolder } from "../helpers/common.mjs";
 import { groupOf } from "../helpers/groups.mjs";
+import { programGroup } from "../helpers/program-groups.mjs";
 import { seedsTo } from "../helpers/recorded.mjs";
 
 const SEEDS = 20;
@@ -44,9 +43,7 @@ const WITH_PILOTS = { everywhere: false };
 const ofAgents = (options = {}) =>
   Group.open({ ...FIXED, module: moduleUrl(agentsPath("naive-mutex")), ...FEW_WORKERS, ...options });
 
-const ofProgram = () => ProgramGroup.open(/** @type {any} */ ({
-  ...defaultsOf("record"), ...FIXED, program: true, module: exampleUrl("count-together"),
-}));
+const ofProgram = () => programGroup(exampleUrl("count-together"), FIXED);
 
 test("a group that begins before the referee of an earlier one has finished has another thread", async (context) => {
   const group = await ofAgents();

@@ -9,7 +9,7 @@ import { NAMES } from "../agents/refused.mjs";
 import { Cases } from "../helpers/cases.mjs";
 import { agentsOf, agentsPath, recordCase, shellProgram, temporaryFolder } from "../helpers/common.mjs";
 import { CHECKER, withShell } from "../helpers/needs.mjs";
-import { placesOf, recorded } from "../helpers/recorded.mjs";
+import { placeIn, recorded } from "../helpers/recorded.mjs";
 
 /** Records a module of the tests. Sabsim checks the run where it is given. */
 function recordChecked(name, options) {
@@ -69,8 +69,7 @@ test("a run in which no agent calls Atomics is no pass, and its script has no ca
 test("a wait that nobody ends is a deadlock, reported with who waits where", async () => {
   const outcome = await recordCase("waitsForEver", { sabsim: CHECKER });
   assert.equal(outcome.ending, "deadlock");
-  const [{ line, column }] = placesOf("cases", "wait(words(buffers), 1, 0)");
-  const where = `at cases.mjs:${line}:${column}`;
+  const where = `at ${placeIn("cases", "wait(words(buffers), 1, 0)")}`;
   assert.equal(outcome.detail, `agent 0 waits at byte 4 of block 0: its call 0, ["wait", "Int32", 1, 0], ${where}`);
   assert.deepEqual(outcome.answers, [[null], ["0"]]);
   assert.deepEqual(outcome.progress[0], { returned: 0, calls: 1 });

@@ -210,8 +210,6 @@ test("a run that can't be made again stays as it was found", async (context) => 
   assert.deepEqual(readdirSync(out).sort(), endings.map((ending) => `seed-3.${ending}`));
 });
 
-/** Runs the command line in a process of its own. @param {string[]} words */
-
 /** Runs the command line on the program `bell` with an own folder, and returns what it kept there. */
 async function keptBy(context, run, ...words) {
   const out = temporaryFolder(context);

@@ -4,7 +4,7 @@ import assert from "node:assert/strict";
 import { before, describe, it } from "node:test";
 import { SCRIPT_LIMITS } from "../../script/limits.mjs";
 import { agentsPath } from "../helpers/common.mjs";
-import { placesOf, recorded, seedsTo, summaryLines } from "../helpers/recorded.mjs";
+import { placeIn, recorded, seedsTo, summaryLines } from "../helpers/recorded.mjs";
 
 /**
  * The outcomes of some ways to go on, by their names. With a trace each run is made once, and is the next way. There
@@ -20,11 +20,8 @@ async function outcomesOf(ways, seconds) {
 const ENDING = ["load", "compareExchange", "ordinary", "strides", "counts", "deadline"];
 const ENDLESS = ["alternately", "nothing"];
 
-/** The place of a text in the agents' code, as the recorder reports it. */
-function placeOf(text) {
-  const [{ line, column }] = placesOf("spins", text);
-  return `spins.mjs:${line}:${column}`;
-}
+/** The place of a text in the agents' code. */
+const placeOf = (text) => placeIn("spins", text);
 
 const { calls: MOST } = SCRIPT_LIMITS;
 
@@ -79,10 +76,7 @@ describe("agents that go on and on", () => {
     });
     assert.equal(ending, "limit");
     const [spin, ...sleepers] = detail.split("\n");
-    const at = (text) => {
-      const [{ line, column }] = placesOf("sleeps-beside", text);
-      return `sleeps-beside.mjs:${line}:${column}`;
-    };
+    const at = (text) => placeIn("sleeps-beside", text);
     assert.equal(spin, `agent 1 spins at ${at("load(words, 1) === 0")}: it has made ${MOST} calls, and goes on`);
     assert.deepEqual(sleepers.sort(), [
       `agent 0 waits at BELL: its call 0, ["wait", "BELL", 0, 0], at ${at("wait(words, 0, 0)")}`,

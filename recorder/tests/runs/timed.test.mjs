@@ -15,7 +15,7 @@ import { assertAgents } from "../../testing.mjs";
 import { agentsPath, temporaryFolder } from "../helpers/common.mjs";
 import { groupOf } from "../helpers/groups.mjs";
 import { runNode } from "../helpers/programs.mjs";
-import { placesOf, recorded, seedsTo, summaryLines } from "../helpers/recorded.mjs";
+import { different, placeIn, recorded, seedsTo, summaryLines } from "../helpers/recorded.mjs";
 
 const { timeouts: DEFAULT_TIMEOUTS } = defaultsOf("record");
 
@@ -40,13 +40,7 @@ async function outcomesOf(name, seeds, options = {}) {
 /** The words of the buffer at the end. */
 const wordsOf = ({ bytes }) => [...new Int32Array(Uint8Array.from(Buffer.from(bytes[0], "hex")).buffer)];
 
-/** Where the code waits, as the recorder reports it. */
-function placeOf(text) {
-  const [{ line, column }] = placesOf("timed", text);
-  return `timed.mjs:${line}:${column}`;
-}
-
-const endingsOf = (outcomes) => [...new Set(outcomes.map(({ ending }) => ending))].sort();
+const endingsOf = (outcomes) => different(outcomes, "ending");
 
 /** What is reported of waits that ended only because their time was up. */
 const hiddenOf = (outcomes) => summaryLines(outcomes).filter((line) => line.includes("only because"));
@@ -145,7 +139,7 @@ describe("runs with timed waits", { concurrency: 2 }, () => {
       assert.deepEqual(endingsOf(outcomes), ["finished"]);
       const count = outcomes.filter(({ onlyByTime = [] }) => onlyByTime.length > 0).length;
       assert.ok(count > 0 && count < 50, `${count} runs`);
-      const line = `agent ${agent} went on at ${placeOf(text)} only because its 500 ms were over, `
+      const line = `agent ${agent} went on at ${placeIn("timed", text)} only because its 500 ms were over, `
         + `in ${count} of 50 runs`;
       assert.deepEqual(hiddenOf(outcomes), [line]);
     }
