@@ -33,9 +33,8 @@ const found = () => new Promise((done, fail) => {
 test("each global, and all that there is for memory, threads and time, has one row", async () => {
   const names = await found();
   assert.deepEqual(names.map(([owner]) => owner).sort(), Object.keys(SURFACE).sort());
-  const here = names.flatMap(([owner, list]) => {
-    return owner === "globalThis" ? list : list.map((name) => `${owner}.${name}`);
-  });
+  const here = names.flatMap(([owner, list]) =>
+    (owner === "globalThis" ? list : list.map((name) => `${owner}.${name}`)));
   assert.deepEqual(here.sort(), namesHere().sort());
 });
 

@@ -70,9 +70,8 @@ test("agents move that ask, that were woken, or that wait with a timeout, and al
 });
 
 test("the end of a wait's time is offered in a share of the draws, and always if nothing else can move", () => {
-  const timesUp = (phases, timeouts) => {
-    return drawn(boardAt(phases, { timeouts }), 1, 4_000).filter((agent) => phases[agent] === PHASE.WAITS_TIMED).length;
-  };
+  const timesUp = (phases, timeouts) =>
+    drawn(boardAt(phases, { timeouts }), 1, 4_000).filter((agent) => phases[agent] === PHASE.WAITS_TIMED).length;
   const two = [PHASE.ASKS, PHASE.WAITS_TIMED];
   // Where it is offered, it is one of two: 4,000 draws, times the share, times a half.
   assert.equal(timesUp(two, 0), 0);

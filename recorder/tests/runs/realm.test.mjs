@@ -108,9 +108,8 @@ describe("work that goes on later", () => {
   const call = "Atomics.add(words, 1, 1);";
 
   test("fails the run, before a call and after the last one, and the run says what goes on", async (context) => {
-    const all = later.flatMap(([name, body, word]) => {
-      return [`${body} ${call}`, `${call} ${body}`].map((both) => [name, both, word]);
-    });
+    const all = later.flatMap(([name, body, word]) =>
+      [`${body} ${call}`, `${call} ${body}`].map((both) => [name, both, word]));
     const { outcomes, lines } = await recordBodies(context, { top: IMPORTS, bodies: all.map(([, body]) => body) });
     outcomes.forEach(({ ending, detail }, at) => {
       const [name, , word] = all[at];

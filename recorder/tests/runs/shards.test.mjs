@@ -28,9 +28,8 @@ async function summaryOf(words) {
 }
 
 test("each seed is in exactly one shard, and the sizes of shards differ by at most one", () => {
-  const shards = (first, last, of) => {
-    return Array.from({ length: of }, (_, at) => shardOf({ first, last }, { number: at + 1, of }));
-  };
+  const shards = (first, last, of) =>
+    Array.from({ length: of }, (_, at) => shardOf({ first, last }, { number: at + 1, of }));
   assert.deepEqual(shards(1, 10, 4), [
     { first: 1, last: 3 }, { first: 4, last: 6 }, { first: 7, last: 8 }, { first: 9, last: 10 },
   ]);

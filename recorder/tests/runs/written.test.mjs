@@ -224,9 +224,8 @@ test("an element of each kind, a DataView's too, has the code's kind", async (co
   const [outcome] = await recorded({ module, agents: 1, trace: true }, [1]);
   const { output } = simulated(["replay", "--format", "json"], outcome.script);
   const { steps, rows } = new Run(pageData(outcome, output, pathToFileURL(module).href));
-  const lines = steps.map(({ text, answer, changes }) => {
-    return [`${text} ${answer}`.trim(), ...changes.map(({ name, before, after }) => `${name} ${before} ${after}`)];
-  });
+  const lines = steps.map(({ text, answer, changes }) =>
+    [`${text} ${answer}`.trim(), ...changes.map(({ name, before, after }) => `${name} ${before} ${after}`)]);
   assert.deepEqual(lines, [
     ["the start", "ratio 0 0.125"],
     ["writes Int8_b1[1]", "Int8_b1[1] 0 -3"],
