@@ -4,6 +4,7 @@
 import { spawn } from "node:child_process";
 import { readdirSync } from "node:fs";
 import { fileURLToPath } from "node:url";
+import { endOf } from "../helpers/common.mjs";
 
 const FOLDER = new URL("./order/", import.meta.url);
 const SECONDS = 120;
@@ -32,22 +33,14 @@ export function pathOf(name) {
  * @returns {Promise<{ lines: string[], status: number | null, signal: string | null, problems: string }>} what it
  *   printed, how it ended, and what it wrote to stderr
  */
-export function runInNode(path, { args = [], whenPrinted = () => {} } = {}) {
+export async function runInNode(path, { args = [], whenPrinted = () => {} } = {}) {
   const options = { stdio: /** @type {const} */ (["ignore", "pipe", "pipe"]), timeout: SECONDS * 1_000 };
   const child = spawn(process.execPath, [path, ...args], options);
-  const texts = { stdout: "", stderr: "" };
-  for (const name of /** @type {const} */ (["stdout", "stderr"])) {
-    child[name].setEncoding("utf8").on("data", (text) => {
-      texts[name] += text;
-      if (name === "stdout") whenPrinted(texts.stdout, child.pid);
-    });
-  }
-  return new Promise((done, fail) => {
-    child.on("error", fail);
-    child.on("close", (status, signal) => {
-      done({ lines: texts.stdout.split("\n").slice(0, -1), status, signal, problems: texts.stderr });
-    });
-  });
+  const end = endOf(child);
+  let printed = "";
+  child.stdout.on("data", (text) => whenPrinted(printed += text, child.pid));
+  const { stdout, stderr: problems, status, signal } = await end;
+  return { lines: stdout.split("\n").slice(0, -1), status, signal, problems };
 }
 
 /**
@@ -67,16 +60,11 @@ export function runInNode(path, { args = [], whenPrinted = () => {} } = {}) {
 export async function runsInRecorder(names, seeds, { folder = FOLDER, options = {} } = {}) {
   const urls = names.map((name) => new URL(name, folder).href);
   const words = [RECORDING, String(seeds), JSON.stringify(options), ...urls];
-  const child = spawn(process.execPath, words, { stdio: ["ignore", "pipe", "pipe"] });
-  const texts = { stdout: "", stderr: "" };
-  for (const name of /** @type {const} */ (["stdout", "stderr"])) {
-    child[name].setEncoding("utf8").on("data", (text) => { texts[name] += text; });
-  }
-  await new Promise((done) => child.on("close", done));
+  const { stdout, stderr } = await endOf(spawn(process.execPath, words, { stdio: ["ignore", "pipe", "pipe"] }));
   // What the program prints goes to standard error, and between two runs there is a line with NUL.
-  const printed = texts.stderr.split("\0\n");
-  const endings = texts.stdout.split("\n").slice(0, -1);
-  if (endings.length !== names.length * seeds) throw new Error(`the recorder has ended: ${texts.stderr}`);
+  const printed = stderr.split("\0\n");
+  const endings = stdout.split("\n").slice(0, -1);
+  if (endings.length !== names.length * seeds) throw new Error(`the recorder has ended: ${stderr}`);
   const linesOf = (/** @type {string} */ text) =>
     text.split("\n").slice(0, -1).map((line) => line.replace(THREAD, "")).filter((line) => !WARNING.test(line));
   const runs = endings.map((line, at) => ({ ...JSON.parse(line), lines: linesOf(printed[at]) }));
