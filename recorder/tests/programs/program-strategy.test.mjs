@@ -4,7 +4,6 @@
 import assert from "node:assert/strict";
 import { readFileSync } from "node:fs";
 import { describe, it } from "node:test";
-import { Board } from "../../lib/board/board.mjs";
 import { waysOf } from "../../lib/board/strategy/ways.mjs";
 import { bytesAsked } from "../../lib/agent/effects.mjs";
 import { MESSAGES, MESSAGE_BYTES, loopPlace } from "../../lib/memory/blocks.mjs";
@@ -14,7 +13,9 @@ import { FLAG } from "../../lib/memory/log.mjs";
 import { byteOf } from "../../lib/memory/recorded-memory.mjs";
 import { Moves, TO_CHANNELS, toPort } from "../../lib/program/moves.mjs";
 import { emptyMemory } from "../helpers/boards.mjs";
-import { runsOf } from "../helpers/whole-programs.mjs";
+import { seedsTo } from "../helpers/recorded.mjs";
+import { startedBoard } from "../helpers/started-boards.mjs";
+import { finishing, runsOf } from "../helpers/whole-programs.mjs";
 
 const { WAITERS } = FLAG;
 const SEEDS = 400;
@@ -27,10 +28,8 @@ function asking(rules = {}) {
   const way = waysOf(strategy, true);
   // Of several ways a run takes one by its seed, also if they are alike.
   const ways = isMixed ? [...way, ...way] : way;
-  const board = new Board(emptyMemory(),
-    { agents, ways, maxMoves: 100_000, timeouts, early: isProgram ? 100 : undefined });
-  board.begin(seed);
-  for (let agent = 1; agent < agents; agent += 1) board.pass(agent - 1);
+  const memory = emptyMemory();
+  const board = startedBoard(agents, { seed, memory, ways, timeouts, early: isProgram ? 100 : undefined });
   for (let agent = 0; agent < agents; agent += 1) ask(board, agent, 400 + agent);
   return board;
 }
@@ -212,8 +211,8 @@ describe("findings", () => {
     const names = ["late-answer.mjs", "calls.mjs", "slow-worker.mjs"];
     const files = Object.fromEntries(names.map((name) => [name, fileOf(`calls/${name}`)]));
     const main = 'import "./late-answer.mjs";';
-    const seeds = Array.from({ length: 120 }, (_, at) => at + 1);
-    const failing = (await runsOf(context, { "main.mjs": main, ...files }, { seeds })).filter(({ fails }) => fails);
+    const outcomes = await runsOf(context, { "main.mjs": main, ...files }, { seeds: seedsTo(120) });
+    const failing = outcomes.filter(({ fails }) => fails);
     assert.ok(failing.length >= 1, "no seed fails");
     for (const { detail, onlyIf } of failing) {
       assert.match(detail, /^agent 0 threw Error: call \d: woken without an answer/);
@@ -222,17 +221,14 @@ describe("findings", () => {
   });
 
   it("code that tries again when its time is up ends", async (context) => {
-    const seeds = Array.from({ length: 12 }, (_, at) => at + 1);
-    const main = fileOf("deadline/race-of-promises.mjs");
-    const outcomes = await runsOf(context, { "main.mjs": main }, { seeds });
-    assert.deepEqual([...new Set(outcomes.map(({ ending, detail }) => ending + detail))], ["finished"]);
+    await finishing(context, { "main.mjs": fileOf("deadline/race-of-promises.mjs") }, { seeds: seedsTo(12) });
   });
 
   it("an await between look and take is found within ten seeds", async (context) => {
     const names = ["await-between.mjs", "pool.mjs", "worker.mjs"];
     const files = Object.fromEntries(names.map((name) => [name, fileOf(`pool/${name}`)]));
-    const seeds = Array.from({ length: 10 }, (_, at) => at + 1);
-    const outcomes = await runsOf(context, { "main.mjs": 'import "./await-between.mjs";', ...files }, { seeds });
+    const main = 'import "./await-between.mjs";';
+    const outcomes = await runsOf(context, { "main.mjs": main, ...files }, { seeds: seedsTo(10) });
     assert.ok(outcomes.some(({ ending, detail }) => ending === "failed" && /resolve/.test(detail)));
   });
 });

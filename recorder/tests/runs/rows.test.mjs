@@ -4,9 +4,7 @@
 import assert from "node:assert/strict";
 import { readdirSync } from "node:fs";
 import { describe, it, test } from "node:test";
-import { Board } from "../../lib/board/board.mjs";
 import { REAL_ANSWER } from "../../lib/board/drawn-schedule.mjs";
-import { waysOf } from "../../lib/board/strategy/ways.mjs";
 import { checkedBy } from "../../lib/check/check.mjs";
 import { PHASE, WORD } from "../../lib/memory/layout.mjs";
 import { firstOtherMove } from "../../lib/run/same.mjs";
@@ -16,6 +14,7 @@ import { simulatorAt } from "../../lib/simulator/chosen.mjs";
 import { agentsPath } from "../helpers/common.mjs";
 import { firstFailing, groupOf } from "../helpers/groups.mjs";
 import { CHECKER } from "../helpers/needs.mjs";
+import { startedBoard } from "../helpers/started-boards.mjs";
 
 const { ASKS, WAITS, WAITS_TIMED, WOKEN, FINISHED } = PHASE;
 
@@ -25,12 +24,7 @@ const { ASKS, WAITS, WAITS_TIMED, WOKEN, FINISHED } = PHASE;
  * @param {object} row that is wanted
  */
 function boardAt(phases, row) {
-  const board = new Board(Board.memory(), {
-    agents: phases.length, maxMoves: 100_000, timeouts: 1, ways: waysOf("uniform", true),
-  });
-  board.row.begin({ wantsRow: true, ...row });
-  board.begin(1);
-  for (let agent = 0; agent < phases.length - 1; agent += 1) board.pass(agent);
+  const board = startedBoard(phases.length, { timeouts: 1, row: { wantsRow: true, ...row } });
   phases.forEach((phase, agent) => board.line.become(agent, phase));
   return board;
 }
