@@ -10,21 +10,7 @@ import { JOIN, LEAVE, MAKE, TIME_UP } from "../../lib/board/journal.mjs";
 import { waysOf } from "../../lib/board/strategy/ways.mjs";
 import { Turn } from "../../lib/board/turn.mjs";
 import { ORDER, PHASE, WORD } from "../../lib/memory/layout.mjs";
-
-const RULES = { ways: waysOf("uniform", true), maxMoves: 100_000, timeouts: 0.05 };
-
-/**
- * A board whose agents have all been started, and are at a phase.
- * @param {number[]} phases
- * @param {object} [rules]
- */
-function boardAt(phases, rules = {}) {
-  const board = new Board(Board.memory(), { ...RULES, agents: phases.length, ...rules });
-  board.begin(rules.seed ?? 1);
-  for (let agent = 0; agent < phases.length - 1; agent += 1) assert.equal(board.pass(agent), false);
-  phases.forEach((phase, agent) => board.line.become(agent, phase));
-  return board;
-}
+import { boardAt } from "../helpers/started-boards.mjs";
 
 /** Who gets the turn, if it is passed on many times. */
 function drawn(board, from, times) {
