@@ -6,7 +6,7 @@ import { join } from "node:path";
 import { describe, it } from "node:test";
 import { pathToFileURL } from "node:url";
 import { defaultsOf } from "../../lib/options/table.mjs";
-import { commandThere, temporaryFolder } from "../helpers/common.mjs";
+import { commandThere, fileIn, temporaryFolder } from "../helpers/common.mjs";
 import { jobOutcomes } from "../helpers/job-runs.mjs";
 import { onLinux, withShell } from "../helpers/needs.mjs";
 import { CLOSED, LISTENS, ONE_THREAD, RACE, TWO_THREADS } from "../helpers/real-programs.mjs";
@@ -255,8 +255,7 @@ exec("sleep 0.5", () => { clearInterval(timer); if (ticks > 20) throw new Error(
  * @param {number} failing how many runs come before
  */
 function counting(context, failing) {
-  const file = join(temporaryFolder(context), "count");
-  writeFileSync(file, "0");
+  const file = fileIn(temporaryFolder(context), "count", "0");
   return programOf(context, { "main.mjs": `import { execSync } from "node:child_process";
 import { Worker } from "node:worker_threads";
 const count = Number(execSync("n=$(cat '${file}'); echo $n; echo $((n + 1)) > '${file}'"));

@@ -1,7 +1,6 @@
 // Real runs beside a search of every schedule that fail in a way which the search hasn't found.
 
 import assert from "node:assert/strict";
-import { writeFileSync } from "node:fs";
 import { join } from "node:path";
 import { test } from "node:test";
 import { dataOf } from "../../lib/every/data.mjs";
@@ -12,7 +11,7 @@ import { everyOptions } from "../../lib/library/every-schedule.mjs";
 import { simulatorAt } from "../../lib/simulator/chosen.mjs";
 import { NotAsLearned, everySchedule, record } from "../../recorder.mjs";
 import { assertAgents } from "../../testing.mjs";
-import { COUNTS, commandThere, moduleOf, temporaryFolder } from "../helpers/common.mjs";
+import { COUNTS, commandThere, fileIn, moduleOf, temporaryFolder } from "../helpers/common.mjs";
 
 /** The exchange of one agent and the read of another are unordered, and no state has a conflict. */
 const EXCHANGE = `export const setup = { agents: 2, buffers: [4] };
@@ -114,8 +113,7 @@ export default function agent({ buffers, agent: self }) {
 });
 
 test("code that node loads first is refused, since nobody sees what it keeps", async (context) => {
-  const first = join(temporaryFolder(context), "first.cjs");
-  writeFileSync(first, "");
+  const first = fileIn(temporaryFolder(context), "first.cjs", "");
   const env = { ...process.env, NODE_OPTIONS: `--require ${first}` };
   const { status, stderr } = await commandThere([moduleOf(context, COUNTS), "--all"], { env });
   assert.equal(status, 2);

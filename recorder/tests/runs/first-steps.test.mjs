@@ -11,7 +11,7 @@ import { Refused } from "../../lib/options/refused.mjs";
 import { loadProblem } from "../../lib/run/load-problem.mjs";
 import { record } from "../../recorder.mjs";
 import { commandHere } from "../helpers/command-here.mjs";
-import { RECORD, nodeNow, temporaryFolder } from "../helpers/common.mjs";
+import { RECORD, fileIn, nodeNow, temporaryFolder } from "../helpers/common.mjs";
 import { onLinux } from "../helpers/needs.mjs";
 
 const MERGE = fileURLToPath(new URL("../../merge.mjs", import.meta.url));
@@ -20,11 +20,7 @@ const MERGE = fileURLToPath(new URL("../../merge.mjs", import.meta.url));
 const run = (program, words) => nodeNow([program, ...words], { timeout: 60_000 });
 
 /** A file in a new folder. */
-function fileWith(context, name, text) {
-  const file = join(temporaryFolder(context), name);
-  writeFileSync(file, text);
-  return file;
-}
+const fileWith = (context, name, text) => fileIn(temporaryFolder(context), name, text);
 
 const PROGRAM = `
   import { writeFileSync } from "node:fs";

@@ -11,7 +11,7 @@ import { Refused, record } from "../../recorder.mjs";
 import { ASKS } from "../agents/deep.mjs";
 import { CASE_WORD } from "../helpers/case-word.mjs";
 import { Cases } from "../helpers/cases.mjs";
-import { agentsOf, moduleOf, temporaryFolder } from "../helpers/common.mjs";
+import { agentsOf, fileIn, moduleOf, temporaryFolder } from "../helpers/common.mjs";
 import { CHECKER } from "../helpers/needs.mjs";
 import { recorded } from "../helpers/recorded.mjs";
 
@@ -379,8 +379,7 @@ describe("arrays of the program's own", () => {
   });
 
   test("the module may be compiled to CommonJS", async (context) => {
-    const agents = join(temporaryFolder(context), "agents.cjs");
-    writeFileSync(agents, `"use strict";
+    const agents = fileIn(temporaryFolder(context), "agents.cjs", `"use strict";
       Object.defineProperty(exports, "__esModule", { value: true });
       exports.setup = { agents: 2, buffers: [16] };
       exports.default = function agent({ buffers, agent }) {

@@ -5,7 +5,7 @@ import assert from "node:assert/strict";
 import { mkdirSync, readFileSync, writeFileSync } from "node:fs";
 import { join } from "node:path";
 import { test } from "node:test";
-import { RECORD, nodeNow, temporaryFolder } from "../helpers/common.mjs";
+import { RECORD, fileIn, nodeNow, temporaryFolder } from "../helpers/common.mjs";
 import { CHECKING } from "../helpers/needs.mjs";
 import { typeScriptWords, withTypeScript } from "../helpers/typescript-hook.mjs";
 
@@ -50,8 +50,7 @@ withTypeScript("an agents' module in TypeScript has its own lines, and the page 
   writeFileSync(join(folder, "lock.ts"), LOCK);
   const nodeWords = typeScriptWords(folder, TYPES);
   for (const name of ["agents.mts", "agents.ts"]) {
-    const file = join(folder, name);
-    writeFileSync(file, AGENTS);
+    const file = fileIn(folder, name, AGENTS);
     writeFileSync(join(folder, "package.json"), '{ "type": "module" }');
     const out = join(folder, "found", name);
     const words = [...nodeWords, RECORD, file, "--seeds", "1..40", "--out", out, ...CHECKING];

@@ -16,7 +16,7 @@ import { labelOf, writtenText, writtenView } from "../../script/written.mjs";
 import { record } from "../../recorder.mjs";
 import { assertAgents } from "../../testing.mjs";
 import { commandHere } from "../helpers/command-here.mjs";
-import { agentsPath, commandNow, temporaryFolder } from "../helpers/common.mjs";
+import { agentsPath, commandNow, fileIn, temporaryFolder } from "../helpers/common.mjs";
 import { CHECKER, CHECKING, withShell } from "../helpers/needs.mjs";
 import { recorded } from "../helpers/recorded.mjs";
 import { simulated } from "../helpers/simulate.mjs";
@@ -102,8 +102,7 @@ test("a script has ordinary writes under the code's names and kinds, and the bit
 
 test("a test that fails, and --replay, have the values of the code", async (context) => {
   const folder = temporaryFolder(context);
-  const module = join(folder, "ring.mjs");
-  writeFileSync(module, readFileSync(RING, "utf8"));
+  const module = fileIn(folder, "ring.mjs", readFileSync(RING, "utf8"));
   const out = join(folder, "found");
   const given = { module, ...SMALL, seeds: "1..40", strategy: "uniform", out, jobs: 1 };
   await assert.rejects(assertAgents(given), ({ message }) => {
@@ -184,8 +183,7 @@ test("what an ordinary read has read is in no trace: sabsim's judge takes no suc
 
 test("the headline of a page and its timeline name an element alike, with names and without", async (context) => {
   const code = readFileSync(RING, "utf8");
-  const nameless = join(temporaryFolder(context), "ring.mjs");
-  writeFileSync(nameless, code.replace(/, names: .*\} \};/, " };"));
+  const nameless = fileIn(temporaryFolder(context), "ring.mjs", code.replace(/, names: .*\} \};/, " };"));
   for (const names of [true, false]) {
     const { outcome: { detail, races: [{ sides }] }, run } = await ringRun("race",
       names ? undefined : { module: nameless });
@@ -200,8 +198,7 @@ test("the headline of a page and its timeline name an element alike, with names 
 });
 
 test("an element of each kind, a DataView's too, has the code's kind", async (context) => {
-  const module = join(temporaryFolder(context), "kinds.mjs");
-  writeFileSync(module, `
+  const module = fileIn(temporaryFolder(context), "kinds.mjs", `
     export const setup = { agents: 1, buffers: [64, 8],
       names: { ratio: { kind: "Float64", buffer: 0, offset: 32, length: 1 } } };
     export function init([buffer]) {
@@ -248,8 +245,7 @@ test("an element of each kind, a DataView's too, has the code's kind", async (co
 });
 
 withFloat16("a Float16Array is watched, and the script has the bits", async (context) => {
-  const module = join(temporaryFolder(context), "halves.mjs");
-  writeFileSync(module, `
+  const module = fileIn(temporaryFolder(context), "halves.mjs", `
     export const setup = { agents: 1, buffers: [16], names: { ratios: { kind: "Uint16", buffer: 0, offset: 8 } } };
     export function init([buffer]) {
       new Float16Array(buffer)[0] = 0.25;
@@ -295,8 +291,7 @@ withFloat16("a Float16Array is watched, and the script has the bits", async (con
 });
 
 withFloat16("so is one of a program", async (context) => {
-  const program = join(temporaryFolder(context), "main.mjs");
-  writeFileSync(program, `
+  const program = fileIn(temporaryFolder(context), "main.mjs", `
     import { Worker, isMainThread, workerData } from "node:worker_threads";
     const buffer = isMainThread ? new SharedArrayBuffer(64) : workerData;
     if (isMainThread) new Worker(new URL(import.meta.url), { workerData: buffer });
