@@ -2,8 +2,6 @@
 // own variables, and the summary says so. How the runs ended stays as it was.
 
 import assert from "node:assert/strict";
-import { writeFileSync } from "node:fs";
-import { join } from "node:path";
 import { describe, test } from "node:test";
 import { merged, partsOf } from "../../lib/command/merging.mjs";
 import { summaryText } from "../../lib/command/summary-text.mjs";
@@ -12,7 +10,7 @@ import { differenceBetween, rememberingText } from "../../lib/seeds/first-again.
 import { explore } from "../../recorder.mjs";
 import { assertAgents } from "../../testing.mjs";
 import { commandHere } from "../helpers/command-here.mjs";
-import { commandThere, moduleOf, temporaryFolder } from "../helpers/common.mjs";
+import { commandThere, fileIn, moduleOf, temporaryFolder } from "../helpers/common.mjs";
 
 const SIDE_BY_SIDE = { concurrency: 4 };
 
@@ -146,10 +144,8 @@ test("joined summaries keep the difference of the lowest seed", (context) => {
     const summary = new Summary(options);
     summary.remembers = { seed, differs: "bytes", was: "finished", is: "finished", threw: false, real: false };
     const asked = { module: "m.mjs", digest: "", seeds: [{ first: 1, last: 9 }], shard: null, options };
-    const file = join(folder, `${seed}.json`);
     const seeds = [{ first: seed, last: seed + 1 }];
-    writeFileSync(file, JSON.stringify({ summary: 4, asked, seeds, ...summary.data() }));
-    return file;
+    return fileIn(folder, `${seed}.json`, JSON.stringify({ summary: 4, asked, seeds, ...summary.data() }));
   });
   assert.equal(merged(parts.flatMap(partsOf)).remembers.seed, 4);
 });

@@ -3,8 +3,6 @@
 // break, stacks that overflow, clocks and random numbers.
 
 import assert from "node:assert/strict";
-import { writeFileSync } from "node:fs";
-import { join } from "node:path";
 import { after, before, describe, test } from "node:test";
 import { Group } from "../../lib/run/group.mjs";
 import { Refused, record } from "../../recorder.mjs";
@@ -66,9 +64,8 @@ async function recordBody(context, body, options = {}) {
  * @returns {Promise<{ outcomes: import("../helpers/cases.mjs").CheckedOutcome[], lines: number[] }>} of each body
  */
 async function recordBodies(context, { top = "", bodies }, options = {}) {
-  const agents = join(temporaryFolder(context), "agents.mjs");
   const above = `${top}\nconst BODIES = [\n`;
-  writeFileSync(agents, `${above}${bodies.map((body) => `(words) => { ${body} },\n`).join("")}];
+  const agents = moduleOf(context, `${above}${bodies.map((body) => `(words) => { ${body} },\n`).join("")}];
     export default function agent({ buffers }) {
       const words = new Int32Array(buffers[0]);
       BODIES[words[${CASE_WORD}]](words);
