@@ -8,24 +8,14 @@ import { mkdtempSync, rmSync, writeFileSync } from "node:fs";
 import { tmpdir } from "node:os";
 import { join } from "node:path";
 import { pathToFileURL } from "node:url";
-import { Worker } from "node:worker_threads";
-import graphFlags from "../lib/program/graph-flags.cjs";
 import { programOf } from "./every-programs.mjs";
+import { compared } from "./merging.mjs";
 
 const [from = "0", to = "2000", hides] = process.argv.slice(2);
 
 /** So many are tried by one thread. */
 const BATCH = 50;
 const LIMIT = 30_000;
-
-/** @param {string[]} urls @returns {Promise<any[]>} */
-const compared = (urls) => new Promise((done, fail) => {
-  const workerData = { urls, limit: LIMIT, flaw: hides === undefined ? undefined : { hides } };
-  const execArgv = [...graphFlags.GRAPH_FLAGS, "--no-warnings"];
-  const worker = new Worker(new URL("./merging-worker.mjs", import.meta.url), { workerData, execArgv });
-  worker.on("message", done);
-  worker.on("error", fail);
-});
 
 /** @param {any} result */
 const left = ({ finals, failed, deadlocks }) => JSON.stringify({ finals, failed, deadlocks });
@@ -35,11 +25,12 @@ const counts = { tried: 0, open: 0, refused: 0, differ: 0, nodes: 0, unmerged: 0
 try {
   for (let first = Number(from); first < Number(to); first += BATCH) {
     const seeds = Array.from({ length: Math.min(BATCH, Number(to) - first) }, (_, at) => first + at);
-    const results = await compared(seeds.map((seed) => {
+    const urls = seeds.map((seed) => {
       const path = join(folder, `program-${seed}.mjs`);
       writeFileSync(path, programOf(seed));
       return pathToFileURL(path).href;
-    }));
+    });
+    const results = await compared({ urls, limit: LIMIT, flaw: hides === undefined ? undefined : { hides } });
     results.forEach(({ problem, merged, unmerged }, at) => {
       if (problem !== undefined) {
         counts.refused += 1;

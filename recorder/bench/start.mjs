@@ -42,9 +42,8 @@ function measured({ turns, record, agents }) {
   for (let turn = 0; turn < turns; turn += 1) {
     for (const [name, words] of Object.entries(cases)) taken[name].push(millisecondsOf(words));
   }
-  const lines = Object.entries(taken).map(([name, list]) => {
-    return `${name}: median ${median(list).toFixed(0)} ms, least ${Math.min(...list).toFixed(0)} ms, of ${turns} turns`;
-  });
+  const lines = Object.entries(taken).map(([name, list]) =>
+    `${name}: median ${median(list).toFixed(0)} ms, least ${Math.min(...list).toFixed(0)} ms, of ${turns} turns`);
   const times = median(taken.record) / median(taken.bare);
   return [...lines, `record takes ${times.toFixed(2)} times as long as bare`, ""].join("\n");
 }

@@ -7,10 +7,8 @@
 import { readdirSync } from "node:fs";
 import { parseArgs } from "node:util";
 import { fileURLToPath } from "node:url";
-import { checkedOptions } from "../lib/library/library-options.mjs";
-import { Job } from "../lib/seeds/job.mjs";
-import { Runs, outcomesOf } from "../lib/seeds/runs.mjs";
 import { isMain } from "./is-main.mjs";
+import { counted } from "./wrong.mjs";
 
 const FOLDER = new URL("./programs/", import.meta.url);
 
@@ -43,21 +41,10 @@ export const COLUMNS = Object.freeze([
  * @param {{ seeds: number, jobs: number }} amount
  * @returns {Promise<Measured>}
  */
-export async function measured(name, options, { seeds, jobs }) {
-  const given = { module: fileURLToPath(new URL(`${name}.mjs`, FOLDER)), ...options };
-  const many = { first: 1, last: seeds, jobs, checkEvery: 0, fresh: false, sabsim: undefined, trials: true };
+export async function measured(name, options, amount) {
   const begun = performance.now();
-  let failed = 0;
-  let first = Infinity;
-  const all = { ...checkedOptions(given, () => undefined), ...many };
-  const runs = new Runs(all, jobs === 1 ? { job: new Job() } : {});
-  for await (const { fails, seed } of outcomesOf(runs)) {
-    if (!fails) continue;
-    failed += 1;
-    first = Math.min(first, seed);
-  }
-  const seconds = (performance.now() - begun) / 1_000;
-  return { runs: seeds, failed, first: first === Infinity ? undefined : first, seconds };
+  const { failed, first } = await counted(fileURLToPath(new URL(`${name}.mjs`, FOLDER)), amount, options);
+  return { runs: amount.seeds, failed, first, seconds: (performance.now() - begun) / 1_000 };
 }
 
 /**

@@ -50,9 +50,8 @@ export function scriptData(script, report) {
     seed: 0, module: "", detail: "", holds: "all", isWhole: true, events: [], places: [], files: [], races: [],
     arrays: [],
     blocks, agents: agents.length, ...endOf(report, agents.length),
-    views: views.map((/** @type {any} */ { block = 0, offset, length, ...view }) => {
-      return { ...view, block, offset, length: length ?? Math.floor((blocks[block] - offset) / sizeOf(view)) };
-    }),
+    views: views.map((/** @type {any} */ { block = 0, offset, length, ...view }) =>
+      ({ ...view, block, offset, length: length ?? Math.floor((blocks[block] - offset) / sizeOf(view)) })),
   };
 }
 
@@ -116,12 +115,10 @@ export function callLines({ answers, woken }) {
   const wakers = new Set(woken.map(({ agent, call }) => `${agent} ${call}`));
   const rest = answers.filter(({ agent, call }) => !wakers.has(`${agent} ${call}`));
   return [
-    ...woken.map(({ agent, call, does, before, after }) => {
-      return { agent, call, what: callText(does), before: wokenText(before), after: wokenText(after) };
-    }),
-    ...rest.map(({ agent, call, does, before, after }) => {
-      return { agent, call, what: callText(does), before: answerWord(before), after: answerWord(after) };
-    }),
+    ...woken.map(({ agent, call, does, before, after }) =>
+      ({ agent, call, what: callText(does), before: wokenText(before), after: wokenText(after) })),
+    ...rest.map(({ agent, call, does, before, after }) =>
+      ({ agent, call, what: callText(does), before: answerWord(before), after: answerWord(after) })),
   ];
 }
 
@@ -133,9 +130,8 @@ export function callLines({ answers, woken }) {
  */
 export function elementLines(before, after) {
   const [old, now] = [before, after].map((run) => run.stateAt(run.steps.length - 1).blocks);
-  const cells = new Map([before, after].flatMap(({ rows }) => rows.flatMap((row) => row.cells)).map((cell) => {
-    return [cell.label, cell];
-  }));
+  const cells = new Map([before, after].flatMap(({ rows }) => rows.flatMap((row) => row.cells)).map((cell) =>
+    [cell.label, cell]));
   return [...cells.values()].flatMap((cell) => {
     const [was, is] = [old, now].map((blocks) => valueAt(blocks[cell.block], cell));
     return was === is ? [] : [{ what: `${cell.label} at the end`, before: was, after: is }];

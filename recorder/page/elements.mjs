@@ -99,9 +99,8 @@ export class Views {
    * @returns {View}
    */
   plain(block, byte, size) {
-    const known = this.list.find((view) => {
-      return sizeOf(view) === size && !OF_STORES.test(view.name) && fits(view, block, byte, size);
-    });
+    const known = this.list.find((view) =>
+      sizeOf(view) === size && !OF_STORES.test(view.name) && fits(view, block, byte, size));
     if (known !== undefined) return known;
     const kind = byte % size === 0 ? UNSIGNED[size] ?? "Uint8" : "Uint8";
     const name = `${kind}${this.blocks.length > 1 ? `_b${block}` : ""}`;
@@ -153,7 +152,6 @@ export function changesBy(blocks, stores, cellsOf) {
   const before = all.map((cell) => valueAt(blocks[cell.block], cell));
   for (const store of stores) write(blocks, store);
   const after = all.map((cell) => valueAt(blocks[cell.block], cell));
-  return all.flatMap(({ label }, at) => {
-    return before[at] === after[at] ? [] : [{ name: label, before: before[at], after: after[at] }];
-  });
+  return all.flatMap(({ label }, at) =>
+    before[at] === after[at] ? [] : [{ name: label, before: before[at], after: after[at] }]);
 }

@@ -45,9 +45,8 @@ export class Memory {
   #cell(cell, isWord) {
     const { blocks, before } = /** @type {State} */ (this.state);
     const size = sizeOf(cell.view);
-    const access = this.accesses?.find((each) => {
-      return each.block === cell.block && each.byte < cell.byte + size && cell.byte < each.byte + each.size;
-    });
+    const access = this.accesses?.find((each) =>
+      each.block === cell.block && each.byte < cell.byte + size && cell.byte < each.byte + each.size);
     const [was, is] = [before, blocks].map((bytes) => valueAt(bytes[cell.block], cell));
     const isChanged = was !== is;
     const span = made("span", "cell");

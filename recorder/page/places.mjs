@@ -61,8 +61,7 @@ function spanOfValue(text, path) {
 export function spanOfPlace(text, place) {
   const [, line, column] = /^line (\d+), column (\d+)$/.exec(place) ?? [];
   if (line !== undefined) return spanAt(text, Number(line), Number(column));
-  const path = [...place.matchAll(/\[(\d+)\]|\w+/g)].map(([name, index]) => {
-    return index === undefined ? name : Number(index);
-  });
+  const path = [...place.matchAll(/\[(\d+)\]|\w+/g)].map(([name, index]) =>
+    (index === undefined ? name : Number(index)));
   return spanOfValue(text, place === "script" ? [] : path);
 }

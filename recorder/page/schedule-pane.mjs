@@ -160,9 +160,8 @@ export class SchedulePane {
       cell.setAttribute("scope", "col");
       return cell;
     }));
-    const rows = lines.map((line) => {
-      return made("tr", "", this.#what(line), made("td", "", line.before), made("td", "now", line.after));
-    });
+    const rows = lines.map((line) =>
+      made("tr", "", this.#what(line), made("td", "", line.before), made("td", "now", line.after)));
     const table = made("table", "differences", made("thead", "", head), made("tbody", "", ...rows));
     table.setAttribute("aria-label", "What is different");
     return table;

@@ -187,9 +187,8 @@ export class Stepper {
     const { agent, entry: number } = entry;
     const stores = this.#storesOf(entry);
     const { block, byte, size } = this.#accessOf(entry, true);
-    const writes = this.pending[agent].filter(({ accesses: [access] }) => {
-      return access.block === block && access.byte < byte + size && byte < access.byte + access.size;
-    });
+    const writes = this.pending[agent].filter(({ accesses: [access] }) =>
+      access.block === block && access.byte < byte + size && byte < access.byte + access.size);
     const step = writes[writes.length - 1];
     if (step === undefined) {
       const view = writtenView(this.#viewOf(entry), this.views.byName);

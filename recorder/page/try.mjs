@@ -92,9 +92,8 @@ class TryPage {
 
   /** @param {string} text of a script that isn't refused */
   #report(text) {
-    const [report, picture] = ["explained", "svg"].map((format) => {
-      return outputOf(this.simulate, ["replay", "--format", format], text);
-    });
+    const [report, picture] = ["explained", "svg"].map((format) =>
+      outputOf(this.simulate, ["replay", "--format", format], text));
     by("report").querySelector("pre")?.replaceChildren(report);
     by("picture").querySelector("img")?.setAttribute("src", `data:image/svg+xml,${encodeURIComponent(picture)}`);
     const { output, complaint } = this.simulate(["judge"], new TextEncoder().encode(text));

@@ -62,9 +62,8 @@ function differentBytes(before, after, block) {
  */
 export function differencesOf(before, after) {
   const [old, now] = [answered(before), answered(after)];
-  const calls = [...new Map([...old, ...now])].sort(([, one], [, other]) => {
-    return one.agent - other.agent || one.call - other.call;
-  });
+  const calls = [...new Map([...old, ...now])].sort(([, one], [, other]) =>
+    one.agent - other.agent || one.call - other.call);
   /**
    * The calls whose results differ.
    * @template T

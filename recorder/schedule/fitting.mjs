@@ -117,9 +117,8 @@ export function replayedWhole(script, turns, replay, before) {
   let found = turns.map((turn) => known.get(turn));
   for (let { report } = before; ; ) {
     const joins = joinsOf(report);
-    const { moves, starts, outcomes } = laidOut(script, turns, (turn, agent, { call, waits }) => {
-      return turn >= sure && !waits && joins.has(callKey(agent, call)) ? "joins" : found[turn];
-    });
+    const { moves, starts, outcomes } = laidOut(script, turns, (turn, agent, { call, waits }) =>
+      turn >= sure && !waits && joins.has(callKey(agent, call)) ? "joins" : found[turn]);
     report = replay(moves);
     found = outcomesOf(starts, report);
     const wrong = found.findIndex((outcome, turn) => outcome !== outcomes[turn]);

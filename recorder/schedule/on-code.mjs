@@ -11,8 +11,7 @@ export function whyNotOnCode({ now: { report: { entries, agents } }, isWhole }) 
   if (!isWhole) return "some accesses aren't made whole, as the recorder makes them";
   const stuck = entries.find(({ what }) => what === "stuck");
   if (stuck !== undefined) return `agent ${stuck.agent} can't move at ${stuck.entry}; drop that step first`;
-  const left = agents.find(({ of, returned, standing }) => {
-    return standing !== undefined && (standing.at === "ready" || of - returned > 1);
-  });
+  const left = agents.find(({ of, returned, standing }) =>
+    standing !== undefined && (standing.at === "ready" || of - returned > 1));
   return left && `agent ${left.agent} has calls that this schedule doesn't make`;
 }

@@ -34,9 +34,8 @@ export function textWith(text) {
   const own = JSON.stringify(JSON.parse(text.slice(from, to)));
   return (moves) => {
     if (JSON.stringify(moves) === own) return text;
-    const written = moves.map((move) => {
-      return typeof move === "object" ? { agent: move.timeout, timeUp: true } : { agent: move, timeUp: false };
-    });
+    const written = moves.map((move) =>
+      typeof move === "object" ? { agent: move.timeout, timeUp: true } : { agent: move, timeUp: false });
     return `${text.slice(0, from)}${scheduleText(written)}${text.slice(to)}`;
   };
 }

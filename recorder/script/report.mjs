@@ -79,9 +79,8 @@ function movesText({ calls, moves }) {
  * @returns {string}
  */
 export function reportText(transcript, bytes) {
-  const progress = transcript.calls.map((calls) => {
-    return { returned: calls.filter((call) => call.answer !== null).length, calls: calls.length };
-  });
+  const progress = transcript.calls.map((calls) =>
+    ({ returned: calls.filter((call) => call.answer !== null).length, calls: calls.length }));
   return movesText(transcript) + endText(bytes, progress);
 }
 

@@ -118,9 +118,7 @@ async function isSame({ name, words }, nodes, seeds) {
 
 const { values, positionals } = parseArgs({
   allowPositionals: true,
-  options: {
-    seeds: { type: "string", default: "1..100" }, beside: { type: "string", default: "2" },
-  },
+  options: { seeds: { type: "string", default: "1..100" }, beside: { type: "string", default: "2" } },
 });
 const [one, other, ...wanted] = positionals;
 if (other === undefined) {

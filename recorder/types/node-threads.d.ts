@@ -35,15 +35,12 @@ declare module "node:worker_threads" {
   export function setEnvironmentData(key: string, value: unknown): void;
   interface Port extends NodeJS.Listened {
     postMessage(message: unknown): void;
-  }
-  export class MessagePort implements Port {
-    on(event: string, listener: (...given: any[]) => void): this;
-    once(event: string, listener: (...given: any[]) => void): this;
-    off(event: string, listener: (...given: any[]) => void): this;
-    postMessage(message: unknown): void;
-    close(): void;
     ref(): void;
     unref(): void;
+  }
+  export interface MessagePort extends Port {}
+  export class MessagePort {
+    close(): void;
   }
   export class MessageChannel {
     readonly port1: MessagePort;
@@ -57,16 +54,11 @@ declare module "node:worker_threads" {
     execArgv?: string[];
     resourceLimits?: { maxYoungGenerationSizeMb?: number };
   }
-  export class Worker implements Port {
+  export interface Worker extends Port {}
+  export class Worker {
     constructor(file: URL, options: WorkerOptions);
-    on(event: string, listener: (...given: any[]) => void): this;
-    once(event: string, listener: (...given: any[]) => void): this;
-    off(event: string, listener: (...given: any[]) => void): this;
-    postMessage(message: unknown): void;
     readonly threadId: number;
     terminate(): Promise<number>;
-    ref(): void;
-    unref(): void;
   }
   export const isMainThread: boolean;
   export const parentPort: MessagePort | null;

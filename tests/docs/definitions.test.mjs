@@ -2,10 +2,8 @@
 // name, and no two files have the same name. So a search for a name finds what it means.
 
 import assert from "node:assert/strict";
-import { readdirSync } from "node:fs";
-import { join } from "node:path";
 import { test } from "node:test";
-import { TOP, textOf } from "./documents.mjs";
+import { filesBelow, textOf } from "./documents.mjs";
 
 /** Where that code is: the tests, examples and benches have names of their own. */
 const FOLDERS = ["recorder/lib", "recorder/page", "recorder/schedule", "recorder/script", "recorder/wasm"];
@@ -70,16 +68,7 @@ function repeatedIn(list) {
   return [...files].filter(([, those]) => those.size > 1).map(([name, those]) => `${name}: ${[...those].join(", ")}`);
 }
 
-/** @param {string} folder from the top @returns {string[]} the paths of the modules in it and below */
-function modulesBelow(folder) {
-  return readdirSync(join(TOP, folder), { withFileTypes: true }).flatMap((entry) => {
-    const path = `${folder}/${entry.name}`;
-    if (entry.isDirectory()) return modulesBelow(path);
-    return /\.[cm]js$/.test(path) ? [path] : [];
-  });
-}
-
-const MODULES = FOLDERS.flatMap(modulesBelow);
+const MODULES = FOLDERS.flatMap(filesBelow).filter((path) => /\.[cm]js$/.test(path));
 
 test("a name that a file of the recorder exports, or a type's, is defined in one file", () => {
   const all = MODULES.flatMap((file) => definedIn(textOf(file)).map((name) => ({ name, file })));

@@ -1,7 +1,7 @@
 // What the tests of the documents share.
 
 import { readFileSync, readdirSync } from "node:fs";
-import { join } from "node:path";
+import { join, posix } from "node:path";
 import { fileURLToPath } from "node:url";
 
 export const TOP = fileURLToPath(new URL("../../", import.meta.url));
@@ -18,6 +18,16 @@ export const DOCUMENTS = [
 
 /** What no copy of the repository needs: what tools have made, and the history. */
 export const LEFT_OUT = new Set([".git", "out", "node_modules", "found"]);
+
+/** @param {string} folder from the top @returns {string[]} the paths of the files in it and below */
+export function filesBelow(folder) {
+  return readdirSync(join(TOP, folder), { withFileTypes: true }).flatMap((entry) => {
+    const path = posix.join(folder, entry.name);
+    if (LEFT_OUT.has(entry.name)) return [];
+    if (entry.isDirectory()) return filesBelow(path);
+    return entry.isFile() ? [path] : [];
+  });
+}
 
 /** A document without its indented blocks. @param {string} path */
 export const proseOf = (path) => textOf(path).split("\n").filter((line) => !line.startsWith("    ")).join("\n");

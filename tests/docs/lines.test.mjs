@@ -1,10 +1,8 @@
 // No line of the code, the scripts and the documents has more than 120 columns, as `.editorconfig` asks of editors.
 
 import assert from "node:assert/strict";
-import { readdirSync } from "node:fs";
-import { join } from "node:path";
 import { test } from "node:test";
-import { LEFT_OUT, TOP, textOf } from "./documents.mjs";
+import { filesBelow, textOf } from "./documents.mjs";
 
 const MOST = 120;
 
@@ -17,16 +15,6 @@ const COMPARED = {
   "crates/call_tests/src/scripts/flushing.rt": ['    r#"{"event":0,', '    "data race at byte 7 of block 0: '],
   "crates/sab_command/src/help.rt": ["  data race at byte 1 of block 0: "],
 };
-
-/** @param {string} folder from the top @returns {string[]} the paths of the files in it and below */
-function filesBelow(folder) {
-  return readdirSync(join(TOP, folder), { withFileTypes: true }).flatMap((entry) => {
-    const path = join(folder, entry.name);
-    if (LEFT_OUT.has(entry.name)) return [];
-    if (entry.isDirectory()) return filesBelow(path);
-    return entry.isFile() ? [path] : [];
-  });
-}
 
 /** @param {string} path @returns {boolean} */
 const isScript = (path) => !/\.\w+$/.test(path) && textOf(path).startsWith("#!");

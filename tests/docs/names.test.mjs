@@ -2,10 +2,10 @@
 // docs/ARCHITECTURE.md paths, crates and functions.
 
 import assert from "node:assert/strict";
-import { existsSync, readdirSync } from "node:fs";
+import { existsSync } from "node:fs";
 import { dirname, join } from "node:path";
 import { test } from "node:test";
-import { DOCUMENTS, LEFT_OUT, TOP, proseOf, spansOf, textOf } from "./documents.mjs";
+import { DOCUMENTS, TOP, filesBelow, proseOf, spansOf, textOf } from "./documents.mjs";
 
 const MAPS = ["CONTRIBUTING.md", "docs/ARCHITECTURE.md"];
 
@@ -15,16 +15,7 @@ const PATH = /^(?:\.\/)?(?=.*\/|.*\.(?:rt|antt|mjs|mts|md|json|txt|edit|c)$)[\w.
 /** What looks like a path but is the name of an import. */
 const IMPORTS = new Set(["sabsim/test"]);
 
-/** All files and folders below a folder, by their paths from the top. @param {string} folder @returns {string[]} */
-function pathsBelow(folder) {
-  return readdirSync(join(TOP, folder), { withFileTypes: true }).flatMap((entry) => {
-    if (LEFT_OUT.has(entry.name)) return [];
-    const path = join(folder, entry.name);
-    return entry.isDirectory() ? [path, ...pathsBelow(path)] : [path];
-  });
-}
-
-const PATHS = pathsBelow("");
+const PATHS = filesBelow("");
 
 /**
  * Whether a path is there: from the top, in the recorder or in a crate, and a lone file's name anywhere. A part in
@@ -35,7 +26,7 @@ function isThere(path) {
   const parts = path.replace(/^\.\/|\/$/g, "").split("/");
   const spelled = parts.map((part) => (/^[A-Z]+$/.test(part) ? "[^/]+" : part.replaceAll(".", "\\.")));
   const before = parts.length === 1 ? "(?:.*/)?" : "(?:recorder/|crates/[^/]+/)?";
-  const pattern = new RegExp(`^${before}${spelled.join("/")}$`);
+  const pattern = new RegExp(`^${before}${spelled.join("/")}(?:/|$)`);
   return PATHS.some((it) => pattern.test(it));
 }
 

@@ -38,9 +38,8 @@ test("a section that isn't in step is named, and is made anew", (context) => {
   const changed = FILES.slice(1);
   for (const name of changed) writeFileSync(join(folder, name), textOf(name).replace("; else ", "; or "));
   writeFileSync(join(folder, FILES[0]), textOf(FILES[0]).replace("| `--web` | ", "$&also "));
-  const complaints = FILES.map((name) => {
-    return `${name} isn't in step with recorder/lib/options/table.mjs: run node tools/sections.mjs\n`;
-  });
+  const complaints = FILES.map((name) =>
+    `${name} isn't in step with recorder/lib/options/table.mjs: run node tools/sections.mjs\n`);
   assert.deepEqual(made("--check", folder), { status: 1, output: complaints.join("") });
   assert.deepEqual(made(folder), { status: 0, output: "" });
   for (const name of FILES) assert.equal(readFileSync(join(folder, name), "utf8"), textOf(name));

@@ -43,9 +43,7 @@ export const SURFACE = Object.freeze({
     harmless: "isLockFree pause",
     refused: "waitAsync",
   },
-  SharedArrayBuffer: {
-    harmless: "length name prototype",
-  },
+  SharedArrayBuffer: { harmless: "length name prototype" },
   "SharedArrayBuffer.prototype": {
     watched: "slice grow",
     harmless: "byteLength constructor growable maxByteLength",
@@ -55,7 +53,7 @@ export const SURFACE = Object.freeze({
     harmless: "length name prototype",
   },
   "ArrayBuffer.prototype": {
-    harmless: `byteLength constructor detached maxByteLength resizable resize slice transfer transferToFixedLength`,
+    harmless: "byteLength constructor detached maxByteLength resizable resize slice transfer transferToFixedLength",
   },
   TypedArray: {
     watched: "from of",
@@ -67,12 +65,8 @@ export const SURFACE = Object.freeze({
       subarray toLocaleString toReversed toSorted toString values with`,
     harmless: "constructor",
   },
-  Uint8Array: {
-    harmless: "BYTES_PER_ELEMENT length name prototype",
-  },
-  "Uint8Array.prototype": {
-    harmless: "BYTES_PER_ELEMENT constructor",
-  },
+  Uint8Array: { harmless: "BYTES_PER_ELEMENT length name prototype" },
+  "Uint8Array.prototype": { harmless: "BYTES_PER_ELEMENT constructor" },
   "DataView.prototype": {
     watched: `buffer byteLength byteOffset getBigInt64 getBigUint64 getFloat16 getFloat32 getFloat64 getInt16 getInt32
       getInt8 getUint16 getUint32 getUint8 setBigInt64 setBigUint64 setFloat16 setFloat32 setFloat64 setInt16
@@ -85,12 +79,8 @@ export const SURFACE = Object.freeze({
       RuntimeError SuspendError Suspending Table Tag`,
     refused: "Memory",
   },
-  "WebAssembly.Memory.prototype": {
-    harmless: "buffer constructor grow",
-  },
-  Promise: {
-    harmless: "all allSettled any length name prototype race reject resolve try withResolvers",
-  },
+  "WebAssembly.Memory.prototype": { harmless: "buffer constructor grow" },
+  Promise: { harmless: "all allSettled any length name prototype race reject resolve try withResolvers" },
   Date: {
     simulated: "now",
     harmless: "length name parse prototype UTC",

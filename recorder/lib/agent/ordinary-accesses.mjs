@@ -11,6 +11,9 @@ import { REPEATED, RepeatedAccesses } from "./repeated-accesses.mjs";
 // If sources are noted, each access is; but of one that is repeated no more than so many in a row.
 const MOST_REPEATS = 100;
 
+// No block that a script can't have as it is has a greater number.
+const LAST_MORE = 2 ** 30;
+
 /** @typedef {import("./ordinary/context.mjs").WatchedPlace} WatchedPlace */
 
 /** What becomes of an access: it is noted, it is repeated without end, or the log has no room for it. */
@@ -106,62 +109,33 @@ export class OrdinaryAccesses {
       isChanged = true;
       board.spins.news();
       board.vain?.news();
-      if (ordinary === "watch") this.#takeSeen(block);
+      if (ordinary === "watch") this.#takeSeen(block, block);
       if (ordinary === "store") stores.takeChanged(this.agent, log.length, block);
     }
-    if (length > FIRST_MORE) this.#takeMore();
+    if (length > FIRST_MORE) this.#takeSeen(FIRST_MORE, LAST_MORE);
     return isChanged ? memory.changed() : undefined;
   }
 
   /**
-   * Takes what the writes that were seen have changed in the blocks that no script can have as they are. Those whose
-   * bytes follow each other are taken together, as below.
-   */
-  #takeMore() {
-    const { log } = this.context;
-    let block = FIRST_MORE;
-    let kind = -1;
-    let from = 0;
-    let to = 0;
-    for (let event = this.since; event < log.length; event += 1) {
-      const next = log.blockAt(event);
-      if (next < FIRST_MORE || log.whatAt(event) !== WRITE || (log.flagsAt(event) & FLAG.AGAIN) !== 0) continue;
-      if (next !== block || log.kindAt(event) !== kind || log.fromAt(event) !== to) {
-        this.#takeStretchOfMore(block, from, to, kind);
-        block = next;
-        kind = log.kindAt(event);
-        from = log.fromAt(event);
-      }
-      to = log.toAt(event);
-    }
-    this.#takeStretchOfMore(block, from, to, kind);
-  }
-
-  /** @param {number} block @param {number} from @param {number} to @param {number} kind */
-  #takeStretchOfMore(block, from, to, kind) {
-    const { board, log, stores } = this.context;
-    if (from >= to || !stores.takeWrittenInMore(this.agent, log.length, block, from, to, kind)) return;
-    board.spins.news();
-    board.vain?.news();
-  }
-
-  /**
-   * Takes what the writes that were seen have changed in a block. Those whose bytes follow each other are taken
+   * Takes what the writes that were seen have changed in some blocks. Those whose bytes follow each other are taken
    * together, whether the log has joined them or not: a script doesn't depend on that.
-   * @param {number} block
+   * @param {number} first block
+   * @param {number} last block
    */
-  #takeSeen(block) {
+  #takeSeen(first, last) {
     const { log } = this.context;
     const { length } = log;
+    let block = first;
     let kind = -1;
     let from = 0;
     let to = 0;
     for (let event = this.since; event < length; event += 1) {
-      if (log.whatAt(event) !== WRITE || log.blockAt(event) !== block) continue;
+      const next = log.blockAt(event);
+      if (next < first || next > last || log.whatAt(event) !== WRITE) continue;
       if ((log.flagsAt(event) & FLAG.AGAIN) !== 0) continue;
-      const goesOn = log.kindAt(event) === kind && log.fromAt(event) === to;
-      if (!goesOn) {
+      if (next !== block || log.kindAt(event) !== kind || log.fromAt(event) !== to) {
         this.#takeStretch(block, from, to, kind);
+        block = next;
         kind = log.kindAt(event);
         from = log.fromAt(event);
       }
@@ -172,8 +146,13 @@ export class OrdinaryAccesses {
 
   /** @param {number} block @param {number} from @param {number} to @param {number} kind */
   #takeStretch(block, from, to, kind) {
-    const { log, stores } = this.context;
-    if (from < to) stores.recordWrites(this.agent, log.length, block, from, to, kind);
+    const { board, log, stores } = this.context;
+    if (from >= to) return;
+    if (block < FIRST_MORE) stores.recordWrites(this.agent, log.length, block, from, to, kind);
+    else if (stores.takeWrittenInMore(this.agent, log.length, block, from, to, kind)) {
+      board.spins.news();
+      board.vain?.news();
+    }
   }
 }
 

@@ -1,10 +1,9 @@
 // Shared memory that the agents' code makes itself. The place where it makes some is remembered, so that a message can
 // say so.
 
-import {
-  apply, construct, getOwnPropertyDescriptor, proxyOf, put, uncurried, weakGet, weakSet,
-} from "../primordials.mjs";
+import { apply, getOwnPropertyDescriptor, uncurried, weakGet, weakSet } from "../primordials.mjs";
 import { isCalledByAgents, sourceHere } from "./frames.mjs";
+import { replaceClass } from "./ordinary/patch.mjs";
 import { Unseen } from "./unseen.mjs";
 
 const { WeakMap: EngineWeakMap, Object: EngineObject } = globalThis;
@@ -40,22 +39,11 @@ export function isWatchable(buffer, note) {
  * @param {string} name
  * @param {MadeCallback} note
  */
-function noteMaking(owner, name, note) {
-  /** @type {Function} */
-  const Engine = /** @type {any} */ (owner)[name];
-  const traps = {
-    /** @param {Function} target @param {unknown[]} given @param {Function} asked */
-    construct(target, given, asked) {
-      const made = construct(target, given, asked === StandIn ? target : asked);
-      note(made, isCalledByAgents(traps.construct));
-      return made;
-    },
-  };
-  /** @type {Function} */
-  const StandIn = proxyOf(Engine, traps);
-  put(Engine.prototype, "constructor", StandIn);
-  put(owner, name, StandIn);
-}
+const noteMaking = (owner, name, note) => replaceClass(owner, name, (make, _given, called) => {
+  const made = make();
+  note(made, isCalledByAgents(called));
+  return made;
+});
 
 /**
  * Notes what is done with memory for WebAssembly. Nothing that it does is seen: where it was made is all that is known.

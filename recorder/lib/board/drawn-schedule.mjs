@@ -184,8 +184,16 @@ export class DrawnSchedule {
 
   /** @returns {number} who moves next by the row; `NOBODY` if nobody can; or `DIVERGES` */
   next() {
-    this.state[IS_DUE] = DUE.NOT;
-    return this.state[HOW] === EXACT ? this.#exactNext() : this.#lenientNext();
+    const { state } = this;
+    state[IS_DUE] = DUE.NOT;
+    while (state[AT] < state[LENGTH]) {
+      const drawn = this.forced[state[AT]];
+      if (this.#canBeDrawn(drawn)) return this.#taken(drawn);
+      const isExpected = state[HOW] === EXACT && (!isRealAnswer(drawn) || this.#isNeeded(state[AT]));
+      if (isExpected) return this.#missing(drawn);
+      state[AT] += 1;
+    }
+    return state[HOW] === EXACT ? this.#exactlyBehind() : this.#behind();
   }
 
   /** @returns {number} who is to move next by the row, or `NOBODY` if it has come to its end */
@@ -271,14 +279,8 @@ export class DrawnSchedule {
     return false;
   }
 
-  #exactNext() {
-    const { state } = this;
-    while (state[AT] < state[LENGTH]) {
-      const drawn = this.forced[state[AT]];
-      if (this.#canBeDrawn(drawn)) return this.#taken(drawn);
-      if (!isRealAnswer(drawn) || this.#isNeeded(state[AT])) return this.#missing(drawn);
-      state[AT] += 1;
-    }
+  /** What comes behind the end of an exact row. */
+  #exactlyBehind() {
     const other = this.#able();
     return other === NOBODY || isRealAnswer(other) ? other : this.#diverge("goes on", other);
   }
@@ -325,13 +327,9 @@ export class DrawnSchedule {
     return false;
   }
 
-  #lenientNext() {
+  /** What comes behind the end of another row. */
+  #behind() {
     const { state } = this;
-    while (state[AT] < state[LENGTH]) {
-      const drawn = this.forced[state[AT]];
-      if (this.#canBeDrawn(drawn)) return this.#taken(drawn);
-      state[AT] += 1;
-    }
     const last = state[LAST];
     if (last !== NOBODY && state[ALIKE] < MOST_ALIKE && this.#isMoving(last)) return last;
     return this.#able();

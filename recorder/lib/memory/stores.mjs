@@ -41,9 +41,8 @@ const UNSIGNED = Object.freeze({ 1: UINT8, 2: KINDS.indexOf("Uint16"), 4: KINDS.
   8: KINDS.indexOf("BigUint64") });
 
 /** The kind of a store that writes the bytes of an element of each kind. A float is stored by its bytes. */
-export const STORED = Object.freeze(KINDS.map((name, kind) => {
-  return name.startsWith("Float") || name === "Uint8Clamped" ? UNSIGNED[SIZES[kind]] : kind;
-}));
+export const STORED = Object.freeze(KINDS.map((name, kind) =>
+  name.startsWith("Float") || name === "Uint8Clamped" ? UNSIGNED[SIZES[kind]] : kind));
 
 /**
  * @typedef {object} Store

@@ -12,9 +12,8 @@ export class NoSuchPlace extends Refused {}
 const MEMBERS = ["kind", "buffer", "offset", "length"];
 
 /** @type {(value: unknown, least: number, most: number) => value is number} */
-export const isIntegerWithin = (value, least, most) => {
-  return typeof value === "number" && Number.isInteger(value) && value >= least && value <= most;
-};
+export const isIntegerWithin = (value, least, most) =>
+  typeof value === "number" && Number.isInteger(value) && value >= least && value <= most;
 
 /**
  * @param {string} name

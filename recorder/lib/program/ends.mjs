@@ -259,14 +259,12 @@ export class Ends {
    * @param {string} text why, if that isn't its natural end
    */
   #depart(code, text) {
-    const { agent, threadTexts, player: { part, context: { board } }, ports, threads } = this.leaving;
+    const { agent, threadTexts, player: { context: { board } }, ports, threads } = this.leaving;
     if (code !== 0) threadTexts.setEnd(text);
     ports.send(this.parentPort, code, [], undefined, KIND.EXIT);
     threads.closePorts(agent);
     threads.endChildren(agent);
-    part.enter();
-    board.journal.countOrdinary(agent, part.accesses.count);
-    part.isPlaying = false;
+    this.#give();
     board.line.become(agent, PHASE.FINISHED);
   }
 }

@@ -5,13 +5,12 @@ import nodeModule from "node:module";
 import net from "node:net";
 import process from "node:process";
 import threads from "node:worker_threads";
-import { member, replaceNeeded } from "../agent/ordinary/patch.mjs";
-import { apply, construct, copied, isArray, proxyOf, put } from "../primordials.mjs";
+import { member, replaceClass, replaceNeeded } from "../agent/ordinary/patch.mjs";
+import { apply, copied, isArray } from "../primordials.mjs";
 import { nodeError } from "./node-error.mjs";
 import { demandTransferable } from "./transfer-list.mjs";
 import { clonedValue, installMarks } from "./message-values.mjs";
 
-const EngineShared = SharedArrayBuffer;
 const { syncBuiltinESMExports } = nodeModule;
 const { performance } = /** @type {any} */ (globalThis);
 
@@ -19,20 +18,11 @@ const { performance } = /** @type {any} */ (globalThis);
  * Reports each shared buffer that the program makes.
  * @param {(buffer: SharedArrayBuffer) => void} made gets each one, also those that grow
  */
-export function installMemory(made) {
-  const traps = {
-    /** @param {Function} target @param {any[]} given @param {Function} asked */
-    construct(target, given, asked) {
-      const buffer = construct(target, given, asked === StandIn ? target : asked);
-      made(buffer);
-      return buffer;
-    },
-  };
-  /** @type {any} */
-  const StandIn = proxyOf(EngineShared, traps);
-  put(EngineShared.prototype, "constructor", StandIn);
-  put(globalThis, "SharedArrayBuffer", StandIn);
-}
+export const installMemory = (made) => replaceClass(globalThis, "SharedArrayBuffer", (make) => {
+  const buffer = make();
+  made(buffer);
+  return buffer;
+});
 
 /** @param {import("./ports.mjs").Ports} ports of the thread: clones may have them, and the same shared memory */
 export function installCloning(ports) {

@@ -5,9 +5,7 @@
 import process from "node:process";
 import { replaceNeeded } from "../agent/ordinary/patch.mjs";
 import { apply, weakGet, weakSet } from "../primordials.mjs";
-import {
-  IMMEDIATES, REFED_IMMEDIATES, THREW, nodeTimers, putBelowTimers, realTimers,
-} from "./internals.mjs";
+import { IMMEDIATES, REFED_IMMEDIATES, THREW, nodeTimers, putBelowTimers, realTimers } from "./internals.mjs";
 import { turns } from "./real-loop.mjs";
 
 /** @typedef {any} TimerObject a Timeout or an Immediate */

@@ -223,9 +223,8 @@ function storesIn(kinds, windows, stores, { more }) {
     isWhole: () => stores.isWhole(),
     isLost: () => stores.isLost() || starts.some(({ start }) => start === undefined),
     list: () => {
-      const first = starts.flatMap(({ window, kind, start }) => {
-        return start === undefined ? [] : startOf(window, kind, start);
-      });
+      const first = starts.flatMap(({ window, kind, start }) =>
+        start === undefined ? [] : startOf(window, kind, start));
       // No script shows what a buffer had in it where no agent touches it.
       const touched = stores.list().filter(({ block, byte }) => windows.at(block, byte) !== undefined);
       const own = touched.map((store) => ({ ...store, ...windows.placeOf(store.block, store.byte) }));

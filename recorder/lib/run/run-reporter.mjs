@@ -200,9 +200,8 @@ export class RunReporter {
       return;
     }
     if (written.windows !== undefined) outcome.windows = written.windows;
-    const names = this.sources.map((each) => each.list().map((/** @type {string} */ place) => {
-      return place === "" ? "" : sourceNames.nameOf(place);
-    }));
+    const names = this.sources.map((each) => each.list().map((/** @type {string} */ place) =>
+      place === "" ? "" : sourceNames.nameOf(place)));
     // If some are found, no verdict on the trace says that there are none.
     outcome.trace = (outcome.races.length === 0 ? this.#firstLine() : "") + traceText(written.run.log, names);
     outcome.accesses = accessesIn(written.run.log, written.run.lengths);

@@ -54,9 +54,8 @@ function withUrls(payload, base) {
  */
 function textsIn({ sections, sources = [], sourcesContent: texts = [] }) {
   if (sections !== undefined) return sections.flatMap((/** @type {any} */ { map }) => textsIn(map));
-  return sources.flatMap((/** @type {string} */ url, /** @type {number} */ at) => {
-    return typeof texts[at] === "string" ? [[url, texts[at]]] : [];
-  });
+  return sources.flatMap((/** @type {string} */ url, /** @type {number} */ at) =>
+    typeof texts[at] === "string" ? [[url, texts[at]]] : []);
 }
 
 export class SourceMaps {

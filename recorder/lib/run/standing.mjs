@@ -61,9 +61,8 @@ export function waitText({ agent, name, call, text, inScript, source }) {
  * @returns {string[]}
  */
 export function askingLines(asking, transcript, sourceOf) {
-  return asking.filter((agent) => sourceOf(agent) !== "").map((agent) => {
-    return `agent ${agent} asks for its call ${ownCalls(transcript, agent).length}, at ${sourceOf(agent)}`;
-  });
+  return asking.filter((agent) => sourceOf(agent) !== "").map((agent) =>
+    `agent ${agent} asks for its call ${ownCalls(transcript, agent).length}, at ${sourceOf(agent)}`);
 }
 
 const NOWHERE = Object.freeze({ place: null, block: null, byte: null });

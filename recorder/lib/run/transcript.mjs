@@ -56,9 +56,8 @@ class Writer {
     this.names = names;
     this.known = known;
     /** Makes a call that isn't known. */
-    this.make = (/** @type {TranscriptSource["records"][number]} */ records, /** @type {number} */ position) => {
-      return this.#call(records, position);
-    };
+    this.make = (/** @type {TranscriptSource["records"][number]} */ records, /** @type {number} */ position) =>
+      this.#call(records, position);
     /** @type {Map<string, SpelledView>} */
     this.views = new Map();
     /** @type {Done[][]} */

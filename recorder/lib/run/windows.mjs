@@ -163,9 +163,8 @@ export class Windows {
    * @returns {{ buffer: number, byte: number } | undefined} which byte of the program is there
    */
   behind(block, byte) {
-    const window = this.list.find((each) => {
-      return each.block === block && each.byte <= byte && byte < each.byte + each.to - each.from;
-    });
+    const window = this.list.find((each) =>
+      each.block === block && each.byte <= byte && byte < each.byte + each.to - each.from);
     return window && { buffer: window.buffer, byte: window.from + byte - window.byte };
   }
 

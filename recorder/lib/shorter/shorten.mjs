@@ -66,9 +66,8 @@ const notAgain = ({ real }) => (real === undefined ? NOT_AGAIN : NOT_AGAIN_BY_IN
 /** @typedef {{ row: number[], isEarly: boolean, changes: number, calls: number }} Measured */
 
 /** @param {Outcome} outcome that has its row @returns {Measured} how long a run is, and whether a wait ends early */
-const measured = ({ row = [], onlyIf, calls }) => {
-  return { row, isEarly: onlyIf !== undefined, changes: changesOf(row), calls };
-};
+const measured = ({ row = [], onlyIf, calls }) =>
+  ({ row, isEarly: onlyIf !== undefined, changes: changesOf(row), calls });
 
 /** @param {Measured} one @param {Measured} other */
 function isShorter(one, other) {

@@ -3,13 +3,13 @@
 // checks every run.
 
 import assert from "node:assert/strict";
-import { readFileSync, readdirSync, writeFileSync } from "node:fs";
+import { readFileSync, readdirSync } from "node:fs";
 import { join } from "node:path";
 import { after, describe, test } from "node:test";
 import { pathToFileURL } from "node:url";
 import { Job } from "../../lib/seeds/job.mjs";
 import { Runs, outcomesOf as taken } from "../../lib/seeds/runs.mjs";
-import { temporaryFolder } from "../helpers/common.mjs";
+import { fileIn, temporaryFolder } from "../helpers/common.mjs";
 import { CHECKER } from "../helpers/needs.mjs";
 import { AskedProcesses } from "../helpers/asked-processes.mjs";
 import { pathOf } from "../helpers/programs.mjs";
@@ -63,6 +63,12 @@ const FAILS = {
 /** Makes a test of what README says about the own code of node 20. */
 const withNode20 = whereNodeHasIt(process.version.startsWith("v20."));
 
+/** What README says about runs that end alike. */
+function sameBytes(outcomes) {
+  assert.equal(runsByBytes(outcomes).length, 1);
+  return "nothing; every run ends with the same bytes";
+}
+
 /** What README says about an example's runs, by their outcomes. */
 const FOUND = {
   "late-notify": (outcomes) => {
@@ -70,10 +76,7 @@ const FOUND = {
     const [first] = failing;
     return `**${failing.length} wrong answers**, the first at seed ${first.seed}: a late notify ends the next wait`;
   },
-  "late-notify-mended": (outcomes) => {
-    assert.equal(runsByBytes(outcomes).length, 1);
-    return "nothing; every run ends with the same bytes";
-  },
+  "late-notify-mended": sameBytes,
   "node-cwd": (outcomes) => {
     const failing = outcomes.filter(({ ending }) => ending === "failed");
     return `**${failing.length} stale directories** in node 20.20.2, the first at seed ${failing[0].seed}; `
@@ -88,18 +91,9 @@ const FOUND = {
     return "nothing; every run ends with all nine counts";
   },
   semaphore: (outcomes) => `nothing; ${timeOuts(outcomes)} times an agent gives up`,
-  "bounded-queue": (outcomes) => {
-    assert.equal(runsByBytes(outcomes).length, 1);
-    return "nothing; every run ends with the same bytes";
-  },
-  barrier: (outcomes) => {
-    assert.equal(runsByBytes(outcomes).length, 1);
-    return "nothing; every run ends with the same bytes";
-  },
-  ring: (outcomes) => {
-    assert.equal(runsByBytes(outcomes).length, 1);
-    return "nothing; every run ends with the same bytes";
-  },
+  "bounded-queue": sameBytes,
+  barrier: sameBytes,
+  ring: sameBytes,
   "ring-frees-first": (outcomes) => {
     const racing = outcomes.filter(({ races }) => races.length > 0);
     const popped = outcomes.filter(({ ending }) => ending === "failed");
@@ -201,8 +195,7 @@ describe("the checks of the agents find a lock that isn't one", () => {
       const agents = readFileSync(join(FOLDER, `${name}.agents.mjs`), "utf8")
         .replace(new RegExp(`^import .* from "\\./${name}\\.mjs";$`, "m"), lock)
         .replaceAll('from "./', `from "${pathToFileURL(FOLDER).href}/`);
-      const module = join(folder, `${name}.agents.mjs`);
-      writeFileSync(module, agents);
+      const module = fileIn(folder, `${name}.agents.mjs`, agents);
       // Without pilots each agent needs one worker less. What isn't a lock fails all the same.
       const outcomes = await outcomesOf(module, 50, 0, { everywhere: true });
       assert.ok(outcomes.some(({ ending }) => ending === "failed"));

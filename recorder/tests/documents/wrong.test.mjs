@@ -2,13 +2,12 @@
 // ones are found.
 
 import assert from "node:assert/strict";
-import { readFileSync, writeFileSync } from "node:fs";
-import { join } from "node:path";
+import { readFileSync } from "node:fs";
 import { test } from "node:test";
 import { fileURLToPath, pathToFileURL } from "node:url";
 import { EDITS, HIDDEN, RIGHT, STARVES, editedText, fileOf } from "../../bench/edits.mjs";
 import { PIECES, counted } from "../../bench/wrong.mjs";
-import { temporaryFolder } from "../helpers/common.mjs";
+import { fileIn, temporaryFolder } from "../helpers/common.mjs";
 
 const README = readFileSync(new URL("../../bench/README.md", import.meta.url), "utf8");
 const AMOUNT = { seeds: 20, jobs: 1 };
@@ -33,11 +32,7 @@ const OFTEN = [
 const folder = temporaryFolder();
 
 /** Writes a wrong program. @param {import("../../bench/edits.mjs").Edit} edit @returns {string} its file */
-function written(edit) {
-  const file = join(folder, `${edit.name}.mjs`);
-  writeFileSync(file, editedText(edit));
-  return file;
-}
+const written = (edit) => fileIn(folder, `${edit.name}.mjs`, editedText(edit));
 
 /**
  * Counts the failures in the runs of programs, some programs at a time.

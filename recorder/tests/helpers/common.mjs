@@ -112,6 +112,19 @@ export function agentsIn(folder, body) {
 }
 
 /**
+ * Writes a file.
+ * @param {string} folder
+ * @param {string} name
+ * @param {string | Uint8Array} text
+ * @returns {string} its path
+ */
+export function fileIn(folder, name, text) {
+  const path = join(folder, name);
+  writeFileSync(path, text);
+  return path;
+}
+
+/**
  * Writes a whole module of agents, into a folder of its own.
  * @param {import("node:test").TestContext} test
  * @param {string} text

@@ -75,6 +75,12 @@ export function placesOfText(name, text) {
   });
 }
 
+/** The first of these places, as the recorder reports it. @param {string} name @param {string} text */
+export function placeIn(name, text) {
+  const [{ line, column }] = placesOfText(name, text);
+  return `${name}.mjs:${line}:${column}`;
+}
+
 /**
  * The lines of the summary of some outcomes.
  * @param {Outcome[]} outcomes

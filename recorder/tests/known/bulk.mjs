@@ -1,15 +1,8 @@
 // Right: whole ranges are handed over, by fill, set, copyWithin, subarray, slice, reverse and sort.
 
+import { goOn, reach } from "./shared/stage.mjs";
+
 export const setup = { agents: 2, buffers: [4, 16] };
-
-function reach(stage, wanted) {
-  while (Atomics.load(stage, 0) !== wanted) Atomics.wait(stage, 0, wanted - 1);
-}
-
-function goOn(stage) {
-  Atomics.add(stage, 0, 1);
-  Atomics.notify(stage, 0);
-}
 
 export default function agent({ buffers, agent }) {
   const stage = new Int32Array(buffers[0]);

@@ -1,15 +1,8 @@
 // Right: a parcel is handed on by an agent that never touches it: what it adds to the stage carries what it has read.
 
+import { goOn, reach } from "./shared/stage.mjs";
+
 export const setup = { agents: 3, buffers: [4, 12] };
-
-function reach(stage, wanted) {
-  for (let seen = Atomics.load(stage, 0); seen < wanted; seen = Atomics.load(stage, 0)) Atomics.wait(stage, 0, seen);
-}
-
-function goOn(stage) {
-  Atomics.add(stage, 0, 1);
-  Atomics.notify(stage, 0);
-}
 
 export default function agent({ buffers, agent }) {
   const stage = new Int32Array(buffers[0]);

@@ -1,12 +1,10 @@
 // Wrong: the one permit is found by a load and taken by a store, so that two may have it.
 
+import { Semaphore } from "./shared/semaphore.mjs";
+
 export const setup = { agents: 2, buffers: [4, 8] };
 
-class Semaphore {
-  constructor(words) {
-    this.words = words;
-  }
-
+class LoadStoreSemaphore extends Semaphore {
   acquire() {
     for (;;) {
       const permits = Atomics.load(this.words, 0);
@@ -17,11 +15,6 @@ class Semaphore {
       Atomics.wait(this.words, 0, 0);
     }
   }
-
-  release() {
-    Atomics.add(this.words, 0, 1);
-    Atomics.notify(this.words, 0, 1);
-  }
 }
 
 export function init(buffers) {
@@ -29,7 +22,7 @@ export function init(buffers) {
 }
 
 export default function agent({ buffers }) {
-  const semaphore = new Semaphore(new Int32Array(buffers[0]));
+  const semaphore = new LoadStoreSemaphore(new Int32Array(buffers[0]));
   const used = new BigInt64Array(buffers[1]);
   semaphore.acquire();
   used[0] += 1n;

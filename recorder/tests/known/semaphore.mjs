@@ -1,25 +1,8 @@
 // Right: two permits for two desks, and each desk has a flag that says whose it is.
 
+import { Semaphore } from "./shared/semaphore.mjs";
+
 export const setup = { agents: 3, buffers: [4, 2, 16] };
-
-class Semaphore {
-  constructor(words) {
-    this.words = words;
-  }
-
-  acquire() {
-    for (;;) {
-      const permits = Atomics.load(this.words, 0);
-      if (permits === 0) Atomics.wait(this.words, 0, 0);
-      else if (Atomics.compareExchange(this.words, 0, permits, permits - 1) === permits) return;
-    }
-  }
-
-  release() {
-    Atomics.add(this.words, 0, 1);
-    Atomics.notify(this.words, 0, 1);
-  }
-}
 
 export function init(buffers) {
   new Int32Array(buffers[0])[0] = 2;

@@ -9,7 +9,7 @@ import { after, before, describe, it } from "node:test";
 import { setTimeout } from "node:timers/promises";
 import { pageData, pageOf, pageText } from "../../lib/keeping/kept-page.mjs";
 import { Browser, withBrowser } from "../helpers/browser.mjs";
-import { temporaryFolder } from "../helpers/common.mjs";
+import { fileIn, temporaryFolder } from "../helpers/common.mjs";
 import { EVENTS, FACTS, FILE, OUTCOME, lines, view } from "../helpers/page-run.mjs";
 import { PALE_TEXTS } from "../helpers/pale-texts.mjs";
 
@@ -71,8 +71,7 @@ describe("the page of a run, in a browser", { timeout: 600_000 }, () => {
   });
 
   it("shows the chosen step and its line when it has opened, in a low window too", withBrowser, async (context) => {
-    const path = join(temporaryFolder(context), "seed-5.html");
-    writeFileSync(path, pageText(OUTCOME, lines(FACTS), FILE, {}));
+    const path = fileIn(temporaryFolder(context), "seed-5.html", pageText(OUTCOME, lines(FACTS), FILE, {}));
     const page = await browser.open(pathToFileURL(path).href, { height: 640 });
     // The pane of the schedule takes room from the others when the simulator is there.
     const isHidden = "document.getElementById('schedule').hidden";

@@ -2,8 +2,7 @@
 // is what the program writes. The tests need the program, the built module of the simulator, and the browsers.
 
 import assert from "node:assert/strict";
-import { readFileSync, readdirSync, writeFileSync } from "node:fs";
-import { join } from "node:path";
+import { readFileSync, readdirSync } from "node:fs";
 import { setTimeout as sleep } from "node:timers/promises";
 import { pathToFileURL } from "node:url";
 import { after, before, describe, it } from "node:test";
@@ -15,7 +14,7 @@ import { Run } from "../../page/model.mjs";
 import { outputOf } from "../../schedule/editing.mjs";
 import { readReport } from "../../schedule/report-entries.mjs";
 import { BROWSER, Browser } from "../helpers/browser.mjs";
-import { temporaryFolder } from "../helpers/common.mjs";
+import { fileIn, temporaryFolder } from "../helpers/common.mjs";
 import { FIREFOX, Firefox } from "../helpers/firefox.mjs";
 import { HANDED } from "../helpers/handed.mjs";
 import { hasSabsim, needing } from "../helpers/needs.mjs";
@@ -97,8 +96,7 @@ for (const [name, { isThere, begin }] of Object.entries(BROWSERS)) {
     after(() => browser?.close());
 
     async function opened(context, text, options) {
-      const path = join(temporaryFolder(context), "page.html");
-      writeFileSync(path, text);
+      const path = fileIn(temporaryFolder(context), "page.html", text);
       const page = await browser.open(pathToFileURL(path).href, options);
       await until(page, "!document.getElementById('schedule').hidden");
       return page;
@@ -149,8 +147,7 @@ for (const [name, { isThere, begin }] of Object.entries(BROWSERS)) {
     });
 
     it("without the simulator a page of a run shows what it knows", withBrowser, async (context) => {
-      const path = join(temporaryFolder(context), "page.html");
-      writeFileSync(path, pageOf(handedData()));
+      const path = fileIn(temporaryFolder(context), "page.html", pageOf(handedData()));
       const page = await browser.open(pathToFileURL(path).href);
       assert.equal(await page.value("document.getElementById('schedule').hidden"), true);
       assert.deepEqual(await page.complaints(), []);

@@ -1,15 +1,13 @@
 // A schedule that was changed, made on the code by the command that a page shows for it.
 
 import assert from "node:assert/strict";
-import { writeFileSync } from "node:fs";
-import { join } from "node:path";
 import { test } from "node:test";
 import { howMade, replayCommand } from "../../lib/keeping/how-made.mjs";
 import { record } from "../../recorder.mjs";
 import { Editing } from "../../schedule/editing.mjs";
 import { earlier, later } from "../../schedule/edits.mjs";
 import { whyNotOnCode } from "../../schedule/on-code.mjs";
-import { agentsIn, commandThere, temporaryFolder } from "../helpers/common.mjs";
+import { agentsIn, commandThere, fileIn, temporaryFolder } from "../helpers/common.mjs";
 import { simulate } from "../helpers/simulate.mjs";
 
 // Agent 1 stores a word for agent 0. If the last argument says so, what agent 0 does depends on it.
@@ -31,8 +29,7 @@ async function movedOnCode(context, args) {
   if (at === 0) moved.change(later, at);
   else while (at > 0) ({ at } = moved.change(earlier, at));
   assert.equal(whyNotOnCode(moved), undefined);
-  const file = join(folder, "seed-1.changed.json");
-  writeFileSync(file, moved.text);
+  const file = fileIn(folder, "seed-1.changed.json", moved.text);
   return { moved, ended: await commandThere([module, "--replay", file, "--", ...args]) };
 }
 

@@ -31,22 +31,14 @@ export const orderPath = (name) => fileURLToPath(new URL(name, FOLDER));
  * @returns {Promise<{ lines: string[], status: number | null, signal: string | null, problems: string }>} what it
  *   printed, how it ended, and what it wrote to stderr
  */
-export function runInNode(path, { args = [], whenPrinted = () => {} } = {}) {
+export async function runInNode(path, { args = [], whenPrinted = () => {} } = {}) {
   const options = { stdio: /** @type {const} */ (["ignore", "pipe", "pipe"]), timeout: SECONDS * 1_000 };
   const child = spawn(process.execPath, [path, ...args], options);
-  const texts = { stdout: "", stderr: "" };
-  for (const name of /** @type {const} */ (["stdout", "stderr"])) {
-    child[name].setEncoding("utf8").on("data", (text) => {
-      texts[name] += text;
-      if (name === "stdout") whenPrinted(texts.stdout, child.pid);
-    });
-  }
-  return new Promise((done, fail) => {
-    child.on("error", fail);
-    child.on("close", (status, signal) => {
-      done({ lines: texts.stdout.split("\n").slice(0, -1), status, signal, problems: texts.stderr });
-    });
-  });
+  const end = endOf(child);
+  let printed = "";
+  child.stdout.on("data", (text) => whenPrinted(printed += text, child.pid));
+  const { stdout, stderr: problems, status, signal } = await end;
+  return { lines: stdout.split("\n").slice(0, -1), status, signal, problems };
 }
 
 /**

@@ -7,9 +7,10 @@ import { pathToFileURL } from "node:url";
 import { Log, READ } from "../../lib/memory/log.mjs";
 import { defaultsOf } from "../../lib/options/table.mjs";
 import { firstDifferent } from "../../lib/run/differing-events.mjs";
-import { Job } from "../../lib/seeds/job.mjs";
 import { KeepsGlobals } from "../../recorder.mjs";
 import { commandThere } from "../helpers/common.mjs";
+import { jobOutcomes } from "../helpers/job-runs.mjs";
+import { seedsTo } from "../helpers/recorded.mjs";
 import { programOf } from "../helpers/whole-programs.mjs";
 
 /** Two threads share three words. What main keeps shows in one way of these, in runs of which some fail by the seed. */
@@ -47,21 +48,11 @@ const SAID = {
  * @param {object} [options]
  */
 async function made(context, way, options = {}) {
-  const job = new Job();
   const outcomes = [];
   const module = pathToFileURL(programOf(context, FILES)).href;
-  const asked = { ...defaultsOf("record"), program: true, seconds: 20, checks: true, checkEvery: 1, module,
-    args: [way] };
-  const seeds = Array.from({ length: 8 }, (_, at) => ({ seed: at + 1, whole: true, isSilent: true }));
-  try {
-    await job.open({ ...asked, ...options });
-    await job.run(seeds, (outcome) => void outcomes.push(outcome));
-    return { outcomes };
-  } catch (problem) {
-    return { outcomes, problem };
-  } finally {
-    await job.close();
-  }
+  const asked = { ...defaultsOf("record"), program: true, seconds: 20, module, args: [way], ...options };
+  const problem = await jobOutcomes(asked, seedsTo(8), outcomes).then(() => undefined, (error) => error);
+  return { outcomes, problem };
 }
 
 describe("a failing run that goes another way in fresh threads", { concurrency: 4 }, () => {

@@ -4,18 +4,15 @@
 import assert from "node:assert/strict";
 import { describe, it } from "node:test";
 import { Board } from "../../lib/board/board.mjs";
-import { waysOf } from "../../lib/board/strategy/ways.mjs";
 import { LOOP, PHASE } from "../../lib/memory/layout.mjs";
 import { emptyMemory } from "../helpers/boards.mjs";
 import { seedsTo } from "../helpers/recorded.mjs";
+import { startedBoard } from "../helpers/started-boards.mjs";
 import { endingsOf, finishing, runsOf } from "../helpers/whole-programs.mjs";
 
 /** A program's board: agent 0 waits for a time, agent 1 asks for a call, agent 2 sleeps. */
 function boardOf({ early = 100, milliseconds = 50, memory = emptyMemory() } = {}) {
-  const rules = { agents: 3, starts: 3, ways: waysOf("uniform", true), maxMoves: 100_000, timeouts: 0.05, early };
-  const board = new Board(memory, rules);
-  board.begin(1);
-  for (let agent = 1; agent < 3; agent += 1) board.pass(agent - 1);
+  const board = startedBoard(3, { starts: 3, early, memory });
   board.rest(0, LOOP, milliseconds);
   board.strategy.asks(1, 0, 0, 0);
   board.line.become(1, PHASE.ASKS);

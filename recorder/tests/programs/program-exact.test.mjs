@@ -30,7 +30,7 @@ const groupWith = (module) => programGroup({ module, programOutput: "none" });
  */
 async function runsBy(context, files) {
   const module = pathToFileURL(programOf(context, files)).href;
-  opened ??= groupWith(module);
+  opened ??= programGroup({ module, programOutput: "none" });
   const group = await opened;
   group.enter(module);
   return (wanted) => group.one({ seed: 1, whole: true, wantsActs: true, isSilent: true, ...wanted });

@@ -8,7 +8,7 @@ import { test } from "node:test";
 import { fileURLToPath, pathToFileURL } from "node:url";
 import { Worker } from "node:worker_threads";
 import { GRAPH_FLAGS } from "../../lib/program/graph-flags.cjs";
-import { jsonOf, nodeThere, temporaryFolder } from "../helpers/common.mjs";
+import { fileIn, jsonOf, nodeThere, temporaryFolder } from "../helpers/common.mjs";
 import { programIn } from "../helpers/whole-programs.mjs";
 
 const FLAGS = ["--no-warnings", ...GRAPH_FLAGS];
@@ -460,8 +460,7 @@ test("graphs that are over are garbage: memory and time of a run stay", async ()
       heaps.push(process.memoryUsage().heapUsed);
     }
     console.log(JSON.stringify({ heaps, times }));`;
-  const file = join(folder, "memory/counts.mjs");
-  writeFileSync(file, code);
+  const file = fileIn(folder, "memory/counts.mjs", code);
   const { heaps, times } = jsonOf(await nodeThere(["--expose-gc", ...FLAGS, file]));
   assert.ok(heaps[3] < heaps[0] * 1.2, `bytes after each 150 runs: ${heaps}`);
   assert.ok(times[3] < times[0] * 2, `milliseconds of the quickest of each 150 runs: ${times}`);

@@ -2,16 +2,15 @@
 // builtins of the run, and after many runs the threads are started anew.
 
 import assert from "node:assert/strict";
-import { execFile } from "node:child_process";
 import { describe, it } from "node:test";
 import { fileURLToPath, pathToFileURL } from "node:url";
-import { promisify } from "node:util";
 import { GRAPH_FLAGS } from "../../lib/program/graph-flags.cjs";
 import { MOST_GROUP_RUNS } from "../../lib/program/program-group.mjs";
+import { jsonOf, nodeThere } from "../helpers/common.mjs";
 import { programGroup } from "../helpers/groups.mjs";
+import { seedsTo } from "../helpers/recorded.mjs";
 import { programOf, runsOf } from "../helpers/whole-programs.mjs";
 
-const execute = promisify(execFile);
 const GRAPHS = fileURLToPath(new URL("../helpers/graph-process.mjs", import.meta.url));
 
 /**
@@ -23,9 +22,7 @@ const GRAPHS = fileURLToPath(new URL("../helpers/graph-process.mjs", import.meta
 async function linesOf(context, files) {
   const urls = [pathToFileURL(programOf(context, files)).href];
   const words = ["--no-warnings", ...GRAPH_FLAGS, GRAPHS, JSON.stringify(urls), "3"];
-  const { stdout, stderr } = await execute(process.execPath, words);
-  assert.equal(stderr, "");
-  return JSON.parse(stdout)[0];
+  return jsonOf(await nodeThere(words))[0];
 }
 
 describe("a module that each run makes anew", () => {
@@ -53,7 +50,7 @@ describe("a module that each run makes anew", () => {
         }`,
       "bad.mjs": "export const bad = ;",
     };
-    const { stdout } = await execute(process.execPath, [programOf(context, files)]);
+    const { stdout } = await nodeThere([programOf(context, files)]);
     assert.deepEqual(await linesOf(context, files), Array(3).fill([stdout.trim()]));
   });
 });
@@ -91,9 +88,7 @@ describe("threads that are kept", () => {
     const group = await programGroup({ module: pathToFileURL(main).href, everywhere: true });
     context.after(() => group.close());
     const moves = [];
-    const seeds = Array.from({ length: MOST_GROUP_RUNS + 1 }, (_, at) => ({
-      seed: at + 1, whole: false, isSilent: true,
-    }));
+    const seeds = seedsTo(MOST_GROUP_RUNS + 1).map((seed) => ({ seed, whole: false, isSilent: true }));
     await group.run(seeds, (outcome) => void moves.push(outcome.moves));
     assert.equal(moves.length, MOST_GROUP_RUNS + 1);
     assert.equal(new Set(moves).size, 8);

@@ -157,7 +157,6 @@ test("`testProgram` fails with the finding, shortened and kept, and passes other
 test("`assertProgram` is a part of any test: it fails with RunFailed if a run fails", async (context) => {
   await assertProgram({ program: knownProgram("hand-over/right.mjs"), seeds: 3 });
   const out = temporaryFolder(context);
-  await assert.rejects(assertProgram({ program: TOO_SOON, seeds: "1..40", shorten: false, out }), (error) => {
-    return error.name === "RunFailed" && /^seed \d+: race/.test(error.message);
-  });
+  await assert.rejects(assertProgram({ program: TOO_SOON, seeds: "1..40", shorten: false, out }), (error) =>
+    error.name === "RunFailed" && /^seed \d+: race/.test(error.message));
 });

@@ -3,13 +3,12 @@
 
 import assert from "node:assert/strict";
 import { readFileSync, writeFileSync } from "node:fs";
-import nodeModule from "node:module";
 import { join } from "node:path";
 import { test } from "node:test";
-import { pathToFileURL } from "node:url";
 import { TRIED } from "../../lib/processes/node-versions.mjs";
 import { record } from "../../recorder.mjs";
 import { RECORD, nodeNow, temporaryFolder } from "../helpers/common.mjs";
+import { loadsTypeScript, typeScriptWords, withTypeScript } from "../helpers/typescript-hook.mjs";
 import { whereNodeHasIt } from "../helpers/where-node-has-it.mjs";
 
 const PROGRAM = `import { Worker, isMainThread, workerData } from "node:worker_threads";
@@ -43,10 +42,7 @@ function filesIn(context, files) {
 }
 
 /** What the recorder's command line does, with words for node before it. */
-function ranBy(words, nodeWords = []) {
-  const all = [...nodeWords, RECORD, ...words, "--seeds", "1..2"];
-  return nodeNow(all);
-}
+const ranBy = (words, nodeWords = []) => nodeNow([...nodeWords, RECORD, ...words, "--seeds", "1..2"]);
 
 test("a node that lacks something of its inside refuses programs by name, and runs modules of agents", (context) => {
   const file = filesIn(context, { "main.mjs": PROGRAM, "agents.mjs": AGENTS, "lacking.cjs": LACKING });
@@ -76,9 +72,7 @@ test("the summary names a version on which programs weren't tried, as text and a
   assert.doesNotMatch(ranBy([file("agents.mjs")], nodeWords).stdout, /weren't tried/);
 });
 
-const isLoaded = Boolean(/** @type {any} */ (process.features).typescript);
-
-whereNodeHasIt(!isLoaded)("a program in TypeScript is refused by a node that loads none", async (context) => {
+whereNodeHasIt(!loadsTypeScript)("a program in TypeScript is refused by a node that loads none", async (context) => {
   const file = filesIn(context, { "main.ts": RACING });
   const { status, stdout, stderr } = ranBy(["--program", file("main.ts")]);
   assert.deepEqual([status, stdout], [2, ""]);
@@ -95,24 +89,11 @@ if (isMainThread) new Worker(new URL(import.meta.url), { workerData: memory });
 memory[0] += 1;
 `;
 
-/** For a node that loads no TypeScript: a file that leaves out the types of that program. */
-const HOOK = `import { readFileSync } from "node:fs";
-import { registerHooks } from "node:module";
-registerHooks({
-  load(url, context, next) {
-    if (!/\\.m?ts$/.test(url)) return next(url, context);
-    const source = readFileSync(new URL(url), "utf8").replace(/^type .*|: Memory/gm, (type) => " ".repeat(type.length));
-    return { format: "module", source, shortCircuit: true };
-  },
-});`;
-
-const withTypeScript = whereNodeHasIt(isLoaded || nodeModule.registerHooks !== undefined);
-
 withTypeScript("a program in TypeScript has its own lines", (context) => {
-  const file = filesIn(context, { "main.ts": RACING, "other.mts": RACING, "hook.mjs": HOOK });
+  const file = filesIn(context, { "main.ts": RACING, "other.mts": RACING });
+  const nodeWords = typeScriptWords(file("."), /^type .*|: Memory/gm);
   for (const name of ["main.ts", "other.mts"]) {
-    const hook = isLoaded ? [] : ["--import", pathToFileURL(file("hook.mjs")).href];
-    const { status, stdout, stderr } = ranBy(["--program", file(name)], hook);
+    const { status, stdout, stderr } = ranBy(["--program", file(name)], nodeWords);
     assert.equal(status, 1, stderr);
     assert.match(stdout,
       new RegExp(`agent 1 \\(${name}, started at ${name}:5:19\\) (?:reads|writes) .* at ${name}:6:`));

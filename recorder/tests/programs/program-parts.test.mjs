@@ -2,12 +2,11 @@
 // the same steps.
 
 import assert from "node:assert/strict";
-import { writeFileSync } from "node:fs";
-import { join } from "node:path";
 import { test } from "node:test";
 import { fileURLToPath, pathToFileURL } from "node:url";
 import { GRAPH_FLAGS } from "../../lib/program/graph-flags.cjs";
-import { jsonOf, nodeThere, temporaryFolder } from "../helpers/common.mjs";
+import { jsonOf, nodeThere } from "../helpers/common.mjs";
+import { programOf } from "../helpers/whole-programs.mjs";
 
 const PROCESS = fileURLToPath(new URL("../helpers/parts-process.mjs", import.meta.url));
 
@@ -45,10 +44,8 @@ async function runsOf(file) {
 }
 
 test("a program with files, timers, promises and streams goes as in node, and repeats", async (context) => {
-  const file = join(temporaryFolder(context), "main.mjs");
-  writeFileSync(file, PROGRAM);
-  writeFileSync(join(file, "../late.mjs"),
-    `export const late = await new Promise((done) => setTimeout(done, 10, "late"));`);
+  const late = `export const late = await new Promise((done) => setTimeout(done, 10, "late"));`;
+  const file = programOf(context, { "main.mjs": PROGRAM, "late.mjs": late });
   const { stdout } = await nodeThere(["--no-warnings", file]);
   const runs = await runsOf(file);
   assert.deepEqual(`${runs[0].lines.join("\n")}\n`, stdout);
@@ -57,8 +54,7 @@ test("a program with files, timers, promises and streams goes as in node, and re
 });
 
 test("functions that aren't simulated are refused by name in ES modules, too", async (context) => {
-  const file = join(temporaryFolder(context), "main.mjs");
-  writeFileSync(file, REFUSED);
+  const file = programOf(context, { "main.mjs": REFUSED });
   const names = ["cluster.fork", "v8.takeCoverage", "PerformanceObserver", "fs.watch", "module.register",
     "fs.openAsBlob", "process.chdir"];
   for (const { lines } of await runsOf(file)) assert.deepEqual(lines, names.map((name) => `refused: ${name}`));

@@ -1,13 +1,13 @@
 // Sockets, pipes and child processes of whole programs: the machine answers, and that an answer comes is a move.
 
 import assert from "node:assert/strict";
-import { existsSync, readFileSync, readdirSync, writeFileSync } from "node:fs";
+import { existsSync, readFileSync, readdirSync } from "node:fs";
 import { join } from "node:path";
 import { describe, it } from "node:test";
 import { pathToFileURL } from "node:url";
 import { defaultsOf } from "../../lib/options/table.mjs";
-import { Job } from "../../lib/seeds/job.mjs";
-import { commandThere, temporaryFolder } from "../helpers/common.mjs";
+import { commandThere, fileIn, temporaryFolder } from "../helpers/common.mjs";
+import { jobOutcomes } from "../helpers/job-runs.mjs";
 import { onLinux, withShell } from "../helpers/needs.mjs";
 import { CLOSED, LISTENS, ONE_THREAD, RACE, TWO_THREADS } from "../helpers/real-programs.mjs";
 import { seedsTo } from "../helpers/recorded.mjs";
@@ -255,8 +255,7 @@ exec("sleep 0.5", () => { clearInterval(timer); if (ticks > 20) throw new Error(
  * @param {number} failing how many runs come before
  */
 function counting(context, failing) {
-  const file = join(temporaryFolder(context), "count");
-  writeFileSync(file, "0");
+  const file = fileIn(temporaryFolder(context), "count", "0");
   return programOf(context, { "main.mjs": `import { execSync } from "node:child_process";
 import { Worker } from "node:worker_threads";
 const count = Number(execSync("n=$(cat '${file}'); echo $n; echo $((n + 1)) > '${file}'"));
@@ -269,20 +268,10 @@ Atomics.add(words, 0, 1);` });
 
 describe("a run that can't be repeated", () => {
   it("is a finding, which says so", withShell, async (context) => {
-    const job = new Job();
     const module = pathToFileURL(counting(context, 1)).href;
-    /** @type {any[]} */
-    const outcomes = [];
-    try {
-      // Pilots would be further runs.
-      const options = { ...defaultsOf("record"), program: true, everywhere: true, seconds: 20, module };
-      await job.open({ ...options, checks: true, checkEvery: 1 });
-      const seeds = seedsTo(2).map((seed) => ({ seed, whole: true, isSilent: true }));
-      await job.run(seeds, (outcome) => void outcomes.push(outcome));
-    } finally {
-      await job.close();
-    }
-    const [first, second] = outcomes;
+    // Pilots would be further runs.
+    const options = { ...defaultsOf("record"), program: true, everywhere: true, seconds: 20, module };
+    const [first, second] = await jobOutcomes(options, [1, 2]);
     assert.deepEqual([first.ending, second.ending, second.checked], ["finished", "failed", true]);
     const lines = second.detail.split("\n");
     assert.equal(lines[0], "agent 0 threw Error: it fails");

@@ -14,7 +14,7 @@ import { Refused } from "../../lib/options/refused.mjs";
 import { shorten } from "../../lib/shorter/shorten.mjs";
 import { explore } from "../../recorder.mjs";
 import { commandHere } from "../helpers/command-here.mjs";
-import { commandNow, temporaryFolder } from "../helpers/common.mjs";
+import { commandNow, fileIn, temporaryFolder } from "../helpers/common.mjs";
 import { firstFailing, programGroup } from "../helpers/groups.mjs";
 import { WORKER, mainWith, programIn, programOf } from "../helpers/whole-programs.mjs";
 
@@ -150,8 +150,7 @@ test("an edited row makes another run of the program, or it is said which draw i
   const all = JSON.parse(readFileSync(file, "utf8"));
   /** @param {number[][]} row */
   const replayedBy = (row) => {
-    const path = join(dirname(file), "edited.program.json");
-    writeFileSync(path, JSON.stringify({ ...all, row }));
+    const path = fileIn(dirname(file), "edited.program.json", JSON.stringify({ ...all, row }));
     return commandHere(["--replay", path]);
   };
   for await (const { ending, row } of explore({ program: main, args: ["mine"], seeds: "1..60", timeouts: 0.2 })) {

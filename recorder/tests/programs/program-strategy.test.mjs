@@ -4,7 +4,6 @@
 import assert from "node:assert/strict";
 import { readFileSync } from "node:fs";
 import { describe, it } from "node:test";
-import { Board } from "../../lib/board/board.mjs";
 import { waysOf } from "../../lib/board/strategy/ways.mjs";
 import { bytesAsked } from "../../lib/agent/effects.mjs";
 import { MESSAGES, MESSAGE_BYTES, loopPlace } from "../../lib/memory/blocks.mjs";
@@ -15,6 +14,7 @@ import { byteOf } from "../../lib/memory/recorded-memory.mjs";
 import { Moves, TO_CHANNELS, toPort } from "../../lib/program/moves.mjs";
 import { emptyMemory } from "../helpers/boards.mjs";
 import { seedsTo } from "../helpers/recorded.mjs";
+import { startedBoard } from "../helpers/started-boards.mjs";
 import { runsOf } from "../helpers/whole-programs.mjs";
 
 const { WAITERS } = FLAG;
@@ -28,10 +28,8 @@ function asking(rules = {}) {
   const way = waysOf(strategy, true);
   // Of several ways a run takes one by its seed, also if they are alike.
   const ways = isMixed ? [...way, ...way] : way;
-  const board = new Board(emptyMemory(),
-    { agents, ways, maxMoves: 100_000, timeouts, early: isProgram ? 100 : undefined });
-  board.begin(seed);
-  for (let agent = 1; agent < agents; agent += 1) board.pass(agent - 1);
+  const memory = emptyMemory();
+  const board = startedBoard(agents, { seed, memory, ways, timeouts, early: isProgram ? 100 : undefined });
   for (let agent = 0; agent < agents; agent += 1) ask(board, agent, 400 + agent);
   return board;
 }

@@ -2,14 +2,10 @@
 // happens-before, and what is said of runs that use it.
 
 import assert from "node:assert/strict";
-import { execFile } from "node:child_process";
 import { describe, it } from "node:test";
-import { promisify } from "node:util";
-import { RECORD } from "../helpers/common.mjs";
+import { commandThere } from "../helpers/common.mjs";
 import { seedsTo } from "../helpers/recorded.mjs";
 import { WORKER, endingsOf, finishing, mainWith, programOf, racing, runsOf } from "../helpers/whole-programs.mjs";
-
-const execute = promisify(execFile);
 
 const MAIN = mainWith(16);
 
@@ -130,8 +126,8 @@ describe("a run that uses it", () => {
         await Promise.all(all);`,
       "worker.mjs": `${WORKER}while (Atomics.load(words, 1) === 0); Atomics.notify(words, 0);`,
     });
-    const words = [RECORD, "--program", path, "--seeds", "1..12", "--jobs", "1", "--limits", "allow"];
-    const { stdout } = await execute(process.execPath, words).catch((error) => error);
+    const { stdout } = await commandThere(
+      ["--program", path, "--seeds", "1..12", "--jobs", "1", "--limits", "allow"]);
     const LEFT = /^(\d+) runs have no script, and weren't replayed: it has more than 16 threads and waits of /m;
     const [, counted] = LEFT.exec(stdout) ?? [];
     assert.ok(Number(counted) > 1 && Number(counted) < 12, stdout);

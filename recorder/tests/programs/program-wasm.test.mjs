@@ -2,12 +2,10 @@
 // what wait and notify do is as the standard says.
 
 import assert from "node:assert/strict";
-import { writeFileSync } from "node:fs";
-import { join } from "node:path";
 import { describe, it } from "node:test";
-import { fileURLToPath, pathToFileURL } from "node:url";
+import { fileURLToPath } from "node:url";
 import { hasSharedMemory, translated } from "../../lib/program/wasm/translate.mjs";
-import { commandNow, temporaryFolder } from "../helpers/common.mjs";
+import { commandNow } from "../helpers/common.mjs";
 import { seedsTo } from "../helpers/recorded.mjs";
 import { endingsOf, finishing, racing, runsOf } from "../helpers/whole-programs.mjs";
 import { ATOMIC, code, moduleOf } from "../programs/wasm/assembled.mjs";
@@ -156,9 +154,7 @@ describe("instructions that use the memory do what the engine's do", () => {
   for (const wasmAccesses of ["ordinary", "relaxed"]) {
     it(`with ${wasmAccesses} accesses`, async (context) => {
       const calls = callsOf(wasmAccesses.length);
-      const folder = temporaryFolder(context);
-      writeFileSync(join(folder, "calls.mjs"), CALLS);
-      const { results } = await import(pathToFileURL(join(folder, "calls.mjs")).href);
+      const { results } = await import(`data:text/javascript,${encodeURIComponent(CALLS)}`);
       const memory = new WebAssembly.Memory({ initial: 1, maximum: 1, shared: true });
       const { exports } = new WebAssembly.Instance(new WebAssembly.Module(ALL), { env: { memory } });
       const expected = results(exports, memory, calls);

@@ -2,7 +2,7 @@
 // what goes wrong is found with its thread and line.
 
 import assert from "node:assert/strict";
-import { mkdirSync, readFileSync, readdirSync, writeFileSync } from "node:fs";
+import { readFileSync, readdirSync } from "node:fs";
 import { dirname, join } from "node:path";
 import { after, before, describe, it, test } from "node:test";
 import { pathToFileURL } from "node:url";
@@ -16,8 +16,9 @@ import { commandNow, jsonOf, nodeNow, temporaryFolder } from "../helpers/common.
 import { programGroup } from "../helpers/groups.mjs";
 import { CHECKER } from "../helpers/needs.mjs";
 import { TableRuns } from "../helpers/program-findings.mjs";
+import { seedsTo } from "../helpers/recorded.mjs";
 import { linesInBrowser } from "../helpers/web-page.mjs";
-import { programOf, runsOf } from "../helpers/whole-programs.mjs";
+import { programIn, programOf, runsOf } from "../helpers/whole-programs.mjs";
 import { runsInRecorder } from "../programs/order.mjs";
 import { PROGRAMS } from "../programs/table.mjs";
 
@@ -46,13 +47,9 @@ after(() => group.close());
  * @returns {Promise<(import("../../lib/run/outcome.mjs").Outcome & import("../../lib/check/check.mjs").Check)[]>}
  */
 async function webRuns(files, seeds = 1, needsTrace = false) {
-  for (const [name, text] of Object.entries(files)) {
-    mkdirSync(dirname(join(room, name)), { recursive: true });
-    writeFileSync(join(room, name), text);
-  }
-  group.enter(pathToFileURL(join(room, "main.js" in files ? "main.js" : "main.mjs")).href);
+  group.enter(pathToFileURL(programIn(room, files)).href);
   const outcomes = [];
-  const wanted = Array.from({ length: seeds }, (_, at) => ({ seed: at + 1, whole: true, needsTrace, isSilent: true }));
+  const wanted = seedsTo(seeds).map((seed) => ({ seed, whole: true, needsTrace, isSilent: true }));
   await group.run(wanted, (outcome, judgement, aside) => {
     outcomes.push(checkedBy(simulatorAt(CHECKER), { outcome, judgement, aside }));
   });
@@ -401,14 +398,13 @@ test("a kept run knows that it is one for browsers, and is made again", (context
     "w.js": "onmessage = ({ data }) => {\n  if (Atomics.load(data, 0) === 0) Atomics.wait(data, 1, 0);\n};",
   });
   const out = join(dirname(main), "found");
-  const run = (...words) => commandNow(words);
   const words = ["--seeds", "1..50", "--fail-fast", "--no-shorten", "--out", out];
-  const { status, stdout } = run("--program", main, "--web", ...words);
+  const { status, stdout } = commandNow(["--program", main, "--web", ...words]);
   assert.equal(status, 1, stdout);
   const [, seed] = /^first failing seed: (\d+), deadlock$/m.exec(stdout) ?? [];
   const kept = join(out, `seed-${seed}.program.json`);
   assert.deepEqual(JSON.parse(readFileSync(kept, "utf8")).options, { web: true });
-  const again = run("--replay", kept);
+  const again = commandNow(["--replay", kept]);
   assert.equal(again.status, 1, again.stderr);
   assert.match(again.stdout, /agent 1 \(w\.js, started at main\.mjs:1:16\) waits at byte 4 of block 0/);
 });

@@ -2,13 +2,13 @@
 // and judges them. Which bytes stand where is worked out by hand.
 
 import assert from "node:assert/strict";
-import { cpSync, readFileSync, readdirSync, writeFileSync } from "node:fs";
+import { cpSync, readFileSync, readdirSync } from "node:fs";
 import { join } from "node:path";
 import { describe, it } from "node:test";
 import { keptProgram } from "../../lib/keeping/kept-program.mjs";
 import { windowNames } from "../../lib/run/window-names.mjs";
 import { TouchedPages, Windows } from "../../lib/run/windows.mjs";
-import { commandThere, refusedInALine, temporaryFolder } from "../helpers/common.mjs";
+import { commandThere, fileIn, refusedInALine, temporaryFolder } from "../helpers/common.mjs";
 import { seedsTo } from "../helpers/recorded.mjs";
 import { slowRaces } from "../helpers/slow-judge.mjs";
 import { programIn, runsOf } from "../helpers/whole-programs.mjs";
@@ -369,8 +369,7 @@ describe("a kept run", () => {
       assert.notEqual(texts[at], text);
       assert.throws(() => keptProgram(texts[at], kept), refusedInALine(new RegExp(`kept: ${says}$`)));
     }
-    const refused = join(folder, "wrong.program.json");
-    writeFileSync(refused, texts[0]);
+    const refused = fileIn(folder, "wrong.program.json", texts[0]);
     const { status, stderr } = await commandThere(["--replay", refused]);
     assert.deepEqual([status, stderr.trim().replace(/.*kept: /, "")], [2, wrong[0][1]]);
   });

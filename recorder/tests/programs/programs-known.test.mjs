@@ -8,7 +8,6 @@ import { TableRuns, findingOf } from "../helpers/program-findings.mjs";
 import { PROGRAMS, urlOf } from "../programs/table.mjs";
 
 const SEEDS = 200;
-const PARTS = 1;
 
 /** Of a rare program at most one run in so many fails, if each thread that can go on is as likely. */
 const RARE = 50;

@@ -1,12 +1,10 @@
 // What the engine and node have for modules of agents: each name has its row, and what rows say of newer names is done.
 
 import assert from "node:assert/strict";
-import { writeFileSync } from "node:fs";
-import { join } from "node:path";
 import { test } from "node:test";
 import threads, { Worker } from "node:worker_threads";
 import { SURFACE, namesHere } from "../../lib/agent/agent-api-table.mjs";
-import { temporaryFolder } from "../helpers/common.mjs";
+import { moduleOf } from "../helpers/common.mjs";
 import { recorded } from "../helpers/recorded.mjs";
 import { whereNodeHasIt } from "../helpers/where-node-has-it.mjs";
 
@@ -35,22 +33,17 @@ const found = () => new Promise((done, fail) => {
 test("each global, and all that there is for memory, threads and time, has one row", async () => {
   const names = await found();
   assert.deepEqual(names.map(([owner]) => owner).sort(), Object.keys(SURFACE).sort());
-  const here = names.flatMap(([owner, list]) => {
-    return owner === "globalThis" ? list : list.map((name) => `${owner}.${name}`);
-  });
+  const here = names.flatMap(([owner, list]) =>
+    (owner === "globalThis" ? list : list.map((name) => `${owner}.${name}`)));
   assert.deepEqual(here.sort(), namesHere().sort());
 });
 
 /** A module of one agent, whose line 3 is given. @param {object} context of the test @param {string} line */
-function moduleOf(context, line) {
-  const module = join(temporaryFolder(context), "agents.mjs");
-  writeFileSync(module, `import threads from "node:worker_threads";
+const moduleWith = (context, line) => moduleOf(context, `import threads from "node:worker_threads";
     export default ({ buffers: [buffer] }) => {
     ${line}
       Atomics.add(new Int32Array(buffer), 0, 1);
     };`);
-  return module;
-}
 
 const withLocks = whereNodeHasIt(threads.locks !== undefined);
 
@@ -60,7 +53,7 @@ withLocks("navigator.locks, also of worker_threads, is refused by name and line"
     ["threads.locks.request('a', { ifAvailable: true }, () => 5);", "request"],
     ["threads.locks.query();", "query"],
   ]) {
-    const module = moduleOf(context, code);
+    const module = moduleWith(context, code);
     for (const more of [{}, { ordinary: "store" }, { unrecorded: "allow" }]) {
       const [{ ending, detail }] = await recorded({ module, agents: 1, buffers: [8], ...more });
       assert.equal(ending, "failed", code);
@@ -75,7 +68,7 @@ const withPause = whereNodeHasIt(Atomics.pause !== undefined);
 
 withPause("Atomics.pause is no move, and checks what it is given as the engine", async (context) => {
   const refused = "try { Atomics.pause('5'); throw 5; } catch (error) { if (!(error instanceof TypeError)) throw 6; }";
-  const module = moduleOf(context, `if (Atomics.pause(3) !== undefined) throw 7; ${refused}`);
+  const module = moduleWith(context, `if (Atomics.pause(3) !== undefined) throw 7; ${refused}`);
   const [{ ending, detail, script }] = await recorded({ module, agents: 1, buffers: [8] });
   assert.equal(ending, "finished", detail);
   assert.deepEqual(JSON.parse(script).agents[0].calls, [["add", "Int32", 0, 1]]);

@@ -9,6 +9,7 @@ import { fileURLToPath } from "node:url";
 import { MACHINE } from "../../lib/processes/platform.cjs";
 import { RECORD, agentsIn, agentsPath, temporaryFolder } from "../helpers/common.mjs";
 import { withShell, withSignals } from "../helpers/needs.mjs";
+import { endOf } from "../helpers/programs.mjs";
 import { programIn } from "../helpers/whole-programs.mjs";
 
 /** @typedef {import("../../lib/processes/platform.cjs").Platform} Platform */
@@ -94,23 +95,16 @@ test("a SIGINT that the command and its job both get ends both, after what was f
     `);
     const words = [RECORD, module, "--agents", "2", "--buffers", "4", "--seeds", "1..10000000", "--jobs", "1"];
     const child = spawn(process.execPath, [...asOnWindows(folder, ["hasGroups"]), ...words], { detached: true });
-    const texts = { stdout: "", stderr: "" };
     // The job holds its pipes too, so it has ended then.
-    const isClosed = new Promise((done) => {
-      child.on("close", (_, signal) => done(signal));
-    });
+    const end = endOf(child);
     await new Promise((begun) => {
-      for (const name of ["stdout", "stderr"]) {
-        child[name].setEncoding("utf8").on("data", (text) => {
-          texts[name] += text;
-          if (texts.stderr.includes("\n") || texts.stdout.includes("\n")) begun();
-        });
-      }
+      for (const name of ["stdout", "stderr"]) child[name].on("data", (text) => text.includes("\n") && begun());
     });
     // As a console does it.
     process.kill(-child.pid, "SIGINT");
-    assert.equal(await isClosed, "SIGINT");
-    assert.match(texts.stdout, /^interrupted by SIGINT after [\d,]+ of 10,000,000 runs$/m);
+    const { stdout, signal } = await end;
+    assert.equal(signal, "SIGINT");
+    assert.match(stdout, /^interrupted by SIGINT after [\d,]+ of 10,000,000 runs$/m);
   });
 
 /** Each file in a folder is held by another program the first two times that it is removed or gets another name. */

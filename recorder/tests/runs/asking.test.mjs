@@ -10,7 +10,7 @@ import { checkedBy } from "../../lib/check/check.mjs";
 import { Difference } from "../../lib/check/difference.mjs";
 import { simulatorAt } from "../../lib/simulator/chosen.mjs";
 import { ModuleSimulator } from "../../lib/simulator/module.mjs";
-import { agentsPath, nodeNow, temporaryFolder } from "../helpers/common.mjs";
+import { agentsPath, fileIn, nodeNow, temporaryFolder } from "../helpers/common.mjs";
 import { groupOf } from "../helpers/groups.mjs";
 import { limited } from "../helpers/limited-module.mjs";
 import { TRAPPING, misspelling } from "../helpers/wrong-modules.mjs";
@@ -27,11 +27,8 @@ const run = await group.one({ seed: 1, whole: true });
  * @param {import("node:test").TestContext} context
  * @param {Uint8Array} bytes
  */
-function simulatorOf(context, bytes) {
-  const path = join(temporaryFolder(context), "sabsim.wasm");
-  writeFileSync(path, bytes);
-  return new ModuleSimulator(pathToFileURL(path));
-}
+const simulatorOf = (context, bytes) =>
+  new ModuleSimulator(pathToFileURL(fileIn(temporaryFolder(context), "sabsim.wasm", bytes)));
 
 /** What modules are wrong in, and what the check says then. */
 const WRONG = {

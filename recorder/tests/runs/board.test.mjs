@@ -10,21 +10,7 @@ import { JOIN, LEAVE, MAKE, TIME_UP } from "../../lib/board/journal.mjs";
 import { waysOf } from "../../lib/board/strategy/ways.mjs";
 import { Turn } from "../../lib/board/turn.mjs";
 import { ORDER, PHASE, WORD } from "../../lib/memory/layout.mjs";
-
-const RULES = { ways: waysOf("uniform", true), maxMoves: 100_000, timeouts: 0.05 };
-
-/**
- * A board whose agents have all been started, and are at a phase.
- * @param {number[]} phases
- * @param {object} [rules]
- */
-function boardAt(phases, rules = {}) {
-  const board = new Board(Board.memory(), { ...RULES, agents: phases.length, ...rules });
-  board.begin(rules.seed ?? 1);
-  for (let agent = 0; agent < phases.length - 1; agent += 1) assert.equal(board.pass(agent), false);
-  phases.forEach((phase, agent) => board.line.become(agent, phase));
-  return board;
-}
+import { boardAt } from "../helpers/started-boards.mjs";
 
 /** Who gets the turn, if it is passed on many times. */
 function drawn(board, from, times) {
@@ -70,9 +56,8 @@ test("agents move that ask, that were woken, or that wait with a timeout, and al
 });
 
 test("the end of a wait's time is offered in a share of the draws, and always if nothing else can move", () => {
-  const timesUp = (phases, timeouts) => {
-    return drawn(boardAt(phases, { timeouts }), 1, 4_000).filter((agent) => phases[agent] === PHASE.WAITS_TIMED).length;
-  };
+  const timesUp = (phases, timeouts) =>
+    drawn(boardAt(phases, { timeouts }), 1, 4_000).filter((agent) => phases[agent] === PHASE.WAITS_TIMED).length;
   const two = [PHASE.ASKS, PHASE.WAITS_TIMED];
   // Where it is offered, it is one of two: 4,000 draws, times the share, times a half.
   assert.equal(timesUp(two, 0), 0);

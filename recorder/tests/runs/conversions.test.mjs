@@ -2,14 +2,14 @@
 // same steps of the agents' code in the same order, and a script that has what comes of the conversions.
 
 import assert from "node:assert/strict";
-import { readFileSync, writeFileSync } from "node:fs";
+import { readFileSync } from "node:fs";
 import { join } from "node:path";
 import { after, before, describe, test } from "node:test";
 import { explore, record } from "../../recorder.mjs";
 import { KIND_NAMES, found } from "../agents/conversions.mjs";
 import { CASE_WORD } from "../helpers/case-word.mjs";
 import { Cases } from "../helpers/cases.mjs";
-import { agentsIn, agentsPath, temporaryFolder } from "../helpers/common.mjs";
+import { agentsIn, agentsPath, fileIn, temporaryFolder } from "../helpers/common.mjs";
 import { CHECKER } from "../helpers/needs.mjs";
 
 /** With `everywhere` no pilots are made first. `record` throws if sabsim doesn't replay the script to the report. */
@@ -176,9 +176,8 @@ describe("an index at the edges of what a Number holds exactly", () => {
 
   const folder = temporaryFolder();
   before(() => {
-    const module = join(folder, "agents.mjs");
     const calls = beyond.map(({ code, index }) => `(words) => {\nAtomics.${code.replace("AT", `${index}`)}; },\n`);
-    writeFileSync(module, `const CALLS = [${calls.join("")}];
+    const module = fileIn(folder, "agents.mjs", `const CALLS = [${calls.join("")}];
       export default function agent({ buffers }) {
         const words = new Int32Array(buffers[0]);
         CALLS[words[${CASE_WORD}]](words);

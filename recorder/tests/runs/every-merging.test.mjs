@@ -6,30 +6,19 @@ import { writeFileSync } from "node:fs";
 import { join } from "node:path";
 import { test } from "node:test";
 import { pathToFileURL } from "node:url";
-import { Worker } from "node:worker_threads";
-import graphFlags from "../../lib/program/graph-flags.cjs";
+import { compared } from "../../bench/merging.mjs";
 import { BODIES, LONG, MODULES, longModuleOf, moduleOf } from "../every/nasty.mjs";
-import { temporaryFolder } from "../helpers/common.mjs";
+import { fileIn, temporaryFolder } from "../helpers/common.mjs";
 
 const FOLDER = temporaryFolder();
 
 const NAMES = Object.keys(BODIES);
 
 /** @param {string} name of a file without its ending @param {string} text @returns {string} its URL */
-function written(name, text) {
-  const file = join(FOLDER, `${name}.mjs`);
-  writeFileSync(file, text);
-  return pathToFileURL(file).href;
-}
+const written = (name, text) => pathToFileURL(fileIn(FOLDER, `${name}.mjs`, text)).href;
 
 /** @param {string[]} urls @param {object} [more] @returns {Promise<any[]>} */
-const learned = (urls, more = {}) => new Promise((done, fail) => {
-  const workerData = { urls, limit: 100_000, ...more };
-  const execArgv = [...graphFlags.GRAPH_FLAGS, "--no-warnings"];
-  const worker = new Worker(new URL("../../bench/merging-worker.mjs", import.meta.url), { workerData, execArgv });
-  worker.on("message", done);
-  worker.on("error", fail);
-});
+const learned = (urls, more = {}) => compared({ urls, limit: 100_000, ...more });
 
 test("what agents are given can be shown", async () => {
   const text = `export const setup = { agents: 2, buffers: [8] };

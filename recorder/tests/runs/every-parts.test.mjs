@@ -30,9 +30,8 @@ test("an agent that never comes back in the code as it is written isn't as it wa
   const module = moduleOf(context, `${COUNTS.replace("void", "void spin() ??")}let runs = 0;
 function spin() { runs += 1; if (runs > 1) for (;;); }
 `);
-  const problem = await everySchedule({ module, seeds: 1, seconds: 1 }).catch((error) => error);
-  assert.ok(problem instanceof NotAsLearned, problem);
-  assert.match(problem.message, /than was learned\. There an agent .* didn't come back within 1 s: .* keep something /);
+  const message = /than was learned\. There an agent .* didn't come back within 1 s: .* keep something /;
+  await assert.rejects(everySchedule({ module, seeds: 1, seconds: 1 }), { constructor: NotAsLearned, message });
 });
 
 test("a module that can't be loaded is refused, and one that asks for chance while it is loaded", async (context) => {
@@ -42,9 +41,7 @@ test("a module that can't be loaded is refused, and one that asks for chance whi
     ["const chance = Math.random();\n", /it asks for a random number, at agents\.mjs:1:21$/],
   ])) {
     const module = moduleOf(context, begins + COUNTS);
-    const problem = await everySchedule({ module, seeds: 1 }).catch((error) => error);
-    assert.ok(problem instanceof Refused, problem);
-    assert.match(problem.message, wanted);
+    await assert.rejects(everySchedule({ module, seeds: 1 }), { constructor: Refused, message: wanted });
   }
 });
 

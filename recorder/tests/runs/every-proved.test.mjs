@@ -2,8 +2,7 @@
 // JavaScript has found.
 
 import assert from "node:assert/strict";
-import { readFileSync, readdirSync, writeFileSync } from "node:fs";
-import { join } from "node:path";
+import { readFileSync, readdirSync } from "node:fs";
 import { test } from "node:test";
 import { fileURLToPath } from "node:url";
 import { NotSearched, provedSearch } from "../../lib/every/proved.mjs";
@@ -14,7 +13,7 @@ import { searched } from "../../lib/every/search/searched-file.mjs";
 import { ModuleSimulator } from "../../lib/simulator/module.mjs";
 import { Simulator } from "../../wasm/simulator.mjs";
 import { NoSabsim, NotAsLearned, everySchedule } from "../../recorder.mjs";
-import { temporaryFolder } from "../helpers/common.mjs";
+import { fileIn, temporaryFolder } from "../helpers/common.mjs";
 import { linesOf } from "../helpers/search-lines.mjs";
 
 const HERE = new URL("../", import.meta.url);
@@ -172,8 +171,7 @@ test("what has no room in the module is left out at the end of a line, and that 
 test("a file that --out has kept is searched by the program, and by the module", async (context) => {
   const out = temporaryFolder(context);
   const { data, result } = foundIn("mutex-of-2-agents");
-  const file = join(out, "all.automata.json");
-  writeFileSync(file, `${JSON.stringify(data)}\n`);
+  const file = fileIn(out, "all.automata.json", `${JSON.stringify(data)}\n`);
   const module = new WebAssembly.Module(readFileSync(new URL("../wasm/sabsim.wasm", HERE)));
   const words = ["search", "--limit", "100000", "--format", "json", file];
   const ended = new Simulator(module).command(words, (name) => readFileSync(/** @type {string} */ (name)));

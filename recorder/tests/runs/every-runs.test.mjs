@@ -1,7 +1,6 @@
 // Real runs beside a search of every schedule that fail in a way which the search hasn't found.
 
 import assert from "node:assert/strict";
-import { writeFileSync } from "node:fs";
 import { join } from "node:path";
 import { test } from "node:test";
 import { dataOf } from "../../lib/every/data.mjs";
@@ -12,7 +11,7 @@ import { everyOptions } from "../../lib/library/every-schedule.mjs";
 import { simulatorAt } from "../../lib/simulator/chosen.mjs";
 import { NotAsLearned, everySchedule, record } from "../../recorder.mjs";
 import { assertAgents } from "../../testing.mjs";
-import { COUNTS, commandThere, moduleOf, temporaryFolder } from "../helpers/common.mjs";
+import { COUNTS, commandThere, fileIn, moduleOf, temporaryFolder } from "../helpers/common.mjs";
 
 /** The exchange of one agent and the read of another are unordered, and no state has a conflict. */
 const EXCHANGE = `export const setup = { agents: 2, buffers: [4] };
@@ -63,9 +62,8 @@ test("a data race of a real run contradicts a search without conflicts", async (
 export default ({ buffers }) => void (new Int32Array(buffers[0])[0] += 1);
 `), trace: true, seed: 1 });
   assert.equal(races.ending, "race");
-  const contradicts = /^the run of seed 1 has a data race, and .* none that does: agent/;
-  assert.throws(() => new OnlyRuns([], simulatorAt()).take(races, true), (/** @type {any} */ problem) =>
-    problem instanceof NotAsLearned && contradicts.test(problem.message));
+  const message = /^the run of seed 1 has a data race, and .* none that does: agent/;
+  assert.throws(() => new OnlyRuns([], simulatorAt()).take(races, true), { constructor: NotAsLearned, message });
   const unordered = await record({ module: moduleOf(context, EXCHANGE), trace: true, seed: 1 });
   assert.equal(unordered.ending, "race");
   const only = new OnlyRuns([], simulatorAt());
@@ -90,9 +88,8 @@ test("runs that meet a limit, or in which nothing was tried, are listed", async 
 
 test("a `check` that finds something else in the same bytes isn't as it was learned", async (context) => {
   const module = moduleOf(context, `${COUNTS}let calls = 0;\nexport const check = () => (calls += 1) < 3;\n`);
-  const problem = await everySchedule({ module, seeds: 6 }).catch((error) => error);
-  assert.ok(problem instanceof NotAsLearned, problem);
-  assert.match(problem.message, /^the run of seed \d fails check, .*: check returned false\. `check` may go by some/);
+  const message = /^the run of seed \d fails check, .*: check returned false\. `check` may go by some/;
+  await assert.rejects(everySchedule({ module, seeds: 6 }), { constructor: NotAsLearned, message });
 });
 
 test("a run whose trace lacks accesses isn't compared, and the summary says so", async (context) => {
@@ -119,8 +116,7 @@ export default function agent({ buffers, agent: self }) {
 });
 
 test("code that node loads first is refused, since nobody sees what it keeps", async (context) => {
-  const first = join(temporaryFolder(context), "first.cjs");
-  writeFileSync(first, "");
+  const first = fileIn(temporaryFolder(context), "first.cjs", "");
   const env = { ...process.env, NODE_OPTIONS: `--require ${first}` };
   const { status, stderr } = await commandThere([moduleOf(context, COUNTS), "--all"], { env });
   assert.equal(status, 2);

@@ -10,7 +10,7 @@ import { fileURLToPath, pathToFileURL } from "node:url";
 import { learnApart } from "../../lib/every/learning/apart.mjs";
 import { resultIn, statusOf } from "../../lib/every/search/lines.mjs";
 import { searched } from "../../lib/every/search/searched-file.mjs";
-import { temporaryFolder } from "../helpers/common.mjs";
+import { fileIn, temporaryFolder } from "../helpers/common.mjs";
 import { needing } from "../helpers/needs.mjs";
 
 /** The model is in Python. */
@@ -53,8 +53,7 @@ print(json.dumps(found))
 `;
 
 test("files that were drawn", withPython, (context) => {
-  const script = join(temporaryFolder(context), "draws.py");
-  writeFileSync(script, DRAWS);
+  const script = fileIn(temporaryFolder(context), "draws.py", DRAWS);
   const options = /** @type {const} */ ({ encoding: "utf8", maxBuffer: 2 ** 28 });
   const { stdout, error, status, stderr } = spawnSync("python3", [script, SEARCH, "1", "200"], options);
   assert.equal(error, undefined);
@@ -105,8 +104,7 @@ test("the automata of modules of agents", withPython, async (context) => {
     const wanted = { module, args: [], place: {}, timeouts, limit: 20_000, within: 60 };
     const { file, isClosed, result } = await learnApart(wanted, { seconds: 10 });
     assert.ok(isClosed, module);
-    const path = join(folder, "automata.json");
-    writeFileSync(path, JSON.stringify(file));
+    const path = fileIn(folder, "automata.json", JSON.stringify(file));
     const words = [join(SEARCH, "result"), "--limit", "20000", path];
     const { stdout, error, status, stderr } = spawnSync("python3", words, { encoding: "utf8" });
     assert.equal(error, undefined);

@@ -151,6 +151,14 @@ test("what a module throws is learned as it is written", async (context) => {
   }
 });
 
+/**
+ * An agent does something else than was learned.
+ * @param {object} options of everySchedule
+ * @param {RegExp} [message]
+ */
+const demandNotAsLearned = (options, message = /./) =>
+  assert.rejects(everySchedule({ seeds: 1, ...options }), { constructor: NotAsLearned, message });
+
 test("what agents do before any call is learned a second time", async (context) => {
   const module = moduleOf(context, `let runs = 0;
 export const setup = { agents: 2, buffers: [8] };
@@ -159,8 +167,7 @@ export default function agent({ agent: self }) {
   if (runs > 1) throw new Error("not the first, " + self);
 }
 `);
-  const problem = await everySchedule({ module, seeds: 1 }).catch((error) => error);
-  assert.ok(problem instanceof NotAsLearned, problem);
+  await demandNotAsLearned({ module });
 });
 
 test("agents that keep something from run to run aren't as they were learned", async () => {
@@ -175,9 +182,8 @@ test("agents that keep something from run to run aren't as they were learned", a
 test("an agent that goes by the depth of its stack isn't as it was learned", async (context) => {
   const deep = "let n = 0;\n  const deep = () => { n += 1; deep(); };\n  try { deep(); } catch {}";
   const module = moduleOf(context, LOADS(`${deep}\n  Atomics.store(words, 1, n);`));
-  const problem = await everySchedule({ module, seeds: 1 }).catch((error) => error);
-  assert.ok(problem instanceof NotAsLearned, problem);
-  assert.match(problem.message, /something else than was learned.*\["store","Int32_0",1,\d+\]; and now it does: \[/);
+  await demandNotAsLearned({ module },
+    /something else than was learned.*\["store","Int32_0",1,\d+\]; and now it does: \[/);
   const other = moduleOf(context, LOADS(deep));
   assert.deepEqual((await everySchedule({ module: other, seeds: 1 })).found, []);
 });
@@ -342,9 +348,7 @@ test("a time that is over at any moment, or never", async (context) => {
 
 test("an agent that changes the language's own objects isn't as it was learned", async (context) => {
   const module = moduleOf(context, LOADS("Math.abs = () => 1;"));
-  const problem = await everySchedule({ module, seeds: 2 }).catch((error) => error);
-  assert.ok(problem instanceof NotAsLearned, problem);
-  assert.match(problem.message, /changes the language's own objects/);
+  await demandNotAsLearned({ module, seeds: 2 }, /changes the language's own objects/);
 });
 
 test("modules that import from each other in all forms are learned as they are written", async (context) => {

@@ -4,14 +4,13 @@ import assert from "node:assert/strict";
 import { spawn } from "node:child_process";
 import { randomUUID } from "node:crypto";
 import { once } from "node:events";
-import { writeFileSync } from "node:fs";
-import { join } from "node:path";
 import { test } from "node:test";
 import { setTimeout as sleep } from "node:timers/promises";
 import { Delivery } from "../../lib/seeds/delivery.mjs";
 import { Difference, LostJob, NoSabsim, Refused, explore, record } from "../../recorder.mjs";
 import {
-  LIES, agentsIn, agentsPath, processesWith, refusedInALine, shellProgram, soon, stayingWith, temporaryFolder,
+  LIES, agentsIn, agentsPath, fileIn, processesWith, refusedInALine, shellProgram, soon, stayingWith,
+  temporaryFolder,
 } from "../helpers/common.mjs";
 import { CHECKER, NOWHERE, onLinux, withShell } from "../helpers/needs.mjs";
 import { endOf } from "../helpers/programs.mjs";
@@ -202,23 +201,32 @@ const WAYS_OUT = {
   "its own end": "for await (const { fails } of runs);",
 };
 
+/**
+ * Runs code that has `explore` in processes of their own, with the options of one job and of two.
+ * @param {import("node:test").TestContext} context
+ * @param {(options: object) => string} codeOf
+ * @param {object} how the processes are started
+ * @param {(child: import("node:child_process").ChildProcess, mark: string) => Promise<void>} look at each; the mark is
+ *   in its environment
+ */
+async function inProcesses(context, codeOf, how, look) {
+  const folder = temporaryFolder(context);
+  await Promise.all([1, 2].map((jobs) => {
+    const mark = randomUUID();
+    const file = fileIn(folder, `${jobs}.mjs`, `import { explore } from "${LIBRARY}";\n${codeOf(ofJobs(jobs))}`);
+    return look(spawn(process.execPath, [file], { env: { ...process.env, RECORDER_TEST: mark }, ...how }), mark);
+  }));
+}
+
 for (const [what, code] of Object.entries(WAYS_OUT)) {
   test(`${what} leaves no worker and no process behind`, onLinux, async (context) => {
-    const folder = temporaryFolder(context);
-    await Promise.all([1, 2].map(async (jobs) => {
-      const mark = randomUUID();
-      const options = { ...ofJobs(jobs), checkEvery: 1, seeds: 40 };
-      const file = join(folder, `${jobs}.mjs`);
-      writeFileSync(file, `
-        import { explore } from "${LIBRARY}";
-        const runs = explore(${JSON.stringify(options)});
-        ${code}
-        process.send("over");
-        await new Promise((done) => process.once("disconnect", done));
-      `);
-      const env = { ...process.env, RECORDER_TEST: mark };
-      const stdio = ["ignore", "inherit", "inherit", "ipc"];
-      const child = spawn(process.execPath, [file], { env, stdio });
+    const codeOf = (options) => `
+      const runs = explore(${JSON.stringify({ ...options, checkEvery: 1, seeds: 40 })});
+      ${code}
+      process.send("over");
+      await new Promise((done) => process.once("disconnect", done));
+    `;
+    await inProcesses(context, codeOf, { stdio: ["ignore", "inherit", "inherit", "ipc"] }, async (child, mark) => {
       const ended = once(child, "exit").then(([status]) => status);
       // It goes on until it has no parent to speak to.
       await Promise.race([once(child, "message"), ended]);
@@ -226,27 +234,22 @@ for (const [what, code] of Object.entries(WAYS_OUT)) {
       if (child.connected) child.disconnect();
       // It ends by itself: no worker holds it.
       assert.deepEqual([await ended, processesWith(mark)], [0, []]);
-    }));
+    });
   });
 }
 
 test("a signal that is aborted while no outcome is taken ends all the same", onLinux, async (context) => {
-  const folder = temporaryFolder(context);
-  await Promise.all([1, 2].map(async (jobs) => {
-    const mark = randomUUID();
-    const file = join(folder, `${jobs}.mjs`);
-    writeFileSync(file, `
-      import { explore } from "${LIBRARY}";
-      const controller = new AbortController();
-      const options = ${JSON.stringify({ ...ofJobs(jobs), seeds: 1_000_000 })};
-      await explore({ ...options, signal: controller.signal }).next();
-      controller.abort();
-    `);
-    const child = spawn(process.execPath, [file], { env: { ...process.env, RECORDER_TEST: mark }, timeout: 600_000 });
+  const codeOf = (options) => `
+    const controller = new AbortController();
+    const options = ${JSON.stringify({ ...options, seeds: 1_000_000 })};
+    await explore({ ...options, signal: controller.signal }).next();
+    controller.abort();
+  `;
+  await inProcesses(context, codeOf, { timeout: 600_000 }, async (child, mark) => {
     // It ends by itself, though nobody has asked the iterator for more.
     const { status } = await endOf(child);
     assert.deepEqual([status, await stayingWith(mark)], [0, []]);
-  }));
+  });
 });
 
 test("a delivery hands out in order, and says how far runs may go", async () => {

@@ -2,8 +2,6 @@
 // own variables, and the summary says so. How the runs ended stays as it was.
 
 import assert from "node:assert/strict";
-import { writeFileSync } from "node:fs";
-import { join } from "node:path";
 import { describe, test } from "node:test";
 import { merged, partsOf } from "../../lib/command/merging.mjs";
 import { summaryText } from "../../lib/command/summary-text.mjs";
@@ -12,7 +10,7 @@ import { differenceBetween, rememberingText } from "../../lib/seeds/first-again.
 import { explore } from "../../recorder.mjs";
 import { assertAgents } from "../../testing.mjs";
 import { commandHere } from "../helpers/command-here.mjs";
-import { commandThere, temporaryFolder } from "../helpers/common.mjs";
+import { commandThere, fileIn, moduleOf, temporaryFolder } from "../helpers/common.mjs";
 
 const SIDE_BY_SIDE = { concurrency: 4 };
 
@@ -37,14 +35,6 @@ const textOf = (way, seed = 1) =>
   `seed ${seed} was run once more at the end, and ${SAID[way]}: `
   + "the module keeps something in its own variables: try --fresh";
 
-/** @param {import("node:test").TestContext} context */
-function moduleIn(context) {
-  const folder = temporaryFolder(context);
-  const module = join(folder, "agents.mjs");
-  writeFileSync(module, MODULE);
-  return module;
-}
-
 /**
  * Runs the command line, and gives its summary as an object of JSON, and the status. If it has several jobs, they and
  * it are processes of their own.
@@ -52,7 +42,7 @@ function moduleIn(context) {
 async function summaryOf(context, way, words) {
   // No worker begins that isn't needed.
   const agents = ["--agents", "2", "--everywhere"];
-  const all = [moduleIn(context), "--format", "json", ...agents, ...words, "--", way];
+  const all = [moduleOf(context, MODULE), "--format", "json", ...agents, ...words, "--", way];
   const { status, stdout, stderr } = words.includes("--jobs") ? await commandThere(all) : await commandHere(all);
   if (stdout === "") throw new Error(stderr);
   return { status, summary: JSON.parse(stdout) };
@@ -100,7 +90,7 @@ describe("a module that keeps something from run to run", SIDE_BY_SIDE, () => {
   });
 
   test("is in the last outcome of explore alone", async (context) => {
-    const options = { module: moduleIn(context), seeds: 3, args: ["bytes"], agents: 2, everywhere: true };
+    const options = { module: moduleOf(context, MODULE), seeds: 3, args: ["bytes"], agents: 2, everywhere: true };
     const outcomes = [];
     for await (const { seed, remembers } of explore(options)) outcomes.push([seed, remembers]);
     const found = { seed: 1, differs: "bytes", was: "finished", is: "finished", threw: false, real: false };
@@ -112,7 +102,7 @@ describe("a module that keeps something from run to run", SIDE_BY_SIDE, () => {
 
   test("is reported if a test of agents fails", async (context) => {
     const out = temporaryFolder(context);
-    const options = { module: moduleIn(context), seeds: 3, args: ["ending"], agents: 2, everywhere: true, out };
+    const options = { module: moduleOf(context, MODULE), seeds: 3, args: ["ending"], agents: 2, everywhere: true, out };
     await assert.rejects(assertAgents(options), (error) => error.message.includes(textOf("ending")));
   });
 });
@@ -154,10 +144,8 @@ test("joined summaries keep the difference of the lowest seed", (context) => {
     const summary = new Summary(options);
     summary.remembers = { seed, differs: "bytes", was: "finished", is: "finished", threw: false, real: false };
     const asked = { module: "m.mjs", digest: "", seeds: [{ first: 1, last: 9 }], shard: null, options };
-    const file = join(folder, `${seed}.json`);
     const seeds = [{ first: seed, last: seed + 1 }];
-    writeFileSync(file, JSON.stringify({ summary: 4, asked, seeds, ...summary.data() }));
-    return file;
+    return fileIn(folder, `${seed}.json`, JSON.stringify({ summary: 4, asked, seeds, ...summary.data() }));
   });
   assert.equal(merged(parts.flatMap(partsOf)).remembers.seed, 4);
 });

@@ -2,7 +2,6 @@
 // a folder that can't be made, the short options; and that agents don't see what the recorder has handed their workers.
 
 import assert from "node:assert/strict";
-import { spawnSync } from "node:child_process";
 import { existsSync, readFileSync, writeFileSync } from "node:fs";
 import { join } from "node:path";
 import { test } from "node:test";
@@ -12,24 +11,16 @@ import { Refused } from "../../lib/options/refused.mjs";
 import { loadProblem } from "../../lib/run/load-problem.mjs";
 import { record } from "../../recorder.mjs";
 import { commandHere } from "../helpers/command-here.mjs";
-import { RECORD, temporaryFolder } from "../helpers/common.mjs";
+import { RECORD, fileIn, nodeNow, temporaryFolder } from "../helpers/common.mjs";
 import { onLinux } from "../helpers/needs.mjs";
 
 const MERGE = fileURLToPath(new URL("../../merge.mjs", import.meta.url));
 
 /** Runs a program of the recorder. */
-function run(program, words) {
-  const { status, stdout, stderr } = spawnSync(process.execPath, [program, ...words],
-    { encoding: "utf8", timeout: 60_000 });
-  return { status, output: stdout, errors: stderr };
-}
+const run = (program, words) => nodeNow([program, ...words], { timeout: 60_000 });
 
 /** A file in a new folder. */
-function fileWith(context, name, text) {
-  const file = join(temporaryFolder(context), name);
-  writeFileSync(file, text);
-  return file;
-}
+const fileWith = (context, name, text) => fileIn(temporaryFolder(context), name, text);
 
 const PROGRAM = `
   import { writeFileSync } from "node:fs";
@@ -40,7 +31,7 @@ test("a program given as a module of agents is refused before it runs, with what
   const file = fileWith(context, "program.mjs", PROGRAM);
   const why = `${file} is no module of agents, since it has no default export. If it is a program, give it as `
     + "`program` (--program). An agent is a function: export default function agent({ buffers, agent }) { .. }";
-  assert.deepEqual(run(RECORD, [file]), { status: 2, output: "", errors: `record: ${why}\n` });
+  assert.deepEqual(run(RECORD, [file]), { status: 2, stdout: "", stderr: `record: ${why}\n` });
   const asked = record({ module: pathToFileURL(file), agents: 1, buffers: [4] });
   await assert.rejects(asked, (error) => error instanceof Refused && error.message === why);
   assert.ok(!existsSync(join(file, "../ran")));
@@ -87,8 +78,8 @@ test("TypeScript that this node doesn't load is refused with what to do, without
   assert.equal(loadProblem(url, without), why);
   assert.equal(loadProblem(url, "Error: its own"), `${url} can't be loaded: Error: its own`);
   if (process.features.typescript) return;
-  const { status, errors } = run(RECORD, [file, "--agents", "1", "--buffers", "4"]);
-  assert.deepEqual([status, errors], [2, `record: ${why}\n`]);
+  const { status, stderr } = run(RECORD, [file, "--agents", "1", "--buffers", "4"]);
+  assert.deepEqual([status, stderr], [2, `record: ${why}\n`]);
 });
 
 test("a folder that can't be made is refused at once", onLinux, (context) => {
@@ -107,13 +98,13 @@ test("-h and -V do what --help and --version do, as sabsim's, and -v is refused 
   const { version } = JSON.parse(readFileSync(new URL("../../../package.json", import.meta.url), "utf8"));
   for (const [program, name] of [[RECORD, "record"], [MERGE, "merge"]]) {
     const help = run(program, ["--help"]);
-    assert.match(help.output, new RegExp(`^usage: node recorder/${name}\\.mjs `));
+    assert.match(help.stdout, new RegExp(`^usage: node recorder/${name}\\.mjs `));
     assert.deepEqual(run(program, ["-h"]), help);
-    const printed = { status: 0, output: `sabsim-${name} ${version}\n`, errors: "" };
+    const printed = { status: 0, stdout: `sabsim-${name} ${version}\n`, stderr: "" };
     for (const word of ["-V", "--version"]) assert.deepEqual(run(program, [word]), printed, word);
     assert.equal(run(program, ["-v"]).status, 2);
   }
-  assert.equal(run(RECORD, ["-v"]).errors, "record: there is no option -v: is -V meant?\n");
+  assert.equal(run(RECORD, ["-v"]).stderr, "record: there is no option -v: is -V meant?\n");
 });
 
 test("an agent sees nothing of what the recorder has handed its worker", async (context) => {

@@ -6,7 +6,7 @@ import { existsSync, mkdirSync, readFileSync, readdirSync, symlinkSync, writeFil
 import { join } from "node:path";
 import { test } from "node:test";
 import { NotKept, RunStore } from "../../lib/keeping/run-store.mjs";
-import { RECORD, agentsPath, nodeNow, refusedInALine, soon, temporaryFolder } from "../helpers/common.mjs";
+import { RECORD, agentsPath, fileIn, nodeNow, refusedInALine, soon, temporaryFolder } from "../helpers/common.mjs";
 import { CHECKING, onLinux, withLinks, withShell, withSignals } from "../helpers/needs.mjs";
 import { endOf } from "../helpers/programs.mjs";
 
@@ -53,8 +53,7 @@ test("a run without a script has no file of one", (context) => {
 
 test("a link that lies at a file's name isn't followed", withLinks, (context) => {
   const folder = temporaryFolder(context);
-  const outside = join(temporaryFolder(context), "outside");
-  writeFileSync(outside, "as it was");
+  const outside = fileIn(temporaryFolder(context), "outside", "as it was");
   for (const name of filesOf(5)) symlinkSync(outside, join(folder, name));
   // Names that a file may be written to first, if they could be known.
   for (const name of [`.seed-5.json.${process.pid}`, ".seed-5.json", "seed-5.json.tmp"]) {

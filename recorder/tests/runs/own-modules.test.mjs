@@ -7,7 +7,7 @@ import { test } from "node:test";
 import { fileURLToPath, pathToFileURL } from "node:url";
 import { compileFunction } from "node:vm";
 import { compiledModules, evaluated, ownModules } from "../../lib/processes/own-modules.cjs";
-import { RECORD, agentsPath, nodeNow, temporaryFolder } from "../helpers/common.mjs";
+import { RECORD, agentsPath, fileIn, nodeNow, temporaryFolder } from "../helpers/common.mjs";
 
 const ROOTS = ["agent/agent-worker.mjs", "run/referee.mjs"]
   .map((path) => new URL(`../../lib/${path}`, import.meta.url));
@@ -15,11 +15,7 @@ const ROOTS = ["agent/agent-worker.mjs", "run/referee.mjs"]
 const withoutRoot = (root) => ownModules(root).slice(0, -1);
 
 /** A module of some text. */
-function written(context, text, name = "module.mjs") {
-  const path = join(temporaryFolder(context), name);
-  writeFileSync(path, text);
-  return pathToFileURL(path);
-}
+const written = (context, text, name = "module.mjs") => pathToFileURL(fileIn(temporaryFolder(context), name, text));
 
 for (const root of ROOTS) {
   const name = root.href.split("/").at(-1);

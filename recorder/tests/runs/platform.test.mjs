@@ -25,7 +25,7 @@ import { SourceNames } from "../../lib/run/source-names.mjs";
 import { startJob } from "../../lib/seeds/start-job.cjs";
 import { keptFolder } from "../../lib/suite/kept-folder.mjs";
 import { Browser, withBrowser } from "../helpers/browser.mjs";
-import { temporaryFolder } from "../helpers/common.mjs";
+import { fileIn, temporaryFolder } from "../helpers/common.mjs";
 import { needing, withPosixPaths, withSignals } from "../helpers/needs.mjs";
 import { FACTS, FILE, OUTCOME, lines as linesOf } from "../helpers/page-run.mjs";
 import { endOf } from "../helpers/programs.mjs";
@@ -99,8 +99,7 @@ const inBrowser = { ...withBrowser, timeout: 600_000 };
 
 test("a page made of files with carriage returns shows its run", inBrowser, async (context) => {
   const { pageData, pageOf } = await withCarriageReturns(context)("lib/keeping/kept-page.mjs");
-  const path = join(temporaryFolder(context), "seed-5.html");
-  writeFileSync(path, pageOf(pageData(OUTCOME, linesOf(FACTS), FILE)));
+  const path = fileIn(temporaryFolder(context), "seed-5.html", pageOf(pageData(OUTCOME, linesOf(FACTS), FILE)));
   const browser = new Browser();
   context.after(() => browser.close());
   const page = await browser.open(pathToFileURL(path).href);

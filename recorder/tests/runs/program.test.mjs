@@ -10,8 +10,8 @@ import { test } from "node:test";
 import { commandOptionsOf, USAGE } from "../../lib/command/options.mjs";
 import { commandHere } from "../helpers/command-here.mjs";
 import {
-  LIES, RECORD, WITHOUT_SABSIM, agentsIn, agentsPath, commandNow, commandThere, processesWith, refusedInALine,
-  shellProgram, soon, stayingWith, temporaryFolder,
+  LIES, RECORD, WITHOUT_SABSIM, agentsIn, agentsPath, commandNow, commandThere, fileIn, processesWith,
+  refusedInALine, shellProgram, soon, stayingWith, temporaryFolder,
 } from "../helpers/common.mjs";
 import { CHECKING, NOWHERE, hasSabsim, onLinux, withDevices, withShell } from "../helpers/needs.mjs";
 import { endOf } from "../helpers/programs.mjs";
@@ -203,8 +203,7 @@ test("help names each option that there is", () => {
 
 test("a wrong command line is refused with status 2 and one line", async (context) => {
   const folder = temporaryFolder(context);
-  const file = join(folder, "file");
-  writeFileSync(file, "");
+  const file = fileIn(folder, "file", "");
   const module = agentsPath("cases");
   const unchecked = ["--check", "0"];
   // Fewer workers begin before the command line is refused.
@@ -348,8 +347,7 @@ test("the cause of a worker's death while its module is loaded is reported", asy
     "exit code 5": "process.exit(5);",
   };
   for (const [why, code] of Object.entries(deaths)) {
-    const module = join(folder, "dies.mjs");
-    writeFileSync(module, `${code}\nexport default () => {};\n`);
+    const module = fileIn(folder, "dies.mjs", `${code}\nexport default () => {};\n`);
     const { status, stderr } = await commandHere([module, "--agents", "1", "--buffers", "4", "--check", "0"]);
     assert.equal(status, 2, why);
     assert.match(stderr, /^record: .*dies\.mjs can't be loaded: /);

@@ -3,16 +3,13 @@
 // break, stacks that overflow, clocks and random numbers.
 
 import assert from "node:assert/strict";
-import { writeFileSync } from "node:fs";
-import { join } from "node:path";
 import { after, before, describe, test } from "node:test";
-import { pathToFileURL } from "node:url";
 import { Group } from "../../lib/run/group.mjs";
 import { Refused, record } from "../../recorder.mjs";
 import { ASKS } from "../agents/deep.mjs";
 import { CASE_WORD } from "../helpers/case-word.mjs";
 import { Cases } from "../helpers/cases.mjs";
-import { agentsIn, moduleOf, temporaryFolder } from "../helpers/common.mjs";
+import { agentsIn, fileIn, moduleOf, temporaryFolder } from "../helpers/common.mjs";
 import { CHECKER } from "../helpers/needs.mjs";
 import { recorded } from "../helpers/recorded.mjs";
 
@@ -67,9 +64,8 @@ async function recordBody(context, body, options = {}) {
  * @returns {Promise<{ outcomes: import("../helpers/cases.mjs").CheckedOutcome[], lines: number[] }>} of each body
  */
 async function recordBodies(context, { top = "", bodies }, options = {}) {
-  const agents = join(temporaryFolder(context), "agents.mjs");
   const above = `${top}\nconst BODIES = [\n`;
-  writeFileSync(agents, `${above}${bodies.map((body) => `(words) => { ${body} },\n`).join("")}];
+  const agents = moduleOf(context, `${above}${bodies.map((body) => `(words) => { ${body} },\n`).join("")}];
     export default function agent({ buffers }) {
       const words = new Int32Array(buffers[0]);
       BODIES[words[${CASE_WORD}]](words);
@@ -109,9 +105,8 @@ describe("work that goes on later", () => {
   const call = "Atomics.add(words, 1, 1);";
 
   test("fails the run, before a call and after the last one, and the run says what goes on", async (context) => {
-    const all = later.flatMap(([name, body, word]) => {
-      return [`${body} ${call}`, `${call} ${body}`].map((both) => [name, both, word]);
-    });
+    const all = later.flatMap(([name, body, word]) =>
+      [`${body} ${call}`, `${call} ${body}`].map((both) => [name, both, word]));
     const { outcomes, lines } = await recordBodies(context, { top: IMPORTS, bodies: all.map(([, body]) => body) });
     outcomes.forEach(({ ending, detail }, at) => {
       const [name, , word] = all[at];
@@ -381,8 +376,7 @@ describe("arrays of the program's own", () => {
   });
 
   test("the module may be compiled to CommonJS", async (context) => {
-    const agents = join(temporaryFolder(context), "agents.cjs");
-    writeFileSync(agents, `"use strict";
+    const agents = fileIn(temporaryFolder(context), "agents.cjs", `"use strict";
       Object.defineProperty(exports, "__esModule", { value: true });
       exports.setup = { agents: 2, buffers: [16] };
       exports.default = function agent({ buffers, agent }) {
@@ -506,16 +500,8 @@ test("a worker that takes the place of another one begins nothing before it is a
         process.exit(3);
       }
     }`);
-  const group = await Group.open({
-    module: pathToFileURL(path).href, args: [], agents: 2, buffers: [4], maxMoves: 100, seconds: 5, fresh: false,
-    everywhere: true,
-  });
-  const found = [];
-  try {
-    await group.run([1, 2, 3, 4, 5].map((seed) => ({ seed, whole: true })), (outcome) => found.push(outcome));
-  } finally {
-    await group.close();
-  }
+  const how = { module: path, agents: 2, buffers: [4], maxMoves: 100, everywhere: true };
+  const found = await recorded(how, [1, 2, 3, 4, 5]);
   assert.equal(found.length, 5);
   for (const { detail, bytes } of found) {
     assert.match(detail, /^agent 0's worker died: .*exit code 3$/);

@@ -10,9 +10,9 @@ import { checkedBy } from "../../lib/check/check.mjs";
 import { Difference } from "../../lib/check/difference.mjs";
 import { CheckedRuns, MOST_CHECKED_RUNS } from "../../lib/check/checked-runs.mjs";
 import { checkedOptions } from "../../lib/library/library-options.mjs";
-import { Job } from "../../lib/seeds/job.mjs";
 import { ModuleSimulator } from "../../lib/simulator/module.mjs";
 import { moduleOf, shellProgram, temporaryFolder } from "../helpers/common.mjs";
+import { jobOutcomes } from "../helpers/job-runs.mjs";
 import { withShell } from "../helpers/needs.mjs";
 import { SIMULATOR_WORDS } from "../helpers/simulate.mjs";
 
@@ -34,18 +34,9 @@ class Answering {
 const SEEDS = [1, 2, 3];
 
 /** The outcomes of a job's runs. @param {{ module: string, sabsim?: string }} options */
-async function checkedRuns({ module, sabsim }) {
-  const job = new Job();
-  /** @type {import("../../lib/seeds/job.mjs").CheckedOutcome[]} */
-  const outcomes = [];
-  try {
-    const options = checkedOptions({ module: pathToFileURL(module) }, () => undefined);
-    await job.open({ ...options, fresh: false, checks: true, checkEvery: 1, sabsim });
-    await job.run(SEEDS.map((seed) => ({ seed, whole: true })), (outcome) => outcomes.push(outcome));
-  } finally {
-    await job.close();
-  }
-  return outcomes;
+function checkedRuns({ module, sabsim }) {
+  const options = checkedOptions({ module: pathToFileURL(module) }, () => undefined);
+  return jobOutcomes({ ...options, fresh: false, sabsim }, SEEDS);
 }
 
 /** A run as a group hands it on. @param {{ seed?: number, script?: string, report?: string }} outcome */

@@ -14,7 +14,7 @@ import { NoLongerTheSame } from "../../lib/shorter/differing.mjs";
 import { keptScript } from "../../lib/shorter/kept-script.mjs";
 import { explore, record } from "../../recorder.mjs";
 import { commandHere } from "../helpers/command-here.mjs";
-import { RECORD, commandNow, temporaryFolder } from "../helpers/common.mjs";
+import { RECORD, commandNow, fileIn, temporaryFolder } from "../helpers/common.mjs";
 import { CHECKING } from "../helpers/needs.mjs";
 
 // A relay with an `init`, ordinary writes, waits with and without a time, and an end that its `check` may find wrong.
@@ -53,12 +53,10 @@ let kept;
 /** A folder with the module and with the kept script of its run. @param {import("node:test").TestContext} context */
 async function keptRun(context) {
   const folder = temporaryFolder(context);
-  const module = join(folder, "relay.mjs");
-  writeFileSync(module, CODE);
+  const module = fileIn(folder, "relay.mjs", CODE);
   kept ??= await record({ module, agents: 2, everywhere: true, seed: KEPT_SEED, sabsim: false });
   assert.equal(kept.ending, "check");
-  const file = join(folder, `seed-${KEPT_SEED}.json`);
-  writeFileSync(file, kept.script);
+  const file = fileIn(folder, `seed-${KEPT_SEED}.json`, kept.script);
   return { folder, module, file, outcome: kept };
 }
 
@@ -91,8 +89,7 @@ test("a kept run is made again, and the simulator says the same of it", async (c
 
 test("the seed is that of the file's name, or of --seeds, or else 1", async (context) => {
   const { folder, module, file, outcome } = await keptRun(context);
-  const other = join(folder, "other.json");
-  writeFileSync(other, outcome.script);
+  const other = fileIn(folder, "other.json", outcome.script);
   const words = [module, "--replay", other, "--check", "0"];
   const given = await commandHere([...words, "--seeds", "4"]);
   assert.equal(given.status, 1);
@@ -167,8 +164,7 @@ async function changedBefore(context, [before, after], joins) {
   writeFileSync(module, code(before));
   for await (const { seed, ending, answers, script } of explore({ module, seeds: 50, checkEvery: 1 })) {
     if (ending !== "failed" || answers[0][0] !== (joins ? "ok" : "not-equal")) continue;
-    const file = join(folder, `seed-${seed}.json`);
-    writeFileSync(file, script);
+    const file = fileIn(folder, `seed-${seed}.json`, script);
     writeFileSync(module, code(after));
     return { module, file };
   }
@@ -196,10 +192,7 @@ test("a file that is no script of the recorder is refused, and options of anothe
   const { folder, module, file, outcome } = await keptRun(context);
   const script = JSON.parse(outcome.script);
   const { schedule: moves } = script;
-  const written = (name, text) => {
-    writeFileSync(join(folder, name), text);
-    return join(folder, name);
-  };
+  const written = (name, text) => fileIn(folder, name, text);
   const changed = (change) => JSON.stringify({ ...script, ...change });
   const wrong = [
     [join(folder, "none.json"), /^--replay .*none\.json can't be read: ENOENT/],

@@ -4,9 +4,7 @@
 import assert from "node:assert/strict";
 import { readdirSync } from "node:fs";
 import { describe, it, test } from "node:test";
-import { Board } from "../../lib/board/board.mjs";
 import { REAL_ANSWER } from "../../lib/board/drawn-schedule.mjs";
-import { waysOf } from "../../lib/board/strategy/ways.mjs";
 import { checkedBy } from "../../lib/check/check.mjs";
 import { PHASE, WORD } from "../../lib/memory/layout.mjs";
 import { firstOtherMove } from "../../lib/run/same.mjs";
@@ -16,24 +14,12 @@ import { simulatorAt } from "../../lib/simulator/chosen.mjs";
 import { agentsPath } from "../helpers/common.mjs";
 import { firstFailing, groupOf } from "../helpers/groups.mjs";
 import { CHECKER } from "../helpers/needs.mjs";
+import { boardAt } from "../helpers/started-boards.mjs";
 
 const { ASKS, WAITS, WAITS_TIMED, WOKEN, FINISHED } = PHASE;
 
-/**
- * A board whose agents have all been started, and are at a phase.
- * @param {number[]} phases
- * @param {object} row that is wanted
- */
-function boardAt(phases, row) {
-  const board = new Board(Board.memory(), {
-    agents: phases.length, maxMoves: 100_000, timeouts: 1, ways: waysOf("uniform", true),
-  });
-  board.row.begin({ wantsRow: true, ...row });
-  board.begin(1);
-  for (let agent = 0; agent < phases.length - 1; agent += 1) board.pass(agent);
-  phases.forEach((phase, agent) => board.line.become(agent, phase));
-  return board;
-}
+/** @param {number[]} phases of agents @param {object} row that is wanted */
+const boardBy = (phases, row) => boardAt(phases, { timeouts: 1, row: { wantsRow: true, ...row } });
 
 /** Who gets the turn, if it is passed on so many times. */
 function drawn(board, times) {
@@ -42,12 +28,12 @@ function drawn(board, times) {
 }
 
 test("a row is followed, entries of agents that can't move are left out, and a wait's time may be up", () => {
-  const board = boardAt([ASKS, WAITS, WAITS_TIMED, FINISHED, WOKEN], { row: [4, 1, 2, 3, 0, 4, 4] });
+  const board = boardBy([ASKS, WAITS, WAITS_TIMED, FINISHED, WOKEN], { row: [4, 1, 2, 3, 0, 4, 4] });
   assert.deepEqual(drawn(board, 5), [4, 2, 0, 4, 4]);
 });
 
 test("behind its end the agent goes on that moved last, then the next one in number that can", () => {
-  const board = boardAt([ASKS, WAITS_TIMED, WAITS, ASKS], { row: [0] });
+  const board = boardBy([ASKS, WAITS_TIMED, WAITS, ASKS], { row: [0] });
   assert.deepEqual(drawn(board, 3), [0, 0, 0]);
   board.line.become(0, FINISHED);
   assert.deepEqual(drawn(board, 2), [0, 0, 0, 3, 3]);
@@ -60,11 +46,11 @@ test("behind its end the agent goes on that moved last, then the next one in num
   board.line.become(1, FINISHED);
   board.pass(1);
   assert.equal(board.end.result().ending, "deadlock");
-  assert.deepEqual(drawn(boardAt([ASKS, ASKS], { row: [] }), 2), [0, 0]);
+  assert.deepEqual(drawn(boardBy([ASKS, ASKS], { row: [] }), 2), [0, 0]);
 });
 
 test("an agent that goes on and on behind the row's end leaves the turn to others at last", () => {
-  const row = drawn(boardAt([ASKS, ASKS, WAITS_TIMED], { row: [1] }), 1_500);
+  const row = drawn(boardBy([ASKS, ASKS, WAITS_TIMED], { row: [1] }), 1_500);
   assert.deepEqual([...new Set(row)].sort(), [0, 1]);
   const longest = row.join("").match(/0+|1+/g).map(({ length }) => length);
   assert.ok(Math.max(...longest) < 999, `${longest}`);
@@ -73,7 +59,7 @@ test("an agent that goes on and on behind the row's end leaves the turn to other
 
 test("a row that can't be followed exactly ends the run, and the row says why", () => {
   const diverged = (phases, row, times) => {
-    const board = boardAt(phases, { row, isExact: true });
+    const board = boardBy(phases, { row, isExact: true });
     drawn(board, times);
     return [board.end.hasEnded() && board.end.result().ending, board.row.diverged()];
   };
@@ -89,7 +75,7 @@ test("a row that can't be followed exactly ends the run, and the row says why", 
 });
 
 test("a real answer may be left out of a row on which its agent makes no move", () => {
-  const exactly = (phases, row) => boardAt(phases, { row, isExact: true });
+  const exactly = (phases, row) => boardBy(phases, { row, isExact: true });
   const one = REAL_ANSWER + 1;
   assert.deepEqual(drawn(exactly([ASKS, WAITS], [one, 0, one]), 1), [0]);
   const needed = exactly([ASKS, WAITS], [one, 1]);
@@ -106,7 +92,7 @@ test("a real answer may be left out of a row on which its agent makes no move", 
 });
 
 test("an agent that waits for real answers looks before a run diverges, and isn't drawn for one in vain", () => {
-  const board = boardAt([ASKS, WAITS], { row: [0, 1], isExact: true });
+  const board = boardBy([ASKS, WAITS], { row: [0, 1], isExact: true });
   board.answers.expect(1);
   board.pass(0);
   board.line.become(0, WAITS);

@@ -213,7 +213,6 @@ test("each call that no script can have is refused by name and line, also if the
     const refusal = /^agent 1 made a call that the recorder can't record: Error: Atomics\.[a-zA-Z]+: .*: .*\n +at /;
     assert.match(detail, refusal, NAMES[at]);
   });
-  const detailOf = (name) => outcomes[NAMES.indexOf(name)].detail;
   const unsafe = "9007199254740992 isn't within ±\\(2\\^53 - 1\\): no script can hold it";
   const wide = "is a BigInt of more than 128 bits: no script can hold it";
   const SAID = {

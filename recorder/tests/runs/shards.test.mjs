@@ -11,7 +11,7 @@ import { commandOptionsOf } from "../../lib/command/options.mjs";
 import { seedsWithout, shardOf, united } from "../../lib/seeds/ranges.mjs";
 import { commandHere } from "../helpers/command-here.mjs";
 import {
-  RECORD, agentsIn, agentsPath, moduleOf, nodeNow, nodeThere, refusedInALine, temporaryFolder,
+  RECORD, agentsIn, agentsPath, fileIn, moduleOf, nodeNow, nodeThere, refusedInALine, temporaryFolder,
 } from "../helpers/common.mjs";
 import { CHECKING, needing, withSignals } from "../helpers/needs.mjs";
 import { pathOf } from "../helpers/programs.mjs";
@@ -28,9 +28,8 @@ async function summaryOf(words) {
 }
 
 test("each seed is in exactly one shard, and the sizes of shards differ by at most one", () => {
-  const shards = (first, last, of) => {
-    return Array.from({ length: of }, (_, at) => shardOf({ first, last }, { number: at + 1, of }));
-  };
+  const shards = (first, last, of) =>
+    Array.from({ length: of }, (_, at) => shardOf({ first, last }, { number: at + 1, of }));
   assert.deepEqual(shards(1, 10, 4), [
     { first: 1, last: 3 }, { first: 4, last: 6 }, { first: 7, last: 8 }, { first: 9, last: 10 },
   ]);
@@ -100,9 +99,7 @@ before(async () => {
   shared.words = [module, "--agents", "1", "--buffers", "8", "--seeds", "1..30", "--check", "0"];
   shared.files = await Promise.all([1, 2, 3].map(async (number) => {
     const shard = [...shared.words, "--shard", `${number}/3`, "--out", join(folder, `found-${number}`)];
-    const file = join(folder, `${number}.json`);
-    writeFileSync(file, JSON.stringify(await summaryOf(shard)));
-    return file;
+    return fileIn(folder, `${number}.json`, JSON.stringify(await summaryOf(shard)));
   }));
 });
 
@@ -143,8 +140,7 @@ test("merge.mjs reports a missing or stopped shard with status 3", async () => {
   assert.deepEqual([missing.status, missing.stderr], [3, "merge: no summary has the seeds 11 to 20\n"]);
   assert.match(missing.stdout, /^no summary has the seeds 11 to 20\n.*20 runs/);
   const stopped = { why: "interrupted by SIGINT", wanted: 25 };
-  const file = join(folder, "stopped.json");
-  writeFileSync(file, JSON.stringify({ ...JSON.parse(readFileSync(second, "utf8")), stopped }));
+  const file = fileIn(folder, "stopped.json", JSON.stringify({ ...JSON.parse(readFileSync(second, "utf8")), stopped }));
   const { status, stdout } = await nodeThere([MERGE, first, file, third]);
   assert.equal(status, 3);
   assert.match(stdout, /^interrupted by SIGINT after 30 of 45 runs\n/);
@@ -154,10 +150,7 @@ test("merge.mjs refuses files that aren't summaries, or don't fit together, with
   const { folder, files: [first, second] } = shared;
   const summary = JSON.parse(readFileSync(second, "utf8"));
   const { asked } = summary;
-  const write = (name, text) => {
-    writeFileSync(join(folder, name), text);
-    return join(folder, name);
-  };
+  const write = (name, text) => fileIn(folder, name, text);
   const changed = (name, parts) => write(name, JSON.stringify({ ...summary, ...parts }));
   const other = { ...asked, module: "other.mjs", digest: "00" };
   const faults = [

@@ -123,9 +123,8 @@ test("two locks in two orders: one takes its first, the other its own, and both 
 });
 
 test("runs fail in the same way: by their ending, who waits where, the first pair of lines, or the message", () => {
-  const run = (ending, detail, races = [], waiting = []) => {
-    return { outcome: { ending, detail, races }, aside: { waiting } };
-  };
+  const run = (ending, detail, races = [], waiting = []) =>
+    ({ outcome: { ending, detail, races }, aside: { waiting } });
   const thrown = (number, line) => run("failed", `agent ${number} threw Error: ${number}\n    at f (a.mjs:${line})`);
   assert.ok(failsAlike(thrown(1, 20), thrown(2, 20)));
   assert.ok(!failsAlike(thrown(1, 20), thrown(1, 21)));
@@ -209,8 +208,6 @@ test("a run that can't be made again stays as it was found", async (context) => 
   const endings = ["explained", "html", "json", "report", "svg"];
   assert.deepEqual(readdirSync(out).sort(), endings.map((ending) => `seed-3.${ending}`));
 });
-
-/** Runs the command line in a process of its own. @param {string[]} words */
 
 /** Runs the command line on the program `bell` with an own folder, and returns what it kept there. */
 async function keptBy(context, run, ...words) {

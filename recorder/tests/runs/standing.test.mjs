@@ -49,12 +49,6 @@ const WAYS = {
   deadlock: WAITING, spins: [at("spins", SPIN), ...WAITING], counts: [at("runs", "Atomics.add"), ...WAITING],
 };
 
-/** @param {import("node:test").TestContext} context */
-function moduleIn(context) {
-  const module = moduleOf(context, MODULE);
-  return module;
-}
-
 /** The one that has met the limit stays first. */
 const inOrder = (standing) => {
   const begin = standing.findIndex(({ does }) => does === "waits");
@@ -72,7 +66,7 @@ async function waitingOutcome(options) {
 }
 
 test("an outcome has what each agent is at, in a deadlock and at a limit", async (context) => {
-  const module = moduleIn(context);
+  const module = moduleOf(context, MODULE);
   for (const [way, expected] of Object.entries(WAYS)) {
     const { ending, standing } = await waitingOutcome({ module, args: [way] });
     assert.equal(ending, way === "deadlock" ? "deadlock" : "limit");
@@ -85,7 +79,7 @@ test("an outcome has what each agent is at, in a deadlock and at a limit", async
 });
 
 test("agents that ask for a call when a limit is met are there too", async (context) => {
-  const { standing } = await waitingOutcome({ module: moduleIn(context), args: ["spins"], maxMoves: 200 });
+  const { standing } = await waitingOutcome({ module: moduleOf(context, MODULE), args: ["spins"], maxMoves: 200 });
   const asking = standing.find(({ agent }) => agent === 2);
   assert.deepEqual({ ...asking, call: null }, at("asks", SPIN));
   assert.ok(asking.call > 1, `${asking.call}`);
@@ -94,7 +88,7 @@ test("agents that ask for a call when a limit is met are there too", async (cont
 
 test("the summary has that of the first failing run as JSON, and so has a joined one", async (context) => {
   const small = ["--agents", "3", "--everywhere"];
-  const words = [moduleIn(context), "--seeds", "2..3", "--format", "json", ...small, "--", "deadlock"];
+  const words = [moduleOf(context, MODULE), "--seeds", "2..3", "--format", "json", ...small, "--", "deadlock"];
   const { stdout } = await commandHere(words);
   const summary = JSON.parse(stdout);
   assert.deepEqual(inOrder(summary.firstFailing.standing), WAITING);
@@ -105,7 +99,7 @@ test("the summary has that of the first failing run as JSON, and so has a joined
 });
 
 test("an agent that meets another limit is named; the limit of the moves is no agent's", async (context) => {
-  const module = moduleIn(context);
+  const module = moduleOf(context, MODULE);
   const views = await waitingOutcome({ module, args: ["views"] });
   assert.match(views.detail, /^more than \d+ different typed arrays were used: agent 2 is at agents\.mjs:/);
   assert.deepEqual(views.standing[0], at("runs", "Atomics.load(new"));

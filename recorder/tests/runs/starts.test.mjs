@@ -2,15 +2,13 @@
 // is found where accesses aren't watched. Other seeds are as they were.
 
 import assert from "node:assert/strict";
-import { writeFileSync } from "node:fs";
-import { join } from "node:path";
 import { describe, it } from "node:test";
 import { Board } from "../../lib/board/board.mjs";
 import { waysOf } from "../../lib/board/strategy/ways.mjs";
 import { PHASE } from "../../lib/memory/layout.mjs";
 import { explore, record } from "../../recorder.mjs";
 import { emptyMemory } from "../helpers/boards.mjs";
-import { temporaryFolder } from "../helpers/common.mjs";
+import { fileIn, temporaryFolder } from "../helpers/common.mjs";
 import { seedsTo } from "../helpers/recorded.mjs";
 
 const AGENTS = 4;
@@ -87,8 +85,7 @@ describe("what depends on a late start", () => {
   for (const how of ["ordinary", "call"]) {
     const act = how === "call" ? "a call" : "an ordinary write";
     it(`is found after ${act} of another agent, and made again`, async (context) => {
-      const module = join(temporaryFolder(context), "late.agents.mjs");
-      writeFileSync(module, MODULE);
+      const module = fileIn(temporaryFolder(context), "late.agents.mjs", MODULE);
       const options = { module, args: [how], ordinary: /** @type {const} */ ("store") };
       const failing = [];
       for await (const outcome of explore({ ...options, seeds: "1..200" })) if (outcome.fails) failing.push(outcome);

@@ -142,17 +142,15 @@ test("a report has a line for each move, for each block and for each agent", () 
 function traceOfExample(name) {
   const script = JSON.parse(readFileSync(new URL(`${name}.json`, EXAMPLES), "utf8"));
   const report = readFileSync(new URL(`${name}.report`, EXAMPLES), "utf8");
-  const calls = script.agents.map((agent) => agent.calls.map((call) => {
-    return { text: JSON.stringify(call), joined: false, answer: null };
-  }));
+  const calls = script.agents.map((agent) => agent.calls.map((call) =>
+    ({ text: JSON.stringify(call), joined: false, answer: null })));
   for (const line of report.split("\n")) {
     const [, agent, call, what, answer] = line.split(" ");
     if (what === "wait") calls[agent][call].joined = true;
     if (what === "act" || what === "leave") calls[agent][call].answer = answer;
   }
-  const moves = script.schedule.map((move) => {
-    return typeof move === "number" ? { agent: move, timeUp: false } : { agent: move.timeout, timeUp: true };
-  });
+  const moves = script.schedule.map((move) =>
+    typeof move === "number" ? { agent: move, timeUp: false } : { agent: move.timeout, timeUp: true });
   const bytes = report.split("\n").filter((line) => line.startsWith("block")).map((line) => line.split(" ")[2]);
   return { report, trace: { calls, moves }, bytes };
 }

@@ -4,12 +4,11 @@ import assert from "node:assert/strict";
 import { writeFileSync } from "node:fs";
 import { join } from "node:path";
 import { test } from "node:test";
-import { setTimeout as sleep } from "node:timers/promises";
 import { pathToFileURL } from "node:url";
 import { compileFunction } from "node:vm";
 import { firstWorkers } from "../../lib/processes/first-workers.cjs";
 import { Thread, beginThreads, begunThread } from "../../lib/processes/thread.mjs";
-import { nodeNow, temporaryFolder } from "../helpers/common.mjs";
+import { moduleOf, nodeNow, temporaryFolder } from "../helpers/common.mjs";
 import { withShell } from "../helpers/needs.mjs";
 
 /**
@@ -19,13 +18,12 @@ import { withShell } from "../helpers/needs.mjs";
  * @param {{ ownPort?: boolean }} [options]
  */
 function threadOf(context, code, options) {
-  const path = join(temporaryFolder(context), "worker.mjs");
   const imports = [
     'import { execSync } from "node:child_process";',
     'import { parentPort, workerData } from "node:worker_threads";',
     "const port = workerData.port ?? parentPort;",
   ];
-  writeFileSync(path, [...imports, code].join("\n"));
+  const path = moduleOf(context, [...imports, code].join("\n"));
   const thread = new Thread(pathToFileURL(path), { number: 7 }, options);
   context.after(() => thread.stop());
   return thread;
@@ -138,9 +136,8 @@ test("each module is compiled before a worker gets it", async (context) => {
 });
 
 test("a worker begins without the options of the engine and of the process, which no worker takes", async (context) => {
-  const root = pathToFileURL(join(temporaryFolder(context), "root.mjs"));
-  writeFileSync(root, 'import threads from "node:worker_threads";\n'
-    + "export function main() { threads.workerData.port.postMessage(process.execArgv); }\n");
+  const root = pathToFileURL(moduleOf(context, 'import threads from "node:worker_threads";\n'
+    + "export function main() { threads.workerData.port.postMessage(process.execArgv); }\n"));
   const words = ["--expose-gc", "--stack-size=900", "--title=any"];
   assert.throws(() => begunThread(root, [...words, "--no-warnings"]), { code: "ERR_WORKER_INVALID_EXEC_ARGV" });
   process.execArgv.push(...words);
@@ -155,14 +152,13 @@ test("a worker begins without the options of the engine and of the process, whic
 });
 
 test("a program's first thread has the stack of a process, and others have a Worker's", async (context) => {
-  const root = pathToFileURL(join(temporaryFolder(context), "root.mjs"));
-  writeFileSync(root, `import threads from "node:worker_threads";
+  const root = pathToFileURL(moduleOf(context, `import threads from "node:worker_threads";
 export function main() {
   let depth = 0;
   const deeper = () => { depth += 1; deeper(); };
   try { deeper(); } catch { threads.workerData.port.postMessage(depth); }
 }
-`);
+`));
   const { stdout } = nodeNow(["-e", `let depth = 0;
     const deeper = () => { depth += 1; deeper(); };
     try { deeper(); } catch { console.log(depth); }`]);

@@ -14,7 +14,7 @@ import { explore, record } from "../../recorder.mjs";
 import { assertAgents } from "../../testing.mjs";
 import { agentsPath, commandThere, temporaryFolder } from "../helpers/common.mjs";
 import { groupOf } from "../helpers/groups.mjs";
-import { placesOfText, recorded, seedsTo, summaryLines } from "../helpers/recorded.mjs";
+import { placeIn, recorded, seedsTo, summaryLines } from "../helpers/recorded.mjs";
 
 const { timeouts: DEFAULT_TIMEOUTS } = defaultsOf("record");
 
@@ -38,12 +38,6 @@ async function outcomesOf(name, seeds, options = {}) {
 
 /** The words of the buffer at the end. */
 const wordsOf = ({ bytes }) => [...new Int32Array(Uint8Array.from(Buffer.from(bytes[0], "hex")).buffer)];
-
-/** Where the code waits, as the recorder reports it. */
-function placeOf(text) {
-  const [{ line, column }] = placesOfText("timed", text);
-  return `timed.mjs:${line}:${column}`;
-}
 
 const endingsOf = (outcomes) => [...new Set(outcomes.map(({ ending }) => ending))].sort();
 
@@ -144,7 +138,7 @@ describe("runs with timed waits", { concurrency: 2 }, () => {
       assert.deepEqual(endingsOf(outcomes), ["finished"]);
       const count = outcomes.filter(({ onlyByTime = [] }) => onlyByTime.length > 0).length;
       assert.ok(count > 0 && count < 50, `${count} runs`);
-      const line = `agent ${agent} went on at ${placeOf(text)} only because its 500 ms were over, `
+      const line = `agent ${agent} went on at ${placeIn("timed", text)} only because its 500 ms were over, `
         + `in ${count} of 50 runs`;
       assert.deepEqual(hiddenOf(outcomes), [line]);
     }

@@ -5,10 +5,9 @@ import { readFileSync } from "node:fs";
 import { join } from "node:path";
 import { fileURLToPath } from "node:url";
 import { describe, it } from "node:test";
-import { checkedOptions } from "../../lib/library/library-options.mjs";
-import { Group } from "../../lib/run/group.mjs";
 import { UNSEEN_LINE } from "../../lib/run/trace.mjs";
 import { agentsPath, commandThere, temporaryFolder } from "../helpers/common.mjs";
+import { groupOf } from "../helpers/groups.mjs";
 import { CHECKING } from "../helpers/needs.mjs";
 import { recorded } from "../helpers/recorded.mjs";
 import { MEMBERS, racingLines } from "../helpers/slow-judge.mjs";
@@ -97,31 +96,24 @@ describe("traces", { concurrency: 2 }, () => {
   });
 
   /** A run, traced, with room for some thousand events that aren't calls. */
-  async function recordedInLittleRoom(way) {
-    const options = { ...FEW_WORKERS, module: agentsPath("reads-much"), args: [way], trace: true };
+  async function recordedInLittleRoom(context, way) {
     // Of a log's room 65,536 events are kept for calls.
-    const group = await Group.open({ ...checkedOptions(options), fresh: false, logEvents: 65_536 + 4_000 });
-    const outcomes = [];
-    try {
-      await group.run([{ seed: 1, whole: true }], (outcome) => outcomes.push(outcome));
-    } finally {
-      await group.close();
-    }
-    assert.equal(outcomes.length, 1);
-    return outcomes[0];
+    const options = { ...FEW_WORKERS, args: [way], trace: true, logEvents: 65_536 + 4_000 };
+    const group = await groupOf(context, agentsPath("reads-much"), options);
+    return (await group.one({ seed: 1, whole: true })).outcome;
   }
 
-  it("where a full trace has no room for all reads, races are looked for among all of them", async () => {
+  it("where a full trace has no room for all reads, races are looked for among all of them", async (context) => {
     // The byte that both access is read behind the others.
-    const { ending, fails, races, ordinary, detail } = await recordedInLittleRoom("races");
+    const { ending, fails, races, ordinary, detail } = await recordedInLittleRoom(context, "races");
     assert.deepEqual([ending, fails, ordinary], ["race", true, 2 + 10 * 999]);
     const [{ lines }] = races;
     assert.deepEqual([races.length, ...lines], [1, "agent 0's read of Uint8_b0[0]", "agent 1's write of Uint8_b0[0]"]);
     assert.match(detail, /agent 0 reads Uint8_b0\[0\], after its call 9$/);
   });
 
-  it("its trace has what there is room for, and all calls, and says that accesses may be missing", async () => {
-    const { ending, trace, ordinary } = await recordedInLittleRoom("passes");
+  it("its trace has what there is room for, and all calls, and says that accesses may be missing", async (context) => {
+    const { ending, trace, ordinary } = await recordedInLittleRoom(context, "passes");
     assert.deepEqual([ending, ordinary], ["finished", 1 + 10 * 999]);
     const does = seenEventsOf(trace).map((event) => event.does);
     assert.equal(does.filter((each) => each === "add").length, 10);

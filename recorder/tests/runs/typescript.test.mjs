@@ -3,13 +3,11 @@
 
 import assert from "node:assert/strict";
 import { mkdirSync, readFileSync, writeFileSync } from "node:fs";
-import nodeModule from "node:module";
 import { join } from "node:path";
 import { test } from "node:test";
-import { pathToFileURL } from "node:url";
-import { RECORD, nodeNow, temporaryFolder } from "../helpers/common.mjs";
+import { RECORD, fileIn, nodeNow, temporaryFolder } from "../helpers/common.mjs";
 import { CHECKING } from "../helpers/needs.mjs";
-import { whereNodeHasIt } from "../helpers/where-node-has-it.mjs";
+import { typeScriptWords, withTypeScript } from "../helpers/typescript-hook.mjs";
 
 const LOCK = `type Words = Int32Array;
 export class Lock {
@@ -46,33 +44,13 @@ const TYPES = new RegExp(String.raw`^type .*|^  words: Words;$|: ${OF_NAMES}`, "
 /** @param {string} code @returns {string} of the same length, without types */
 const stripped = (code) => code.replace(TYPES, (type) => " ".repeat(type.length));
 
-/** What node's command line has for a node that loads no TypeScript: a file that leaves out the types of these. */
-function hookIn(folder) {
-  const hook = join(folder, "hook.mjs");
-  writeFileSync(hook, `
-    import { readFileSync } from "node:fs";
-    import { registerHooks } from "node:module";
-    registerHooks({
-      load(url, context, next) {
-        if (!/\\.m?ts$/.test(url)) return next(url, context);
-        const source = readFileSync(new URL(url), "utf8").replace(${TYPES}, (type) => " ".repeat(type.length));
-        return { format: "module", source, shortCircuit: true };
-      },
-    });`);
-  return ["--import", pathToFileURL(hook).href];
-}
-
-const isLoaded = Boolean(process.features.typescript);
-const withTypeScript = whereNodeHasIt(isLoaded || nodeModule.registerHooks !== undefined);
-
 withTypeScript("an agents' module in TypeScript has its own lines, and the page its text", (context) => {
   const folder = temporaryFolder(context);
   mkdirSync(join(folder, "found"));
   writeFileSync(join(folder, "lock.ts"), LOCK);
-  const nodeWords = isLoaded ? [] : hookIn(folder);
+  const nodeWords = typeScriptWords(folder, TYPES);
   for (const name of ["agents.mts", "agents.ts"]) {
-    const file = join(folder, name);
-    writeFileSync(file, AGENTS);
+    const file = fileIn(folder, name, AGENTS);
     writeFileSync(join(folder, "package.json"), '{ "type": "module" }');
     const out = join(folder, "found", name);
     const words = [...nodeWords, RECORD, file, "--seeds", "1..40", "--out", out, ...CHECKING];

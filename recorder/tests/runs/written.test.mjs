@@ -16,7 +16,7 @@ import { labelOf, writtenText, writtenView } from "../../script/written.mjs";
 import { record } from "../../recorder.mjs";
 import { assertAgents } from "../../testing.mjs";
 import { commandHere } from "../helpers/command-here.mjs";
-import { agentsPath, commandNow, temporaryFolder } from "../helpers/common.mjs";
+import { agentsPath, commandNow, fileIn, temporaryFolder } from "../helpers/common.mjs";
 import { CHECKER, CHECKING, withShell } from "../helpers/needs.mjs";
 import { recorded, seedsTo } from "../helpers/recorded.mjs";
 import { simulated } from "../helpers/simulate.mjs";
@@ -102,8 +102,7 @@ test("a script has ordinary writes under the code's names and kinds, and the bit
 
 test("a test that fails, and --replay, have the values of the code", async (context) => {
   const folder = temporaryFolder(context);
-  const module = join(folder, "ring.mjs");
-  writeFileSync(module, readFileSync(RING, "utf8"));
+  const module = fileIn(folder, "ring.mjs", readFileSync(RING, "utf8"));
   const out = join(folder, "found");
   const given = { module, ...SMALL, seeds: "1..40", strategy: "uniform", out, jobs: 1 };
   await assert.rejects(assertAgents(given), ({ message }) => {
@@ -183,8 +182,7 @@ test("what an ordinary read has read is in no trace: sabsim's judge takes no suc
 
 test("the headline of a page and its timeline name an element alike, with names and without", async (context) => {
   const code = readFileSync(RING, "utf8");
-  const nameless = join(temporaryFolder(context), "ring.mjs");
-  writeFileSync(nameless, code.replace(/, names: .*\} \};/, " };"));
+  const nameless = fileIn(temporaryFolder(context), "ring.mjs", code.replace(/, names: .*\} \};/, " };"));
   for (const names of [true, false]) {
     const { outcome: { detail, races: [{ sides }] }, run } = await ringRun("race",
       names ? undefined : { module: nameless });
@@ -199,8 +197,7 @@ test("the headline of a page and its timeline name an element alike, with names 
 });
 
 test("an element of each kind, a DataView's too, has the code's kind", async (context) => {
-  const module = join(temporaryFolder(context), "kinds.mjs");
-  writeFileSync(module, `
+  const module = fileIn(temporaryFolder(context), "kinds.mjs", `
     export const setup = { agents: 1, buffers: [64, 8],
       names: { ratio: { kind: "Float64", buffer: 0, offset: 32, length: 1 } } };
     export function init([buffer]) {
@@ -223,9 +220,8 @@ test("an element of each kind, a DataView's too, has the code's kind", async (co
   const [outcome] = await recorded({ module, agents: 1, trace: true }, [1]);
   const { output } = simulated(["replay", "--format", "json"], outcome.script);
   const { steps, rows } = new Run(pageData(outcome, output, pathToFileURL(module).href));
-  const lines = steps.map(({ text, answer, changes }) => {
-    return [`${text} ${answer}`.trim(), ...changes.map(({ name, before, after }) => `${name} ${before} ${after}`)];
-  });
+  const lines = steps.map(({ text, answer, changes }) =>
+    [`${text} ${answer}`.trim(), ...changes.map(({ name, before, after }) => `${name} ${before} ${after}`)]);
   assert.deepEqual(lines, [
     ["the start", "ratio 0 0.125"],
     ["writes Int8_b1[1]", "Int8_b1[1] 0 -3"],
@@ -248,8 +244,7 @@ test("an element of each kind, a DataView's too, has the code's kind", async (co
 });
 
 withFloat16("a Float16Array is watched, and the script has the bits", async (context) => {
-  const module = join(temporaryFolder(context), "halves.mjs");
-  writeFileSync(module, `
+  const module = fileIn(temporaryFolder(context), "halves.mjs", `
     export const setup = { agents: 1, buffers: [16], names: { ratios: { kind: "Uint16", buffer: 0, offset: 8 } } };
     export function init([buffer]) {
       new Float16Array(buffer)[0] = 0.25;
@@ -295,8 +290,7 @@ withFloat16("a Float16Array is watched, and the script has the bits", async (con
 });
 
 withFloat16("so is one of a program", async (context) => {
-  const program = join(temporaryFolder(context), "main.mjs");
-  writeFileSync(program, `
+  const program = fileIn(temporaryFolder(context), "main.mjs", `
     import { Worker, isMainThread, workerData } from "node:worker_threads";
     const buffer = isMainThread ? new SharedArrayBuffer(64) : workerData;
     if (isMainThread) new Worker(new URL(import.meta.url), { workerData: buffer });

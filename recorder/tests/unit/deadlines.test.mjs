@@ -2,11 +2,11 @@
 
 import assert from "node:assert/strict";
 import { test } from "node:test";
-import { Board } from "../../lib/board/board.mjs";
 import { END } from "../../lib/board/deadlines.mjs";
 import { waysOf } from "../../lib/board/strategy/ways.mjs";
 import { PHASE, WORD } from "../../lib/memory/layout.mjs";
 import { SPIN_CALLS } from "../../lib/memory/records.mjs";
+import { startedBoard } from "../helpers/started-boards.mjs";
 
 const { ASKS, FINISHED, WAITS, WOKEN } = PHASE;
 
@@ -19,12 +19,8 @@ const timed = (milliseconds) => ({ milliseconds });
  * @param {(number | { milliseconds: number })[]} phases
  * @param {{ seed?: number, timeouts?: number | "never", row?: object, strategy?: string }} [how]
  */
-function boardAt(phases, { seed = 1, timeouts = 0, row = {}, strategy = "uniform" } = {}) {
-  const rules = { agents: phases.length, ways: waysOf(strategy, true), maxMoves: 100_000, timeouts };
-  const board = new Board(Board.memory(), rules);
-  board.row.begin(row);
-  board.begin(seed);
-  for (let agent = 0; agent < phases.length - 1; agent += 1) board.pass(agent);
+function boardAt(phases, { timeouts = 0, row = {}, strategy = "uniform", ...how } = {}) {
+  const board = startedBoard(phases.length, { ...how, timeouts, row, ways: waysOf(strategy, true) });
   phases.forEach((phase, agent) => {
     if (typeof phase === "number") board.line.become(agent, phase);
     else board.wait(agent, 0, 4, phase.milliseconds);

@@ -83,9 +83,8 @@ test("the picture has a row for each module, and names nothing that isn't there"
 });
 
 test("each folder imports only from lower rows", () => {
-  const imports = CODE.flatMap((file) => {
-    return importedBy(file, readFileSync(new URL(file, RECORDER), "utf8")).map((imported) => ({ file, imported }));
-  });
+  const imports = CODE.flatMap((file) =>
+    importedBy(file, readFileSync(new URL(file, RECORDER), "utf8")).map((imported) => ({ file, imported })));
   assert.ok(imports.length > 500, `${imports.length} imports`);
   assert.deepEqual(imports.flatMap(({ file, imported }) => faultsOf(file, imported)), []);
 });

@@ -258,9 +258,8 @@ test("alternating reads and writes are joined in the log, and race as before", (
     if (log.extend(what, agent, 0, byte, byte + 1, by, since)) return;
     log.append(what, agent, NO_CALL, flag, 0, 0, byte, byte + 1, by, 0);
   };
-  const ranges = () => Array.from({ length: log.length }, (_, at) => {
-    return [log.whatAt(at), log.agentAt(at), log.fromAt(at), log.toAt(at)];
-  });
+  const ranges = () => Array.from({ length: log.length }, (_, at) =>
+    [log.whatAt(at), log.agentAt(at), log.fromAt(at), log.toAt(at)]);
   for (let byte = 0; byte < 4; byte += 1) for (const what of [READ, WRITE]) noted(what, 0, byte, 0);
   assert.deepEqual(ranges(), [[READ, 0, 0, 4], [WRITE, 0, 0, 4]]);
   // Another agent's events, and those before its own call, aren't gone on with; nor is what another view has read.

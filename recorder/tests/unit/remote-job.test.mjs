@@ -65,9 +65,8 @@ test("a job whose process can't be started is lost, and says why", async () => {
   // Node gives it no channel then.
   child.send = undefined;
   const job = new RemoteJob(child);
-  const made = assert.rejects(job.open({}), (problem) => {
-    return problem instanceof LostJob && problem.message === "a job's process can't be started: spawn EMFILE";
-  });
+  const made = assert.rejects(job.open({}), (problem) =>
+    problem instanceof LostJob && problem.message === "a job's process can't be started: spawn EMFILE");
   child.emit("error", new Error("spawn EMFILE"));
   await made;
   await job.close();

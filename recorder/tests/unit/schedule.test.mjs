@@ -129,12 +129,10 @@ describe("on random scripts", () => {
       });
       const editing = new Editing(JSON.stringify({ ...written, bytes: undefined, blocks: lengths, views }), simulate);
       // Calls that aren't begun are left away, as in scripts of the recorder.
-      const begun = editing.now.report.agents.map(({ returned, standing }) => {
-        return returned + (standing === undefined || standing.at === "ready" ? 0 : 1);
-      });
-      const agents = editing.script.agents.map(({ calls, ...agent }, at) => {
-        return { ...agent, calls: calls.slice(0, begun[at]) };
-      });
+      const begun = editing.now.report.agents.map(({ returned, standing }) =>
+        returned + (standing === undefined || standing.at === "ready" ? 0 : 1));
+      const agents = editing.script.agents.map(({ calls, ...agent }, at) =>
+        ({ ...agent, calls: calls.slice(0, begun[at]) }));
       const cut = new Editing(JSON.stringify({ ...JSON.parse(editing.text), agents }), simulate);
       for (let at = cut.now.turns.length - 1; at >= 0; at -= 1) {
         if (wordsOf(cut.now)[at] === "stuck") cut.change(dropped, at);
@@ -243,9 +241,8 @@ describe("by hand", () => {
   });
 
   it("a script that the program refuses isn't taken, and the error has the program's line", () => {
-    assert.throws(() => new Editing("{}", simulate), (error) => {
-      return error instanceof NotReplayed && error.message.startsWith("sabsim: 10 BadShape");
-    });
+    assert.throws(() => new Editing("{}", simulate), (error) =>
+      error instanceof NotReplayed && error.message.startsWith("sabsim: 10 BadShape"));
     assert.throws(() => new Editing("nothing", simulate), NotReplayed);
   });
 

@@ -182,9 +182,8 @@ test("each row of the table is a strategy by its word, and draws among the agent
 });
 
 test("each row of the table is named in the help, in the reference and in the declared types", () => {
-  const [reference, types] = ["../docs/RECORDER.md", "options.d.cts"].map((name) => {
-    return readFileSync(new URL(`../../${name}`, import.meta.url), "utf8");
-  });
+  const [reference, types] = ["../docs/RECORDER.md", "options.d.cts"].map((name) =>
+    readFileSync(new URL(`../../${name}`, import.meta.url), "utf8"));
   for (const [name, { hasLikelihood }] of Object.entries(STRATEGIES)) {
     const word = hasLikelihood ? `${name}:P` : name;
     assert.ok(OPTIONS.strategy.help[1].includes(word), word);
@@ -222,9 +221,8 @@ function known(pilots, calls) {
   const learnt = new Pilots(3, places);
   for (const events of pilots) learnt.add(logByWords(events));
   learnt.teach();
-  return calls.map(([agent, does, word]) => {
-    return places.isPrivate(agent, placeNumber(0, word * 4), placeNumber(0, word * 4) + 4, does === "write");
-  });
+  return calls.map(([agent, does, word]) =>
+    places.isPrivate(agent, placeNumber(0, word * 4), placeNumber(0, word * 4) + 4, does === "write"));
 }
 
 test("pilots show which places several agents use, one of them to write", () => {

@@ -39,9 +39,7 @@ function linesOf(outcomes, { checked = 1, stop, ...options } = {}) {
 }
 
 /** Many seeds, each with an outcome of the same parts. */
-const seeds = (first, last, parts) => {
-  return Array.from({ length: last - first + 1 }, (_, at) => outcome(first + at, parts));
-};
+const seeds = (first, last, parts) => Array.from({ length: last - first + 1 }, (_, at) => outcome(first + at, parts));
 
 const race = (one, other) => ({ lines: [one, other], text: `${one} races with ${other}` });
 

@@ -232,9 +232,8 @@ function replaceMethods() {
 
 /** @param {typeof import("node:buffer").default} module */
 function replaceStatics(module) {
-  replace(EngineBuffer, "from", (engine) => methodOf((self, given) => {
-    return wrappedArray(apply(engine, self, blockNumber(given[0]) < 0 ? madePrivate(given) : given));
-  }, engine));
+  replace(EngineBuffer, "from", (engine) => methodOf((self, given) =>
+    wrappedArray(apply(engine, self, blockNumber(given[0]) < 0 ? madePrivate(given) : given)), engine));
   replaceEach(EngineBuffer, ["alloc", "compare", "concat", "copyBytesFrom"], copying);
   replace(EngineBuffer, "byteLength", looking);
   replaceEach(module, ["transcode", "isUtf8", "isAscii"], copying);

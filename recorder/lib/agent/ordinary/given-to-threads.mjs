@@ -2,11 +2,11 @@
 // recorded memory is refused there, whatever is done with ordinary accesses, and other shared memory is noted.
 
 import {
-  apply, bufferBehind, construct, getPrototypeOf, proxyOf, put, uncurried, weakGet, weakSet,
+  apply, bufferBehind, getPrototypeOf, put, uncurried, weakGet, weakSet,
 } from "../../primordials.mjs";
 import { blockNumber, watching } from "./context.mjs";
 import { anyReaches, revealed } from "./guards.mjs";
-import { methodOf, replace, replaceEach, replaceNeeded } from "./patch.mjs";
+import { methodOf, replace, replaceClass, replaceEach, replaceNeeded } from "./patch.mjs";
 import { WHOLLY, isRecorded } from "./reach.mjs";
 import { anyWatchedOf } from "./watched.mjs";
 
@@ -97,26 +97,6 @@ const handing = (what) => (engine) => {
   }, engine);
   return method;
 };
-
-/**
- * Puts a class in the place of one of node's.
- * @param {any} owner
- * @param {string} name
- * @param {(made: () => any, given: unknown[]) => object} make gets how node's own is made of what is given
- */
-function replaceClass(owner, name, make) {
-  /** @type {Function} */
-  const Engine = owner[name];
-  const traps = {
-    /** @param {Function} target @param {unknown[]} given @param {Function} asked */
-    construct: (target, given, asked) =>
-      make(() => construct(target, given, asked === StandIn ? target : asked), given),
-  };
-  /** @type {Function} */
-  const StandIn = proxyOf(Engine, traps);
-  put(Engine.prototype, "constructor", StandIn);
-  put(owner, name, StandIn);
-}
 
 /** @param {() => any} made @returns {object} a channel both of whose ports this thread has */
 function paired(made) {

@@ -49,9 +49,8 @@ function looksThrough(given, place, format) {
 }
 
 /** @type {(place: number, format: number) => import("./patch.mjs").StandInMaker} */
-const showing = (place, format) => (engine) => methodOf((self, given) => {
-  return apply(engine, self, looksThrough(given, place, format) ? madePrivate(given) : given);
-}, engine);
+const showing = (place, format) => (engine) => methodOf((self, given) =>
+  apply(engine, self, looksThrough(given, place, format) ? madePrivate(given) : given), engine);
 
 const PRINTING = ["log", "info", "debug", "warn", "error", "trace", "group", "groupCollapsed"];
 

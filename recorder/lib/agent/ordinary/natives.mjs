@@ -54,9 +54,8 @@ const WRITING = {
 };
 
 /** @type {(owner: object, lists?: (string[] | undefined)[]) => string[]} its functions' names that no list has */
-const otherFunctions = (owner, lists = []) => /** @type {string[]} */ (ownKeys(owner).filter((key) => {
-  return typeof key === "string" && /^[a-z]/.test(key) && !lists.some((list) => list?.includes(key));
-}));
+const otherFunctions = (owner, lists = []) => /** @type {string[]} */ (ownKeys(owner).filter((key) =>
+  typeof key === "string" && /^[a-z]/.test(key) && !lists.some((list) => list?.includes(key))));
 
 /**
  * A module whose functions may go on after they have returned: those that aren't named end the run.

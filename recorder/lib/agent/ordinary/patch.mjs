@@ -1,7 +1,7 @@
 // Puts functions and other members in the place of the engine's own, and of node's. Nothing else does.
 
 import {
-  apply, copyProperty, defineProperty, getOwnPropertyDescriptor, is, likeEngine, ownKeys, put,
+  apply, construct, copyProperty, defineProperty, getOwnPropertyDescriptor, is, likeEngine, ownKeys, proxyOf, put,
 } from "../../primordials.mjs";
 import { watchedOf } from "./watched.mjs";
 
@@ -85,6 +85,27 @@ export function replaceGetter(owner, name, make) {
   const { get: asked } = /** @type {{ get: () => any }} */ (getOwnPropertyDescriptor(make(found.get), "asked"));
   found.get = likeEngine(asked, found.get);
   defineProperty(owner, name, found);
+}
+
+/**
+ * Puts a class in the place of an owner's own one.
+ * @param {any} owner
+ * @param {string} name
+ * @param {(made: () => any, given: unknown[], called: Function) => object} make gets how the owner's own is made of
+ *   what is given, and the function that the engine calls for it
+ */
+export function replaceClass(owner, name, make) {
+  /** @type {Function} */
+  const Engine = owner[name];
+  const traps = {
+    /** @param {Function} target @param {unknown[]} given @param {Function} asked */
+    construct: (target, given, asked) =>
+      make(() => construct(target, given, asked === StandIn ? target : asked), given, traps.construct),
+  };
+  /** @type {Function} */
+  const StandIn = proxyOf(Engine, traps);
+  put(Engine.prototype, "constructor", StandIn);
+  put(owner, name, StandIn);
 }
 
 /**

@@ -42,9 +42,8 @@ export const PILOT_WAYS = Object.freeze(MIXED.map(({ name, likelihood }) => way(
 const OF_PROGRAM = 8;
 
 /** What names a strategy: P is a likelihood. */
-export const STRATEGY_WORDS = Object.freeze(["mixed", ...Object.entries(STRATEGIES).map(([name, { hasLikelihood }]) => {
-  return hasLikelihood ? `${name}:P` : name;
-})]);
+export const STRATEGY_WORDS = Object.freeze(["mixed", ...Object.entries(STRATEGIES).map(([name, { hasLikelihood }]) =>
+  hasLikelihood ? `${name}:P` : name)]);
 
 /**
  * @param {string} strategy
@@ -65,6 +64,5 @@ export function waysOf(strategy, everywhere) {
  * @param {boolean} everywhere
  * @returns {readonly Way[]}
  */
-export const programWaysOf = (strategy, everywhere) => waysOf(strategy, everywhere).map((one, at, all) => {
-  return all.length > 1 && at % OF_PROGRAM === 1 ? way(one.name, one.likelihood, true) : one;
-});
+export const programWaysOf = (strategy, everywhere) => waysOf(strategy, everywhere).map((one, at, all) =>
+  all.length > 1 && at % OF_PROGRAM === 1 ? way(one.name, one.likelihood, true) : one);
