@@ -245,6 +245,9 @@ demand(Builtins, {
   map: "object",
 }, "realm");
 
+/** Whether code that is no script is an ES module. */
+export const { containsModuleSyntax } = below("contextify", { containsModuleSyntax: "function" });
+
 /** A module of node's loader. */
 export const { ModuleWrap } = below("module_wrap", { ModuleWrap: "function" });
 

@@ -9,8 +9,8 @@ import { apply } from "../primordials.mjs";
 import { CompiledFunctions } from "./compiled-functions.mjs";
 import { FreshModules } from "./fresh-modules.mjs";
 import {
-  Builtins, INSIDE, Modules, SideEffectFreeRegExpPrototypeSymbolReplace, importsByLoader, kIsExecuting,
-  loadBuiltinModule, makeRequireFunction, translators,
+  Builtins, INSIDE, Modules, SideEffectFreeRegExpPrototypeSymbolReplace, containsModuleSyntax, importsByLoader,
+  kIsExecuting, loadBuiltinModule, makeRequireFunction, translators,
 } from "./internals.mjs";
 import { TestRunner } from "./test-runner.mjs";
 
@@ -134,6 +134,7 @@ export class ProgramModules extends FreshModules {
    * stay for the next run.
    * @param {string} code
    * @param {string} [name]
+   * @returns {Promise<unknown> | void} settled once it is evaluated, if it is an ES module
    */
   evaluate(code, name = "[worker eval]") {
     const module = new Modules(name);
@@ -142,10 +143,17 @@ export class ProgramModules extends FreshModules {
     const parent = pathToFileURL(module.filename).href;
     const importModuleDynamically = (/** @type {string} */ specifier, /** @type {any} */ _, /** @type {any} */ given) =>
       this.loader.import(specifier, parent, given);
+    let evaluated;
+    try {
+      evaluated = this.#functions.compiled(code, NO_NAMES, { filename: name, importModuleDynamically });
+    } catch (error) {
+      if (!containsModuleSyntax(code, name, null, "no CJS variables")) throw error;
+      return this.loader.eval(code, `${pathToFileURL(process.cwd())}/[eval1]`, true);
+    }
     Object.assign(globalThis, {
       module, exports: module.exports, require: makeRequireFunction(module), __filename: name, __dirname: ".",
     });
-    this.#functions.compiled(code, NO_NAMES, { filename: name, importModuleDynamically }).call(globalThis);
+    evaluated.call(globalThis);
   }
 
   /**
