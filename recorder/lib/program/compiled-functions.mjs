@@ -9,7 +9,7 @@ import { uncurried } from "../primordials.mjs";
 const { Script, compileFunction } = /** @type {any} */ (vm);
 const run = uncurried(Script.prototype.runInThisContext);
 
-/** @typedef {{ filename: string, importModuleDynamically: Function }} CompileOptions as vm takes them */
+/** @typedef {{ filename: string, importModuleDynamically: Function | symbol }} CompileOptions as vm takes them */
 
 /** @param {string} text @param {readonly string[]} names @param {CompileOptions} options @returns {any} */
 function scriptOf(text, names, options) {

@@ -116,7 +116,7 @@ const CHOOSING = ["DefaultAutoSelectFamily", "DefaultAutoSelectFamilyAttemptTime
   return { set, value: get() };
 });
 
-/** Nothing of an earlier run listens, has changed how sockets choose, or is a global of evaluated code. */
+/** Nothing of an earlier run listens, or has changed how sockets choose. */
 export function restoreProcess() {
   /** @type {any} */
   const own = process;
@@ -124,5 +124,4 @@ export function restoreProcess() {
   clearTimes();
   CHOOSING.forEach(({ set, value }) => set(value));
   for (const [name, listeners] of listening) for (const listener of listeners) own.on(name, listener);
-  delete (/** @type {any} */ (globalThis)).require;
 }

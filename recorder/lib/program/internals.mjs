@@ -1,24 +1,16 @@
 // What the recorder uses of node's inside: all of it is here, with what is needed of it. Only threads with the flags of
 // `graph-flags.cjs` have it. If this node lacks something, no thread of a program begins, and the error names all.
 
-import fs from "node:fs";
 import Module from "node:module";
 import process from "node:process";
-import { fileURLToPath } from "node:url";
-import { types } from "node:util";
 import { defineProperty, setPrototypeOf } from "../primordials.mjs";
 import { REFUSED } from "../options/refused.mjs";
 import { TRIED } from "../processes/node-versions.mjs";
-import { rememberFiles } from "./remembered-files.mjs";
 
 const required = Module.createRequire(import.meta.url);
-const { readFileSync } = /** @type {any} */ (fs);
 
 /** The names of the modules of node's inside. */
 export const INSIDE = /^internal\//;
-
-/** The URL of a file whose text is a script or a module. */
-const SCRIPT = /^file:.*\.[cm]?js$/;
 
 /** @type {string[]} what this node lacks */
 const lacking = [];
@@ -29,7 +21,7 @@ const lacking = [];
  * @param {() => Made} make
  * @returns {Made}
  */
-export function withoutWarning(make) {
+function withoutWarning(make) {
   const own = /** @type {any} */ (process);
   const { emitWarning } = own;
   own.emitWarning = () => {};
@@ -188,8 +180,13 @@ export const { kNewListener, kRemoveListener, defineEventHandler } = inside("eve
   kNewListener: "symbol", kRemoveListener: "symbol", defineEventHandler: "function",
 });
 
+const symbols = below("symbols", { handle_onclose: "symbol", vm_dynamic_import_default_internal: "symbol" });
+
 /** The name of what node calls when it has closed a port. */
-export const onClose = below("symbols", { handle_onclose: "symbol" }).handle_onclose;
+export const onClose = symbols.handle_onclose;
+
+/** What is given in place of a function for `import()`, if node's loader is to import. */
+export const importsByLoader = symbols.vm_dynamic_import_default_internal;
 
 /** The options that node itself was started with. */
 export const options = inside("options", { getOptionValue: "function" });
@@ -202,9 +199,9 @@ export const { serializeError, deserializeError } = inside("error_serdes", {
   serializeError: "function", deserializeError: "function",
 });
 
-/** Adds to an error's stack where its code is. */
-export const { decorateErrorStack, SideEffectFreeRegExpPrototypeSymbolReplace } = inside("util", {
-  decorateErrorStack: "function", SideEffectFreeRegExpPrototypeSymbolReplace: "function",
+/** Replaces a part of a text, by a context of node's own. */
+export const { SideEffectFreeRegExpPrototypeSymbolReplace } = inside("util", {
+  SideEffectFreeRegExpPrototypeSymbolReplace: "function",
 });
 
 /** Reads the text of a classic script. */
@@ -223,7 +220,7 @@ export const {
 export const { isBlob, kHandle } = inside("blob", { isBlob: "function", kHandle: "symbol" });
 
 /** Makes a loader of ES modules. Node itself asks for its loader by the second function each time. */
-const loaders = inside("modules/esm/loader", {
+export const loaders = inside("modules/esm/loader", {
   createModuleLoader: "function", getOrInitializeCascadedLoader: "function",
 });
 
@@ -231,7 +228,7 @@ const loaders = inside("modules/esm/loader", {
 const { defaultResolve } = inside("modules/esm/resolve", { defaultResolve: "function" });
 
 /** Reads a module, and finds its format. */
-const { defaultLoadSync } = inside("modules/esm/load", { defaultLoadSync: "function" });
+export const { defaultLoadSync } = inside("modules/esm/load", { defaultLoadSync: "function" });
 
 /** What makes modules of what was read, by their formats. */
 export const { translators } = inside("modules/esm/translators", { translators: "object" });
@@ -241,9 +238,18 @@ export const { makeRequireFunction, loadBuiltinModule } = inside("modules/helper
   makeRequireFunction: "function", loadBuiltinModule: "function",
 });
 
-/** Node's own class of its modules. It finds by two functions which of them code may load. */
+/** Node's own class of its modules. It has lists of those that code may load. */
 export const Builtins = loadBuiltinModule?.("module").constructor ?? {};
-demand(Builtins, { canBeRequiredByUsers: "function", canBeRequiredWithoutScheme: "function", map: "object" }, "realm");
+demand(Builtins, {
+  allowRequireByUsers: "function", canBeRequiredByUsers: "function", setRealmAllowRequireByUsers: "function",
+  map: "object",
+}, "realm");
+
+/** Whether code that is no script is an ES module. */
+export const { containsModuleSyntax } = below("contextify", { containsModuleSyntax: "function" });
+
+/** A module of node's loader. */
+export const { ModuleWrap } = below("module_wrap", { ModuleWrap: "function" });
 
 /** By which a module of CommonJS has whether its code is running. */
 export const { kIsExecuting } = inside("modules/cjs/loader", { kIsExecuting: "symbol" });
@@ -286,12 +292,7 @@ export function underWay() {
 /** Finds, loads and compiles modules of CommonJS. */
 export const Modules = withHidden("Module", Module, ["_findPath", "_load", "_resolveFilename"]);
 withHidden("Module.prototype", Modules.prototype, ["_compile"]);
-
-/** @typedef {{ format: string, source: unknown }} ModuleLoadResult what was read of a module */
-/**
- * @typedef {{ format?: string, importAttributes?: object }} ModuleLoadContext what is known of a module before it is
- * read
- */
+withHidden("ModuleWrap.prototype", ModuleWrap?.prototype ?? {}, ["evaluate"]);
 
 /**
  * @param {string} specifier
@@ -299,39 +300,6 @@ withHidden("Module.prototype", Modules.prototype, ["_compile"]);
  * @returns {string} the URL of what it stands for
  */
 export const resolveModule = (specifier, parentURL) => defaultResolve(specifier, { parentURL }).url;
-
-/**
- * @param {string} url
- * @param {string | undefined} format
- * @returns {string | undefined} undefined: node reads it itself
- */
-function textOf(url, format) {
-  // A module of CommonJS is read by what runs it.
-  if (format === "commonjs") return "";
-  return SCRIPT.test(url) ? readFileSync(fileURLToPath(url), "utf8").replace(/^\uFEFF/, "") : undefined;
-}
-
-/** @param {string} url @param {ModuleLoadContext} [asked] @returns {ModuleLoadResult} */
-function readAtOnce(url, asked) {
-  const found = defaultLoadSync(url, { ...asked, source: textOf(url, asked?.format) });
-  return found.format === "commonjs" ? { ...found, source: null } : found;
-}
-
-/**
- * Has node's loader replaced by one that has loaded nothing yet, and that reads modules at once.
- * @returns {{ loader: any, read: (url: string, asked: ModuleLoadContext) => ModuleLoadResult }} the loader, and by what
- * it reads
- */
-export function freshLoader() {
-  const loader = loaders.createModuleLoader();
-  loaders.getOrInitializeCascadedLoader = () => loader;
-  // A later node reads at once by itself.
-  const isLater = !types.isAsyncFunction(loader.load);
-  rememberFiles(loader, isLater ? "resolveSync" : "defaultResolve");
-  if (isLater) return { loader, read: (url, asked) => loader.load(url, asked) };
-  loader.load = async (/** @type {string} */ url, /** @type {ModuleLoadContext} */ asked) => readAtOnce(url, asked);
-  return { loader, read: readAtOnce };
-}
 
 /** Compiles a module of node's own once more. */
 const { compileFunction } = below("builtins", { compileFunction: "function" });

@@ -2,9 +2,9 @@
 
 import process from "node:process";
 import { fileURLToPath, pathToFileURL } from "node:url";
+import { isThere } from "./fresh-modules.mjs";
 import { Modules } from "./internals.mjs";
 import { nodeError } from "./node-error.mjs";
-import { isThere } from "./remembered-files.mjs";
 
 /** @type {(path: string, folders: null, isMain: boolean) => string | false} */
 const findPath = Modules._findPath;

@@ -20,7 +20,7 @@ async function linesOf(program) {
   graph.begin();
   try {
     if (/^(?:file|data):/.test(program)) await graph.enter(program);
-    else graph.evaluate(program);
+    else await graph.evaluate(program);
   } catch (thrown) {
     const error = /** @type {Error | undefined} */ (thrown);
     lines.push(`failed: ${error?.name} ${error?.code} ${error?.message}`, ...String(error?.stack).split("\n"));

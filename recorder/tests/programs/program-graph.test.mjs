@@ -347,6 +347,20 @@ test("code of a worker with eval: true has its globals, and starts anew each tim
   for (const run of runs) assert.deepEqual(run, expected);
 });
 
+test("code of a worker with eval: true that only an ES module may have is one, as in node", async () => {
+  const code = `import { basename } from "path"; import("./none.mjs").catch(({ code }) => console.log(code));
+    console.log(basename(import.meta.url), typeof require, typeof module, this, await 1);
+    import("node:internal/util").catch(({ code }) => console.log(code));
+    export const place = new Error("x").stack.split("\\n")[1]; console.log(place);`;
+  const file = join(folder, "evaluates.mjs");
+  writeFileSync(file, `import { Worker } from "worker_threads"; new Worker(${JSON.stringify(code)}, { eval: true });`);
+  const expected = await realRun(file);
+  assert.equal(expected[0], "[eval1] undefined undefined undefined 1");
+  const [runs, wrong] = await ownRuns([code, "import 'path'; let = 5;"]);
+  for (const run of runs) assert.deepEqual(run, expected);
+  for (const [line] of wrong) assert.match(line, /^failed: SyntaxError/);
+});
+
 test("a program's `require` and `module` aren't there for the next program", async () => {
   const code = `console.log(typeof globalThis.module); require("path"); globalThis.left = 1;`;
   writeFileSync(join(folder, "main-module.cjs"), `console.log(process.mainModule === module);`);

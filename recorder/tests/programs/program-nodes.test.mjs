@@ -28,7 +28,7 @@ export default function agent({ buffers: [memory] }) { Atomics.add(new Int32Arra
 const LACKING = `delete process._getActiveHandles;
 try {
   delete require("internal/error_serdes").deserializeError;
-  delete require("internal/util").decorateErrorStack;
+  delete require("internal/util").SideEffectFreeRegExpPrototypeSymbolReplace;
 } catch { /* This thread can't ask for them. */ }
 `;
 
@@ -51,7 +51,7 @@ test("a node that lacks something of its inside refuses programs by name, and ru
   assert.equal(status, 2, stderr);
   assert.equal(stdout, "");
   assert.equal(stderr, `record: whole programs don't run on node ${process.versions.node}, which lacks `
-    + "deserializeError of internal/error_serdes, decorateErrorStack of internal/util, "
+    + "deserializeError of internal/error_serdes, SideEffectFreeRegExpPrototypeSymbolReplace of internal/util, "
     + "process._getActiveHandles. They were tried on node 20.20 and 24.22. Modules of agents run on this node, too\n");
   const ofAgents = ranBy([file("agents.mjs")], nodeWords);
   assert.equal(ofAgents.status, 0, ofAgents.stderr);

@@ -361,6 +361,26 @@ test("a bare name leads to a package, and each file is a module whatever its nam
   assert.deepEqual([ending, detail], ["finished", ""]);
 });
 
+test("modules of data: and of JSON, and what import.meta has", async () => {
+  const outcomes = await webRuns({
+    "main.mjs": `import two from "data:text/javascript,export default 1 ? 2 : 3";
+      import own from "./own.json" with { type: "json" };
+      const { url, resolve } = import.meta;
+      const json = { with: { type: "json" } };
+      const nameOf = (promise) => promise.then(() => "never", ({ name }) => name);
+      const found = [
+        two, own.runs += 1, Object.keys(import.meta), resolve("./none.mjs") === new URL("none.mjs", url).href,
+        resolve("https://example.org/a"), (await import("data:application/json,[5]", json)).default,
+        (await import("data:application/x-javascript;charset=utf-8,export default typeof require")).default,
+        await nameOf(import("./own.json")), await nameOf(import("./main.mjs", json)),
+      ].join();
+      const expected = "2,1,resolve,url,true,https://example.org/a,5,undefined,TypeError,TypeError";
+      if (found !== expected) throw new Error(found);`,
+    "own.json": `{ "runs": 0 }`,
+  }, 3);
+  assert.deepEqual(outcomes.map(({ detail }) => detail), ["", "", ""]);
+});
+
 test("each run declares anew what a page's classic script declares", async () => {
   const outcomes = await webRuns({
     "main.js": `var started = typeof started === "undefined" ? 1 : started + 1;

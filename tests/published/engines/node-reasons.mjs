@@ -48,10 +48,6 @@ export const REASONS = Object.freeze([
     tests: "worker-process-env worker-type-check worker-unsupported-eval-on-url",
   },
   {
-    says: /ERR_UNKNOWN_BUILTIN_MODULE/, why: "code that a Worker evaluates is no ES module",
-    24: "worker-internal-modules",
-  },
-  {
     says: /globalPaths/, why: "node looks for NODE_PATH in the process, and a thread has variables of its own",
     tests: "module-globalpaths-nodepath",
   },

@@ -3,7 +3,7 @@
 // variables, in the same lines, and after a run the global object is as it was before.
 
 import vm from "node:vm";
-import { parseScript } from "../internals.mjs";
+import { importsByLoader, parseScript } from "../internals.mjs";
 
 const { Script } = /** @type {any} */ (vm);
 
@@ -74,12 +74,6 @@ export class Scripts {
   #known = new Map();
   /** @type {Map<string, PropertyDescriptor | undefined>} what the global object had before the run, by names */
   #before = new Map();
-  #import;
-
-  /** @param {(specifier: string, parent: string, attributes: any) => Promise<any>} importModule what `import()` does */
-  constructor(importModule) {
-    this.#import = importModule;
-  }
 
   /** Nothing that a script has declared is left. */
   clear() {
@@ -120,11 +114,7 @@ export class Scripts {
   /** @param {string} url @param {string} text @returns {KnownScript} */
   #compiled(url, text) {
     const { names, text: edited } = asVariables(text);
-    const script = new Script(edited, {
-      filename: url,
-      importModuleDynamically: (/** @type {string} */ specifier, /** @type {any} */ _, /** @type {any} */ attributes) =>
-        this.#import(specifier, url, attributes),
-    });
+    const script = new Script(edited, { filename: url, importModuleDynamically: importsByLoader });
     const known = { names, text, script };
     this.#known.set(url, known);
     return known;

@@ -1,18 +1,41 @@
 // The modules and scripts of a program for browsers. A file is a module if a module imports it, whatever its name or
 // package says. Node's own modules aren't there.
 
-import { ModuleGraph } from "./vm-graph.mjs";
+import { methodOf, replaceNeeded } from "../../agent/ordinary/patch.mjs";
+import { apply } from "../../primordials.mjs";
+import { FreshModules } from "../fresh-modules.mjs";
+import { ModuleWrap } from "../internals.mjs";
+import { nodeError } from "../node-error.mjs";
 import { Scripts, placeOfImport } from "./scripts.mjs";
 
 const EngineException = DOMException;
-const { TextDecoder: EngineDecoder, TypeError: EngineTypeError } = /** @type {any} */ (globalThis);
+const { TextDecoder: EngineDecoder, TypeError: EngineTypeError, URL: EngineURL } = /** @type {any} */ (globalThis);
 
-/** The types of modules in a blob. */
-const JAVASCRIPT = /^(?:text|application)\/(?:x-)?(?:java|ecma)script\s*(?:;|$)/i;
+/** The types of modules in a blob or in `data:`. */
+const JAVASCRIPT = /^(?:text|application)\/(?:x-)?(?:java|ecma)script\s*(?:[;,]|$)/i;
 
-export class WebModuleGraph extends ModuleGraph {
-  #scripts;
+const ANY_TYPE = /(?:)/;
+
+/** A specifier that is a URL, or a part of one from its module's on. */
+const IS_URL = /^(?:\.{0,2}\/|file:)/;
+
+/** @param {string | Uint8Array} source @returns {string} */
+const textOf = (source) => (typeof source === "string" ? source : new EngineDecoder().decode(source));
+
+/** @typedef {import("../fresh-modules.mjs").ModuleContext} ModuleContext */
+
+/** @type {ModuleContext} */
+const MODULE = Object.freeze({ format: "module" });
+
+export class WebModuleGraph extends FreshModules {
+  #scripts = new Scripts();
   #refuse;
+  /** @type {Map<string, string>} the texts of the run's modules, by URL */
+  #texts = new Map();
+  /** @type {(() => void) | undefined} */
+  #begun = undefined;
+  /** Whether `import.meta.resolve` asks for a URL, which nothing is loaded from. */
+  #isAsked = false;
 
   /** @type {import("./blobs.mjs").Blobs | undefined} */
   blobs = undefined;
@@ -28,72 +51,101 @@ export class WebModuleGraph extends ModuleGraph {
   constructor({ refuse }) {
     super();
     this.#refuse = refuse;
-    this.#scripts = new Scripts((specifier, parent, attributes) => this.import(specifier, parent, attributes));
+    replaceNeeded(ModuleWrap.prototype, "evaluate", (engine) => methodOf((module, given) => {
+      const evaluation = apply(engine, module, given);
+      this.#begun?.();
+      this.#begun = undefined;
+      return evaluation;
+    }, engine));
   }
 
   /** Forgets all modules and scripts, for the next run. */
   begin() {
     super.begin();
+    this.#texts.clear();
     this.#scripts.clear();
+    const { loader } = this;
+    const { importMetaInitialize: initialize } = loader;
+    loader.importMetaInitialize = (/** @type {any} */ meta, /** @type {any} */ module) =>
+      this.#describe(apply(initialize, loader, [meta, module]));
   }
 
-  /** @param {string} specifier @param {string} parent URL of the module that imports it @returns {string} its URL */
-  resolved(specifier, parent) {
-    if (specifier.startsWith("blob:")) return specifier;
-    const url = super.resolved(specifier, parent);
-    if (!url.startsWith("file:") && !url.startsWith("data:")) {
-      const place = placeOfImport(this.textOf(parent), specifier);
-      this.#refuse(`${url} with --web`, place && `${parent}:${place.line}:${place.column}`);
-    }
-    return url;
-  }
-
-  /** @param {string} url of a module that is there @returns {string} */
-  textOf(url) {
-    if (!url.startsWith("blob:")) return super.textOf(url);
-    const content = this.#contentOf(url);
-    if (content === undefined || !JAVASCRIPT.test(content.type)) {
-      throw new EngineTypeError(`Failed to fetch dynamically imported module: ${url}`);
-    }
-    return decoded(content);
-  }
-
-  /** @param {string} url of a module that is there @returns {import("./module-urls.mjs").Format} */
-  formatOf(url) {
-    const format = super.formatOf(url);
-    return format === "json" || format === "builtin" ? format : "module";
-  }
-
-  /** @param {any} meta that a module gets @param {string} url of the module */
-  describe(meta, url) {
-    super.describe(meta, url);
+  /** @param {any} meta what node gives to a module; a browser gives less */
+  #describe(meta) {
     delete meta.dirname;
     delete meta.filename;
+    delete meta.main;
+    const { resolve } = meta;
+    meta.resolve = (/** @type {string} */ specifier) => {
+      this.#isAsked = true;
+      try {
+        return resolve(specifier);
+      } finally {
+        this.#isAsked = false;
+      }
+    };
+  }
+
+  /**
+   * A browser doesn't know which file a link leads to: the URL of a module behind a link has the link.
+   * @type {FreshModules["find"]}
+   */
+  find(specifier, parent, find) {
+    if (specifier.startsWith("blob:")) return { url: specifier, format: "module" };
+    const { url: found, format } = super.find(specifier, parent, find);
+    const url = IS_URL.test(specifier) ? new EngineURL(specifier, parent).href : found;
+    if (url.startsWith("file:")) return { url, format: format === "json" ? format : "module" };
+    if (url.startsWith("data:")) return { url, format: JAVASCRIPT.test(url.slice("data:".length)) ? "module" : format };
+    // Then it returns the URL, as if there were no such file.
+    if (this.#isAsked) throw nodeError("ERR_MODULE_NOT_FOUND", `${url} isn't loaded`, { url });
+    const place = placeOfImport(this.#texts.get(`${parent}`) ?? "", specifier);
+    this.#refuse(`${url} with --web`, place && `${parent}:${place.line}:${place.column}`);
+    return { url };
+  }
+
+  /** @type {FreshModules["read"]} */
+  read(url, known = MODULE) {
+    const { source, ...read } = this.#read(url, known, JAVASCRIPT);
+    const text = textOf(source);
+    this.#texts.set(url, text);
+    return { ...read, responseURL: url, source: text };
+  }
+
+  /** @param {string} url @param {ModuleContext} known @param {RegExp} types those that a blob may have */
+  #read(url, known, types) {
+    // Node itself refuses a module in a blob that is to be no JavaScript.
+    const isBlob = url.startsWith("blob:") && known.importAttributes?.type === undefined;
+    if (!isBlob) return super.read(withQuery(url), known);
+    const content = this.#contentOf(url);
+    if (content !== undefined && types.test(content.type)) return { format: "module", source: content.bytes };
+    throw new EngineTypeError(`Failed to fetch dynamically imported module: ${url}`);
+  }
+
+  /**
+   * Runs the module that a thread begins with.
+   * @param {string} url of a file, `data:` or `blob:`
+   * @param {() => void} [begun] called when it has begun: it may await something at its top level
+   * @returns {Promise<void>} settled once it is evaluated
+   */
+  async enter(url, begun) {
+    this.#begun = begun;
+    await super.enter(url);
   }
 
   /** @param {string} url of a file that node would run @returns {"classic" | "module"} what a page would make of it */
   typeOf(url) {
-    return super.formatOf(url) === "commonjs" ? "classic" : "module";
+    return this.formatOf(url) === "commonjs" ? "classic" : "module";
   }
 
   /** @param {string} url of a script that isn't a module @returns {() => void} runs it in the global scope */
   script(url) {
-    const text = this.#scriptText(url);
-    if (text === undefined) throw new EngineException(`The script at '${url}' failed to load.`, "NetworkError");
-    return this.#scripts.compiled(url, text);
-  }
-
-  /** @param {string} url @returns {string | undefined} undefined: there is no such script */
-  #scriptText(url) {
-    if (url.startsWith("blob:")) {
-      const content = this.#contentOf(url);
-      return content && decoded(content);
-    }
+    let source;
     try {
-      return super.textOf(url);
+      ({ source } = this.#read(url, MODULE, ANY_TYPE));
     } catch {
-      return undefined;
+      throw new EngineException(`The script at '${url}' failed to load.`, "NetworkError");
     }
+    return this.#scripts.compiled(url, textOf(source));
   }
 
   /** @param {string} url @returns {import("./blobs.mjs").Content | undefined} what the thread began with it has once */
@@ -105,5 +157,5 @@ export class WebModuleGraph extends ModuleGraph {
   }
 }
 
-/** @param {import("./blobs.mjs").Content} content @returns {string} */
-const decoded = ({ bytes }) => new EngineDecoder().decode(bytes);
+/** @param {string} url @returns {string} by which node reads all of `data:`; it leaves out what is behind a `?` */
+const withQuery = (url) => (url.startsWith("data:") ? url.replaceAll("?", "%3F") : url);
