@@ -62,7 +62,9 @@ export class Moves {
     if (to === TO_CHANNELS) call.bytes = 4 * (PORT_PLACES - LOOP_PLACES);
     this.count();
     this.player.make(call, this.view, called, () => {
-      Object.assign(call, placeOf(words[WORD.MESSAGES]));
+      const { index, length } = placeOf(words[WORD.MESSAGES]);
+      call.index = index;
+      call.length = length;
       words[WORD.MESSAGES] += 1;
     });
     return words[WORD.MESSAGES] - 1;
@@ -348,6 +350,7 @@ export class Moves {
   /** @param {number} message @returns {Call} */
   #edge(message) {
     const call = CALL_NUMBERS.notify;
-    return { call, kind: INT32, block: MESSAGES, offset: 0, ...placeOf(message), operands: [], limit: 0 };
+    const { index, length } = placeOf(message);
+    return { call, kind: INT32, block: MESSAGES, offset: 0, length, index, operands: [], limit: 0 };
   }
 }
