@@ -75,7 +75,11 @@ export function placesOfText(name, text) {
   });
 }
 
-/** The first of these places, as the recorder reports it. @param {string} name @param {string} text */
+/**
+ * The first of these places, as the recorder reports it.
+ * @param {string} name of the module
+ * @param {string} text
+ */
 export function placeIn(name, text) {
   const [{ line, column }] = placesOfText(name, text);
   return `${name}.mjs:${line}:${column}`;

@@ -6,12 +6,15 @@ import { waysOf } from "../../lib/board/strategy/ways.mjs";
 
 /** @typedef {import("../../lib/board/drawn-schedule.mjs").WantedSchedule} WantedSchedule */
 
+/** @typedef {{ seed?: number, row?: WantedSchedule, memory?: any } & Record<string, any>} HowBegun */
+
 /**
  * @param {number} agents how many
- * @param {{ seed?: number, row?: WantedSchedule, memory?: any } & Record<string, any>} [how] the others are rules
+ * @param {HowBegun} [how] the others are rules
  * @returns {Board}
  */
-export function startedBoard(agents, { seed = 1, row, memory = Board.memory(), ...rules } = {}) {
+export function startedBoard(agents, how = {}) {
+  const { seed = 1, row, memory = Board.memory(), ...rules } = how;
   const usual = { agents, ways: waysOf("uniform", true), maxMoves: 100_000, timeouts: 0.05 };
   const board = new Board(memory, { ...usual, ...rules });
   if (row !== undefined) board.row.begin(row);
@@ -23,7 +26,7 @@ export function startedBoard(agents, { seed = 1, row, memory = Board.memory(), .
 /**
  * A board whose agents are at a phase.
  * @param {number[]} phases
- * @param {object} [how] as above
+ * @param {HowBegun} [how]
  * @returns {Board}
  */
 export function boardAt(phases, how) {
