@@ -65,8 +65,15 @@ export const median = (list) => {
   return sorted.length % 2 === 1 ? sorted[middle] : (sorted[middle - 1] + sorted[middle]) / 2;
 };
 
-/** @param {Taken} taken @returns {number} how many times the processor time of before */
-export const ratioOf = ({ before, now }) => median(now) / median(before);
+/** @param {Taken} taken @returns {number[]} each turn's processor time, as a multiple of the time before */
+const ratiosOf = ({ before, now }) => now.map((seconds, turn) => seconds / before[turn]);
+
+/**
+ * The machine's speed may differ from turn to turn, and hardly differs within a turn.
+ * @param {Taken} taken
+ * @returns {number} how many times the processor time of before: the median of the turns' ratios
+ */
+export const ratioOf = (taken) => median(ratiosOf(taken));
 
 /** @param {Taken[]} list @returns {Taken} all of them together, turn by turn */
 export function sumOf(list) {
@@ -76,11 +83,11 @@ export function sumOf(list) {
 }
 
 /** @param {string} name @param {Taken} taken @returns {string} a row of the table */
-export function rowOf(name, { before, now }) {
-  const ratios = now.map((seconds, turn) => seconds / before[turn]);
+export function rowOf(name, taken) {
+  const ratios = ratiosOf(taken);
   const spread = `${Math.min(...ratios).toFixed(2)} to ${Math.max(...ratios).toFixed(2)}`;
-  const seconds = [before, now].map((list) => median(list).toFixed(2));
-  return `| ${name} | ${seconds.join(" | ")} | ${ratioOf({ before, now }).toFixed(3)} | ${spread} |`;
+  const seconds = [taken.before, taken.now].map((list) => median(list).toFixed(2));
+  return `| ${name} | ${seconds.join(" | ")} | ${ratioOf(taken).toFixed(3)} | ${spread} |`;
 }
 
 /**

@@ -61,13 +61,15 @@ test("the cost of the checks has a row for each program and number of jobs", asy
   }
 });
 
-test("the ratio of two commits is that of their medians, and the turns give its spread", () => {
-  const pool = { before: [4, 2, 9], now: [5, 3, 6] };
+test("the ratio of two commits is the median of the turns' ratios, and the turns give its spread", () => {
+  const pool = { before: [4, 2, 9], now: [5, 3, 9] };
   assert.equal(median([9, 2, 4]), 4);
   assert.equal(median([1, 2, 4, 9]), 3);
   assert.equal(ratioOf(pool), 1.25);
-  assert.equal(rowOf("pool", pool), "| pool | 4.00 | 5.00 | 1.250 | 0.67 to 1.50 |");
-  assert.deepEqual(sumOf([pool, { before: [1, 2, 3], now: [3, 2, 1] }]), { before: [5, 4, 12], now: [8, 5, 7] });
+  // The medians of both sides would say 1.5.
+  assert.equal(ratioOf({ before: [1, 4, 10], now: [1, 6, 10] }), 1);
+  assert.equal(rowOf("pool", pool), "| pool | 4.00 | 5.00 | 1.250 | 1.00 to 1.50 |");
+  assert.deepEqual(sumOf([pool, { before: [1, 2, 3], now: [3, 2, 1] }]), { before: [5, 4, 12], now: [8, 5, 10] });
 });
 
 const ROOT = fileURLToPath(new URL("../../../", import.meta.url));
