@@ -22,8 +22,8 @@ export interface OfTrial {
    */
   out?: string;
   /**
-   * Whether the shortest run that fails in the same way is returned, or is shown and kept, in place of the one that was
-   * found. Else false for `record`, and true in tests.
+   * Whether the shortest run that fails in the same way takes the place of the run that was found: in what is returned,
+   * shown and kept. Else false for `record`, and true in tests.
    */
   shorten?: boolean;
   // Up to here.
