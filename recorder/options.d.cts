@@ -161,9 +161,9 @@ export interface ManyRuns {
    */
   checkEvery?: number;
   /**
-   * How many groups of workers run side by side: one in this process, several in a process for each. With several,
-   * `init` and `check` can't be given: they are functions of this process. Outcomes don't depend on it. A whole number
-   * from 1 to 64; else 1.
+   * How many groups of workers run side by side. A single one runs in this process; each of several has a process of
+   * its own. With several, `init` and `check` can't be given: they are functions of this process. Outcomes don't depend
+   * on it. A whole number from 1 to 64; else 1.
    */
   jobs?: number;
   /** Ends all runs when it is aborted. Its reason is thrown. */
