@@ -203,8 +203,8 @@ export const OPTIONS = Object.freeze({
   jobs: { kind: whole(1, MOST_JOBS), of: OF_MANY, help: ["N", "how many groups of workers run side by side"],
     more: "Outcomes don't depend on it", orElse: "one; after a second, as many more as there are idle processors",
     inLibrary: "how many groups of workers run side by side. A single one runs in this process; each of several has a "
-    + "process of its own. With "
-    + "several, `init` and `check` can't be given: they are functions of this process", elseInLibrary: "1" },
+    + "process of its own. With several, `init` and `check` can't be given: they are functions of this process",
+    elseInLibrary: "1" },
   format: { kind: choice(["plain", "json"]), of: COMMAND, ifNone: "plain",
     help: ["FORM", "how the summary is printed: `plain`, or [`json`](FORMATS.md#the-recorders-summary), which is one "
     + "line"] },
