@@ -17,8 +17,8 @@ export interface OfTrial {
    */
   states?: number;
   /**
-   * The folder in which the failing run is kept, from the working directory. Else a folder of each test's own among the
-   * system's temporary files, the same one each time.
+   * The folder in which the failing run is kept. A relative path begins at the working directory. Else a folder of each
+   * test's own among the system's temporary files, the same one each time.
    */
   out?: string;
   /**

@@ -201,7 +201,7 @@ export const OPTIONS = Object.freeze({
     inLibrary: "the path of the native program that checks runs in place of the simulator's module, from the working "
     + "directory. `false`: runs aren't checked" },
   jobs: { kind: whole(1, MOST_JOBS), of: OF_MANY, help: ["N", "how many groups of workers run side by side"],
-    more: "Outcomes don't depend on it", orElse: "one; after a second, as many more as there are idle processors",
+    more: "Outcomes don't depend on it", orElse: "one at first; after 1 s, as many more as there are idle processors",
     inLibrary: "how many groups of workers run side by side. A single one runs in this process; each of several has a "
     + "process of its own. With several, `init` and `check` can't be given: they are functions of this process",
     elseInLibrary: "1" },
@@ -211,7 +211,7 @@ export const OPTIONS = Object.freeze({
   out: { kind: { ...named("the path of a folder"), text: named("the name of a folder").text }, of: OF_TRIAL,
     help: ["DIR", "the folder for the script and the report of the first failing run, or of the run of `--replay`. "
     + "Without it nothing is written"],
-    inLibrary: "the folder in which the failing run is kept, from the working directory",
+    inLibrary: "the folder in which the failing run is kept. A relative path begins at the working directory",
     elseInLibrary: "a folder of each test's own among the system's temporary files, the same one each time" },
   noShorten: { kind: BOOLEAN, of: COMMAND, ifNone: false, help: ["", "keeps that run as its seed makes it. Else the "
     + "[shortest run](#the-shortest-run) that fails in the same way is kept, with the run of the seed beside it"] },
