@@ -102,8 +102,8 @@ export interface OfProgram {
    */
   program: string | ModuleUrl;
   /**
-   * A program's timer or timed wait may end early, but only so that the run's clock is at most so many milliseconds
-   * ahead of all that waits. 0: none ends early. A number from 0 to 2,147,483,647; else 100.
+   * A program's timer or timed wait may end early, but only if no thread, task or other time is then more than so many
+   * milliseconds late. 0: none ends early. A number from 0 to 2,147,483,647; else 100.
    */
   early?: number;
   /**
@@ -120,8 +120,8 @@ export interface OfProgram {
   programOutput?: "all" | "none";
   /**
    * Plain aligned accesses of WebAssembly to shared memory are `ordinary`, or `relaxed`, as those of C's volatile.
-   * Relaxed ones are taken for loads and stores of Atomics, and have no data race with these. Relaxed accesses
-   * synchronize, so races that they order aren't found. Else "ordinary".
+   * Relaxed ones count as loads and stores of Atomics, and have no data race with these. They also order other
+   * accesses, whose data races aren't found then. Else "ordinary".
    */
   wasmAccesses?: "ordinary" | "relaxed";
   // Up to here.
@@ -133,8 +133,8 @@ export interface OneRun {
   /** The seed of the run, which draws who moves next. A whole number from 0 to 2^53 - 1; else 1. */
   seed?: number;
   /**
-   * Whether the shortest run that fails in the same way is returned, or is shown and kept, in place of the one that was
-   * found. Else false for `record`, and true in tests.
+   * Whether the shortest run that fails in the same way takes the place of the run that was found: in what is returned,
+   * shown and kept. Else false for `record`, and true in tests.
    */
   shorten?: boolean;
   // Up to here.
@@ -161,9 +161,9 @@ export interface ManyRuns {
    */
   checkEvery?: number;
   /**
-   * How many groups of workers run side by side: one in this process, several in a process for each. With several,
-   * `init` and `check` can't be given: they are functions of this process. Outcomes don't depend on it. A whole number
-   * from 1 to 64; else 1.
+   * How many groups of workers run side by side. A single one runs in this process; each of several has a process of
+   * its own. With several, `init` and `check` can't be given: they are functions of this process. Outcomes don't depend
+   * on it. A whole number from 1 to 64; else 1.
    */
   jobs?: number;
   /** Ends all runs when it is aborted. Its reason is thrown. */

@@ -17,13 +17,13 @@ export interface OfTrial {
    */
   states?: number;
   /**
-   * The folder in which the failing run is kept, from the working directory. Else a folder of each test's own among the
-   * system's temporary files, the same one each time.
+   * The folder in which the failing run is kept. A relative path begins at the working directory. Else a folder of each
+   * test's own among the system's temporary files, the same one each time.
    */
   out?: string;
   /**
-   * Whether the shortest run that fails in the same way is returned, or is shown and kept, in place of the one that was
-   * found. Else false for `record`, and true in tests.
+   * Whether the shortest run that fails in the same way takes the place of the run that was found: in what is returned,
+   * shown and kept. Else false for `record`, and true in tests.
    */
   shorten?: boolean;
   // Up to here.

@@ -143,10 +143,10 @@ export const OPTIONS = Object.freeze({
       ...notInAll("it has no time that goes by. Above 0 any wait's time may be over at any moment, and never means "
       + "that it never is", 0)] },
   early: ofPrograms("agents have no timers", { kind: upTo(MOST_EARLY), assumed: 100, isShared: true, isReplayed: true,
-    help: ["MS", "a [program's](#whole-programs) timer or timed wait may end early, but only so that the run's clock "
-    + "is at most MS milliseconds ahead of all that waits. 0: none ends early"],
-    inLibrary: "a program's timer or timed wait may end early, but only so that the run's clock is at most so many "
-    + "milliseconds ahead of all that waits. 0: none ends early" }),
+    help: ["MS", "a [program's](#whole-programs) timer or timed wait may end early, but only if no thread, task or "
+    + "other time is then more than MS milliseconds late. 0: none ends early"],
+    inLibrary: "a program's timer or timed wait may end early, but only if no thread, task or other time is then more "
+    + "than so many milliseconds late. 0: none ends early" }),
   ordinary: { ...word(["watch", "store", "refuse"],
     ["HOW", "[reads and writes without Atomics](#ordinary-reads-and-writes): `watch` (sees each, and looks for "
     + "unordered accesses), `store` (finds only what changed) or `refuse` (fails a run at a byte that changed)"]),
@@ -175,8 +175,8 @@ export const OPTIONS = Object.freeze({
   wasmAccesses: ofPrograms("the shared memory of WebAssembly is recorded in programs alone", {
     kind: choice(["ordinary", "relaxed"]), assumed: "ordinary", isShared: true, isReplayed: true,
     help: ["HOW", "plain aligned accesses of WebAssembly to shared memory are `ordinary`, or `relaxed`, as those of "
-    + "C's volatile. Relaxed ones are taken for loads and stores of Atomics, and have no data race with these"],
-    more: "Relaxed accesses synchronize, so races that they order aren't found" }),
+    + "C's volatile. Relaxed ones count as loads and stores of Atomics, and have no data race with these"],
+    more: "They also order other accesses, whose data races aren't found then" }),
   clock: { ...word(["run", "real"],
     ["WHICH", "the time that clocks show agents: `run` (the run's own, which comes from the seed) or `real`"]),
     only: NOT_YET, not: notInAll("what agents see of it can't be learned", "real") },
@@ -201,21 +201,22 @@ export const OPTIONS = Object.freeze({
     inLibrary: "the path of the native program that checks runs in place of the simulator's module, from the working "
     + "directory. `false`: runs aren't checked" },
   jobs: { kind: whole(1, MOST_JOBS), of: OF_MANY, help: ["N", "how many groups of workers run side by side"],
-    more: "Outcomes don't depend on it", orElse: "one; after a second, as many more as there are idle processors",
-    inLibrary: "how many groups of workers run side by side: one in this process, several in a process for each. With "
-    + "several, `init` and `check` can't be given: they are functions of this process", elseInLibrary: "1" },
+    more: "Outcomes don't depend on it", orElse: "one at first; after 1 s, as many more as there are idle processors",
+    inLibrary: "how many groups of workers run side by side. A single one runs in this process; each of several has a "
+    + "process of its own. With several, `init` and `check` can't be given: they are functions of this process",
+    elseInLibrary: "1" },
   format: { kind: choice(["plain", "json"]), of: COMMAND, ifNone: "plain",
     help: ["FORM", "how the summary is printed: `plain`, or [`json`](FORMATS.md#the-recorders-summary), which is one "
     + "line"] },
   out: { kind: { ...named("the path of a folder"), text: named("the name of a folder").text }, of: OF_TRIAL,
     help: ["DIR", "the folder for the script and the report of the first failing run, or of the run of `--replay`. "
     + "Without it nothing is written"],
-    inLibrary: "the folder in which the failing run is kept, from the working directory",
+    inLibrary: "the folder in which the failing run is kept. A relative path begins at the working directory",
     elseInLibrary: "a folder of each test's own among the system's temporary files, the same one each time" },
   noShorten: { kind: BOOLEAN, of: COMMAND, ifNone: false, help: ["", "keeps that run as its seed makes it. Else the "
     + "[shortest run](#the-shortest-run) that fails in the same way is kept, with the run of the seed beside it"] },
   shorten: { kind: BOOLEAN, of: ["record", "trial"], help: ["", "whether [the shortest run](#the-shortest-run) that "
-    + "fails in the same way is returned, or is shown and kept, in place of the one that was found"],
+    + "fails in the same way takes the place of the run that was found: in what is returned, shown and kept"],
     elseInLibrary: "false for `record`, and true in tests" },
   replay: { kind: named("the name of a script that was kept"), of: COMMAND, not: notInAll("it makes one run"),
     help: ["FILE", "runs the agents [once](#the-shortest-run), by the schedule of a kept or written script, in this "
