@@ -2,6 +2,7 @@
 use Rattle.std.proofs.Common.{ℕ, ◌<◌, ◌≤◌, ◌^◌, All, List, length, get_or, arith}
 use Rattle.std.proofs.lemmas.Option.{slice_get-get_or}
 use Rattle.std.proofs.lemmas.List.Elements.{All-get_or, All-from_get_or}
+use Rattle.sab_plan.specs.declared.plan.TheConstants.Plan.{MAX_AGENTS}
 use Rattle.sab_plan.specs.declared.schedule.Move.{Move}
 use Rattle.sab_plan.specs.declared.schedule.Move.TheVariants.{Step}
 use Rattle.sab_plan.specs.Schedule.{agent_of}
@@ -20,9 +21,9 @@ pub few_entries : (plan : PlanParts) (moves : List Move) (journal : List Entry) 
 few_entries plan moves journal blocks fits = omega (arith, fits.few, fits.one_each)
 
 pub few_agents : (plan : PlanParts) (moves : List Move) (journal : List Entry) (blocks : List (List ℕ))
-    → IsPlan plan → FitsMoves plan moves journal blocks → All (λ (e : Entry). e.agent < 16) journal
+    → IsPlan plan → FitsMoves plan moves journal blocks → All (λ (e : Entry). e.agent < MAX_AGENTS) journal
 few_agents plan moves journal blocks is_plan fits =
-    All-from_get_or (λ (e : Entry). e.agent < 16) journal none
+    All-from_get_or (λ (e : Entry). e.agent < MAX_AGENTS) journal none
     (λ k h.
     let within : k < length moves = omega (arith, fits.one_each) in
     let e = get_or journal k none in
@@ -38,6 +39,6 @@ few_in_report plan report fits =
     few_entries plan report.schedule report.journal report.blocks fits.moves
 
 pub agents_in_report : (plan : PlanParts) (report : ReportParts) → IsPlan plan → Fits plan report
-    → All (λ (e : Entry). e.agent < 16) report.journal
+    → All (λ (e : Entry). e.agent < MAX_AGENTS) report.journal
 agents_in_report plan report is_plan fits =
     few_agents plan report.schedule report.journal report.blocks is_plan fits.moves

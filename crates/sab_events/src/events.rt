@@ -3,6 +3,7 @@
 ghost use Rattle.std.specs.Prelude.{◌≡◌, ◌<◌, ◌≤◌, ◌^◌, length, All, IfOk};
 ghost use Rattle.sab_judge.specs.Trace.{IsInBlocks};
 ghost use Rattle.sab_plan.specs.declared.entry.Entry.{Entry};
+ghost use Rattle.sab_plan.specs.declared.plan.TheConstants.Plan.{MAX_AGENTS};
 ghost use Rattle.sab_events.specs.Events.{event_of, events_of};
 ghost use Rattle.sab_sim.specs.declared.sim.TheConstants.Sim.{MAX_ENTRIES};
 
@@ -18,7 +19,7 @@ use std::alloc::{AllocError, Global};
 /// plan hasn't is an event that accesses nothing.
 pub fn trace_of(alloc: Global, plan: &Plan, journal: &[Entry]) -> Result<Trace, AllocError>
     requires few { length journal.now ≤ MAX_ENTRIES }
-    requires agents { All (λ (e : Entry). e.agent < 16) journal.now }
+    requires agents { All (λ (e : Entry). e.agent < MAX_AGENTS) journal.now }
     ensures { IfOk result (λ trace. trace ≡ events_of plan.now journal.now) }
 {
     let mut trace = Trace::new(alloc);

@@ -7,6 +7,7 @@ ghost use Rattle.sab_json.specs.Members.{member_text_if};
 ghost use Rattle.sab_json.specs.CallData.{natural};
 ghost use Rattle.sab_json.specs.FactData.{agent_items, place_data, found_data};
 ghost use Rattle.sab_plan.specs.declared.fact.Found.TheVariants as F;
+ghost use Rattle.sab_plan.specs.declared.plan.TheConstants.Plan.{MAX_AGENTS};
 
 use crate::call::{OPERAND_LEN, push_operand};
 use crate::small::push_small;
@@ -101,7 +102,7 @@ fn push_compared(before: Operand, after: Operand, exchanged: bool, chunk: &mut C
 /// Appends whom a wait found in line before it.
 #[tactic(auto, unfolding(json::specs::Print::escape_byte, crate::specs::FactData::found_data))]
 fn push_joined(ahead: &[u32], chunk: &mut Chunk)
-    requires few { length ahead.now ≤ 16 }
+    requires few { length ahead.now ≤ MAX_AGENTS }
     requires room { length chunk.old + FOUND_LEN ≤ Chunk.ROOM }
     ensures bytes { chunk.new ≡ chunk.old ++ member_text_if (codes "found") (found_data (F.Joined ahead.now)) }
     ensures len { length chunk.new ≤ length chunk.old + FOUND_LEN }
@@ -114,7 +115,7 @@ fn push_joined(ahead: &[u32], chunk: &mut Chunk)
 /// Appends whom a notify woke, of so many that waited.
 #[tactic(auto, unfolding(json::specs::Print::escape_byte, crate::specs::FactData::found_data))]
 fn push_notified(woken: &[u32], waiting: u32, chunk: &mut Chunk)
-    requires few { length woken.now ≤ 16 }
+    requires few { length woken.now ≤ MAX_AGENTS }
     requires room { length chunk.old + FOUND_LEN ≤ Chunk.ROOM }
     ensures bytes { chunk.new
         ≡ chunk.old ++ member_text_if (codes "found") (found_data (F.Notified woken.now waiting)) }
@@ -155,7 +156,7 @@ fn failed_text(check: Check) -> &'static [u8]
 
 /// Appends agents, as an array.
 fn push_agents(agents: &[u32], chunk: &mut Chunk)
-    requires few { length agents.now ≤ 16 }
+    requires few { length agents.now ≤ MAX_AGENTS }
     requires room { length chunk.old + AGENTS_LEN ≤ Chunk.ROOM }
     ensures bytes { chunk.new ≡ chunk.old ++ compact_text (array (agent_items agents.now)) }
     ensures len { length chunk.new ≤ length chunk.old + AGENTS_LEN }

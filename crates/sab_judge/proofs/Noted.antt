@@ -4,6 +4,7 @@ use Rattle.std.specs.HashMap.{get}
 use Rattle.std.proofs.lemmas.Bool.{cases_eq, ne_eqb, eq-eqb}
 use Rattle.sab_judge.specs.declared.place.Place.{Place}
 use Rattle.sab_judge.specs.declared.event.Event.{Event}
+use Rattle.sab_judge.specs.declared.trace.TheConstants.Trace.{MAX_AGENTS}
 use Rattle.sab_judge.specs.Event.{event_at, agent_at, share_waiters}
 use Rattle.sab_judge.specs.Sought.{IsLastBelow, OfAgent, AtWaiters}
 use Rattle.sab_judge.specs.Lookups.{ByPlace, same_pair}
@@ -11,9 +12,9 @@ use Rattle.sab_judge.specs.Past.{AreWaiters}
 use Rattle.sab_judge.proofs.Lasts.{last_miss, last_hit}
 
 -- the agent's last event is now this one
-pub agents_noted : (trace : List Event) (n : ℕ) (agents : List (Option ℕ)) → length agents ≡ 16
-    → ((a : ℕ) → a < 16 → IsLastBelow trace (OfAgent a) n (slice_index_or agents a None)) → agent_at trace n < 16
-    → (a : ℕ) → a < 16
+pub agents_noted : (trace : List Event) (n : ℕ) (agents : List (Option ℕ)) → length agents ≡ MAX_AGENTS
+    → ((a : ℕ) → a < MAX_AGENTS → IsLastBelow trace (OfAgent a) n (slice_index_or agents a None)) → agent_at trace n < MAX_AGENTS
+    → (a : ℕ) → a < MAX_AGENTS
     → IsLastBelow trace (OfAgent a) (n + 1) (slice_index_or (slice_set agents (agent_at trace n) (Some n)) a None)
 agents_noted trace n agents count lasts lt a a_lt = elim (cases_eq a (agent_at trace n)) [
   | inl same ↦ subst (λ (f : Option ℕ). IsLastBelow trace (OfAgent a) (n + 1) f) (sym (here same))

@@ -4,7 +4,7 @@ use Rattle.sab_judge.specs.declared.clock.Clock.{Clock}
 use Rattle.sab_judge.specs.declared.event.Event.{Event}
 use Rattle.sab_judge.specs.Event.{agent_at}
 use Rattle.sab_judge.specs.HappensBefore.{HappensBefore, IsRead, IsHandedOn}
-use Rattle.sab_judge.specs.declared.trace.TheConstants.Trace.{MAX_EVENTS}
+use Rattle.sab_judge.specs.declared.trace.TheConstants.Trace.{MAX_EVENTS, MAX_AGENTS}
 
 -- ---- clocks as numbers
 
@@ -49,7 +49,7 @@ pub record IsClock (trace : List Event) (j : ℕ) (clock : Clock) : Type 0 where
 pub record HasClock (trace : List Event) (j : ℕ) (clock : Clock) : Type 0 where
   pub within : j < length trace
   pub short : length trace ≤ MAX_EVENTS
-  pub agents : All (λ (e : Event). e.agent < 16) trace
+  pub agents : All (λ (e : Event). e.agent < MAX_AGENTS) trace
   pub known : IsClock trace j clock
 
 -- there is the clock of each event before the j-th

@@ -5,6 +5,7 @@ use Rattle.std.specs.Option.{ForSome}
 use Rattle.sab_judge.specs.declared.place.Place.{Place}
 use Rattle.sab_judge.specs.declared.event.Event.{Event}
 use Rattle.sab_judge.specs.declared.past.Past.{Past}
+use Rattle.sab_judge.specs.declared.trace.TheConstants.Trace.{MAX_AGENTS}
 use Rattle.sab_judge.specs.Sought.{IsLastBelow, OfAgent, AtWaiters, Writes}
 use Rattle.sab_judge.specs.declared.stretch.Stretches.{Stretches}
 use Rattle.sab_judge.specs.Lookups.{ByPlace, ByBlock, same_pair}
@@ -29,7 +30,7 @@ AreOrdered writers = (block : ℕ) → ForSome (get nat_eq writers block) (λ (s
 
 -- what is kept is that of the first n events of the trace
 pub record IsPast (trace : List Event) (n : ℕ) (past : Past) : Type 0 where
-  pub count : length past.agents ≡ 16
-  pub agents : (a : ℕ) → a < 16 → IsLastBelow trace (OfAgent a) n (slice_index_or past.agents a None)
+  pub count : length past.agents ≡ MAX_AGENTS
+  pub agents : (a : ℕ) → a < MAX_AGENTS → IsLastBelow trace (OfAgent a) n (slice_index_or past.agents a None)
   pub waiters : AreWaiters trace n past.waiters
   pub writers : AreWriters trace n past.writers

@@ -14,7 +14,7 @@ ghost use Rattle.sab_judge.specs.Seen.{IsSeen};
 ghost use Rattle.sab_judge.specs.Trace.{IsInBlocks};
 ghost use Rattle.sab_judge.specs.Verdict.{IsLastSeen, IsVerdict};
 ghost use Rattle.sab_judge.specs.RacesSoFar.{HasReported};
-ghost use Rattle.sab_judge.specs.declared.trace.TheConstants.Trace.{MAX_EVENTS};
+ghost use Rattle.sab_judge.specs.declared.trace.TheConstants.Trace.{MAX_EVENTS, MAX_AGENTS};
 
 use crate::clock::Clock;
 use crate::clocks::clock_of;
@@ -47,7 +47,7 @@ pub fn judge(alloc: Global, trace: &Trace, most: usize) -> Result<Verdict, Alloc
 /// Judges the events of a trace.
 fn judge_events(alloc: Global, trace: &[Event], most: usize) -> Result<Verdict, AllocError>
     requires short { length trace.now ≤ MAX_EVENTS }
-    requires agents { All (λ (e : Event). e.agent < 16) trace.now }
+    requires agents { All (λ (e : Event). e.agent < MAX_AGENTS) trace.now }
     requires blocks { All IsInBlocks trace.now }
     ensures { IfOk result (λ verdict. IsVerdict trace.now most verdict.races.items verdict.rest verdict.data_races) }
 {
@@ -178,7 +178,7 @@ fn report_race(
 /// The last event of another agent that happens before the `j`-th, whose clock this is, if there is one.
 fn last_seen(trace: &[Event], clock: &Clock, agent: u32, j: usize) -> Option<usize>
     requires event_clock { HasClock trace.now j clock.now }
-    requires agent { agent < 16 }
+    requires agent { agent < MAX_AGENTS }
     requires other { agent ≢ agent_at trace.now j }
     ensures { IsLastSeen trace.now agent j result }
 {

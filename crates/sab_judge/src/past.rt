@@ -8,9 +8,10 @@ ghost use Rattle.sab_judge.specs.Past.{AreOrdered, AreWaiters, AreWriters, AreWr
 ghost use Rattle.sab_judge.specs.Readers.{HaveWriter};
 ghost use Rattle.sab_judge.specs.Stretch.{AreStretches};
 ghost use Rattle.sab_judge.specs.Trace.{IsInBlocks};
-ghost use Rattle.sab_judge.specs.declared.trace.TheConstants.Trace.{MAX_EVENTS};
+ghost use Rattle.sab_judge.specs.declared.trace.TheConstants.Trace.{MAX_EVENTS, MAX_AGENTS};
 
 use crate::access::Access;
+use crate::clock::AGENTS;
 use crate::event::Event;
 use crate::place::Place;
 use crate::stretch::{Held, Stretches};
@@ -26,7 +27,7 @@ type Writers = HashMap<u32, Stretches>;
 /// The last event of each agent, among the waiters of each place, and of those that write each byte.
 #[derive(Drop)]
 pub(crate) struct Past {
-    agents: [Option<usize>; 16],
+    agents: [Option<usize>; AGENTS],
     waiters: Waiters,
     writers: Writers,
 }
@@ -37,7 +38,7 @@ impl Past {
         ensures { (trace : List Event) → IsPast trace 0 result }
     {
         Past {
-            agents: [None; 16],
+            agents: [None; AGENTS],
             waiters: HashMap::new(alloc),
             writers: HashMap::new(alloc),
         }
@@ -45,7 +46,7 @@ impl Past {
 
     /// The last event of an agent.
     pub(crate) fn last_of_agent(&self, agent: u32) -> Option<usize>
-        requires { agent < 16 }
+        requires { agent < MAX_AGENTS }
         ensures { (trace : List Event) (n : ℕ) → IsPast trace n self.now → IsLastBelow trace (OfAgent agent) n result }
     {
         self.agents[agent as usize]
@@ -87,7 +88,7 @@ impl Past {
     ) -> Result<(), AllocError>
         requires within { j < length trace.now }
         requires short { length trace.now ≤ MAX_EVENTS }
-        requires agents { All (λ (e : Event). e.agent < 16) trace.now }
+        requires agents { All (λ (e : Event). e.agent < MAX_AGENTS) trace.now }
         requires blocks { All IsInBlocks trace.now }
         requires past { IsPast trace.now j self.old }
         ensures { IfOk result (λ _. IsPast trace.now (j + 1) self.new) }

@@ -26,8 +26,10 @@ impl Model for Trace {
     ghost invariant = { λ t. IsTrace t.events.items };
 }
 
-// The clauses cite the constant: so its number is held here.
+// The clauses cite the constants: so their numbers are held here.
 const _: () = prove!(Trace::MAX_EVENTS == 1_048_576);
+
+const _: () = prove!(Trace::MAX_AGENTS == 16);
 
 impl Trace {
     /// How many events a trace can have.

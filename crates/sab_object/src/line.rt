@@ -3,6 +3,7 @@
 ghost use Rattle.std.specs.Prelude.{◌≡◌, ◌<◌, ◌≤◌, ℕ, ◌||◌, ◌&&◌, ◌==◌, not, true, false, Contains, length, take};
 ghost use Rattle.std.specs.Prelude.{filter, slice_index_or, vec_capacity};
 ghost use Rattle.std.specs.List.{list_any};
+ghost use Rattle.sab_plan.specs.declared.plan.TheConstants.Plan.{MAX_AGENTS};
 ghost use Rattle.sab_object.specs.Object.{woken_count, waiters, without_first, is_at};
 ghost use Rattle.sab_object.specs.Kept.{AreAgents, is_in};
 
@@ -11,7 +12,7 @@ use sab_plan::{Place, Waiter};
 /// Wakes the agents that wait at a place, oldest first, as many as the count says, and returns how many.
 pub fn wake(line: &mut Vec<Waiter>, woken: &mut [bool], place: Place, count: Option<i64>) -> u32
     requires agents { AreAgents (length woken.old) line.old.items }
-    requires sixteen { length woken.old ≤ 16 }
+    requires few { length woken.old ≤ MAX_AGENTS }
     ensures many { result ≡ woken_count count (length (waiters place line.old.items)) }
     ensures line { line.new.items ≡ without_first result place line.old.items }
     ensures woken { (b : ℕ) → slice_index_or woken.new b false

@@ -2,6 +2,7 @@
 
 ghost use Rattle.std.specs.Prelude.{◌≡◌, ◌<◌, ◌≤◌, false, length, map, slice_get, Some, vec_capacity};
 ghost use Rattle.sab_block.specs.View.{block_len_of};
+ghost use Rattle.sab_plan.specs.declared.plan.TheConstants.Plan.{MAX_AGENTS};
 ghost use Rattle.sab_object.specs.Object.{DoesCall};
 ghost use Rattle.sab_object.specs.Kept.{state_of, is_in, AreAgents, IsOutcome};
 
@@ -24,8 +25,8 @@ pub fn perform(
     requires agents { AreAgents (length woken.old) line.old.items }
     requires agent { agent < length woken.old }
     requires free { is_in line.old.items agent ≡ false }
-    requires sixteen { length woken.old ≤ 16 }
-    requires room { 16 ≤ vec_capacity line.old }
+    requires few { length woken.old ≤ MAX_AGENTS }
+    requires room { MAX_AGENTS ≤ vec_capacity line.old }
 
     ensures does { DoesCall can_block agent view.now call (state_of blocks.old line.old.items woken.old) result
         (state_of blocks.new line.new.items woken.new) }

@@ -3,6 +3,7 @@ use Rattle.std.specs.Prelude.{◌≡◌, ℕ, ◌<◌, ◌≤◌, List, [], leng
 use Rattle.sab_block.specs.View.{block_len_of}
 use Rattle.sab_plan.specs.declared.call.Call.{Call}
 use Rattle.sab_plan.specs.declared.call.Call.TheVariants as C
+use Rattle.sab_plan.specs.declared.plan.TheConstants.Plan.{MAX_AGENTS}
 use Rattle.sab_plan.specs.declared.plan_fault.PlanFault.{PlanFault}
 use Rattle.sab_plan.specs.declared.plan_fault.PlanFault.TheVariants.{TooMany, NoBlock, NoView}
 use Rattle.sab_plan.specs.declared.plan_view.PlanView.{PlanView}
@@ -24,7 +25,7 @@ pub record IsWithinLimits (plan : PlanParts) : Type 0 where
   pub blocks : length plan.lens ≤ 4
   pub bytes : All (λ len. len ≤ 65536) plan.lens
   pub views : length plan.views ≤ 64
-  pub agents : length plan.scripts ≤ 16
+  pub agents : length plan.scripts ≤ MAX_AGENTS
   pub calls : All (λ (s : ScriptParts). length s.calls ≤ 1000) plan.scripts
 
 -- there is a block, and each view names one

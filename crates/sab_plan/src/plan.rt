@@ -33,6 +33,9 @@ impl Model for Plan {
     ghost invariant = { λ p. IsPlan (parts_of p.lens.items p.views.items p.scripts.items) };
 }
 
+// The clauses cite the constant: so its number is held here.
+const _: () = prove!(Plan::MAX_AGENTS == 16);
+
 impl Plan {
     /// How many blocks a plan can have.
     pub const MAX_BLOCKS: usize = 4;

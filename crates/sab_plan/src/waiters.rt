@@ -1,24 +1,27 @@
 //! The agents that wait at a place.
 
 ghost use Rattle.std.specs.Prelude.{◌≡◌, ◌<◌, ◌≤◌, ◌++◌, ◌∷◌, [], length, take};
+ghost use Rattle.sab_plan.specs.declared.plan.TheConstants.Plan.{MAX_AGENTS};
 
+use crate::plan::Plan;
 use std::marker::Model;
 
 /// The agents that wait at a place, oldest first. They are at most 16, as many as a plan can have, and take no memory.
 #[derive(Drop)]
 pub struct Waiters {
-    agents: [u32; 16],
+    agents: [u32; Plan::MAX_AGENTS],
     len: usize,
 }
 
 impl Model for Waiters {
     ghost use Rattle.std.specs.Prelude.{ℕ, List, take, ◌≤◌};
+    ghost use Rattle.sab_plan.specs.declared.plan.TheConstants.Plan.{MAX_AGENTS};
 
     ghost Value = { List ℕ };
 
     ghost view = { λ w. take w.len w.agents };
 
-    ghost invariant = { λ w. w.len ≤ 16 };
+    ghost invariant = { λ w. w.len ≤ MAX_AGENTS };
 }
 
 impl Waiters {
@@ -27,14 +30,14 @@ impl Waiters {
         ensures { result ≡ [] }
     {
         Waiters {
-            agents: [0; 16],
+            agents: [0; Plan::MAX_AGENTS],
             len: 0,
         }
     }
 
     /// Appends an agent. There are fewer than 16 before.
     pub fn push(&mut self, agent: u32)
-        requires { length self.old < 16 }
+        requires { length self.old < MAX_AGENTS }
         ensures { self.new ≡ self.old ++ agent ∷ [] }
     {
         self.agents[self.len] = agent;
@@ -44,7 +47,7 @@ impl Waiters {
     /// The agents, oldest first.
     pub fn agents(&self) -> &[u32]
         ensures agents { result.now ≡ self.now }
-        ensures most { length self.now ≤ 16 }
+        ensures most { length self.now ≤ MAX_AGENTS }
     {
         &self.agents[..self.len]
     }

@@ -35,7 +35,7 @@ pub fn script_count(script: &Script, spins: u32) -> usize
 
 /// How many moves all agents make.
 pub fn count_moves(scripts: &[Script], spins: u32) -> usize
-    requires agents { length scripts.now ≤ 16 }
+    requires agents { length scripts.now ≤ Plan.MAX_AGENTS }
     requires calls { All (λ (s : ScriptParts). length s.calls ≤ Plan.MAX_CALLS) scripts.now }
     requires spins { spins ≤ MAX_SPINS }
     ensures { result ≡ count_of scripts.now spins }

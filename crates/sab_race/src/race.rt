@@ -45,7 +45,7 @@ impl Model for Race {
 
 /// What each agent has to do at the start.
 fn make_agendas(alloc: Global, scripts: &[Script], spins: u32) -> Result<Vec<Agenda>, AllocError>
-    requires agents { length scripts.now ≤ 16 }
+    requires agents { length scripts.now ≤ Plan.MAX_AGENTS }
     requires calls { All (λ (s : ScriptParts). length s.calls ≤ Plan.MAX_CALLS) scripts.now }
     requires spins { spins ≤ MAX_SPINS }
     ensures { IfOk result (λ agendas. AreFresh scripts.now spins agendas.items) }
@@ -83,7 +83,7 @@ impl Race {
     pub fn agents(&self) -> u32
         ensures agendas { result ≡ length self.now.agendas }
         ensures scripts { result ≡ length self.now.plan.scripts }
-        ensures most { result ≤ 16 }
+        ensures most { result ≤ Plan.MAX_AGENTS }
     {
         self.sim.plan().scripts().len() as u32
     }

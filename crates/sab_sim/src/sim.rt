@@ -4,6 +4,7 @@ ghost use Rattle.std.specs.Prelude.{◌≡◌, ℕ, ◌<◌, ◌≤◌, ◌^◌,
 ghost use Rattle.std.specs.Prelude.{Err, IsOk, IfOk, OnOk, OnErr, IsOkUnless};
 ghost use Rattle.sab_plan.specs.declared.entry.Entry.{Entry};
 ghost use Rattle.sab_sim.specs.declared.sim_fault.SimFault.TheVariants.{NoAgent, Full, OutOfMemory};
+ghost use Rattle.sab_plan.specs.declared.plan.TheConstants.Plan.{MAX_AGENTS};
 ghost use Rattle.sab_plan.specs.Schedule.{agent_of};
 ghost use Rattle.sab_object.specs.Object.{zero_blocks, waiters, stands};
 ghost use Rattle.sab_plan.specs.Plan.{call_of};
@@ -168,7 +169,7 @@ impl Sim {
     pub fn waiters_at(&self, place: Place) -> Waiters
         ensures waiters { AtEnd self.now.plan self.now.journal (λ S. result ≡ waiters place S.line) }
         ensures named { All (λ a. a < length self.now.plan.scripts) result }
-        ensures most { length result ≤ 16 }
+        ensures most { length result ≤ MAX_AGENTS }
     {
         line_at(self.machine.agents(), place)
     }

@@ -9,7 +9,7 @@ use crate::done::{ANSWERED_LEN, answered};
 use crate::measuring::CHAR_WIDTH;
 use crate::pieces::{LINE_LEN, push_across};
 use crate::shape::{Shape, row_middle};
-use sab_plan::{Entry, Found, What};
+use sab_plan::{Entry, Found, Plan, What};
 use sab_text::Chunk;
 
 /// From the end of a text to an arrow's start.
@@ -21,8 +21,8 @@ const START_GAP: u64 = 8;
 /// From the tip of an arrow to the middle of a lane.
 const TIP_GAP: u64 = 10;
 
-/// The most bytes of the arrows of an entry: one to each of 16 agents.
-pub(crate) const ARROWS_LEN: usize = 16 * LINE_LEN;
+/// The most bytes of the arrows of an entry: one to each agent that a plan can have.
+pub(crate) const ARROWS_LEN: usize = Plan::MAX_AGENTS * LINE_LEN;
 
 /// Appends an arrow to each agent that the entry in row k woke.
 pub(crate) fn push_arrows(shape: Shape, k: u32, entry: &Entry, found: &Found, chunk: &mut Chunk)

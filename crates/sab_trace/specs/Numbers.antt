@@ -3,6 +3,7 @@ use Rattle.std.specs.Prelude.{◌≡◌, ℕ, ◌<◌, ◌^◌, ◌-◌, IsTrue,
 use Rattle.serde_json.specs.Data.{Num}
 use Rattle.serde_json.specs.Find.{of_integer}
 use Rattle.sab_judge.specs.declared.place.Place.{Place}
+use Rattle.sab_judge.specs.declared.trace.TheConstants.Trace.{MAX_AGENTS}
 use Rattle.sab_judge.specs.Trace.{HasBytes}
 use Rattle.sab_trace.specs.declared.deed.Deed.{Deed}
 use Rattle.sab_trace.specs.declared.flags.Flags.{Flags}
@@ -43,7 +44,7 @@ pub record AreWhole (position : ℕ) (values : Values) (numbers : Numbers) : Typ
 -- the agent is one of 16
 pub record IsAgent (numbers : Numbers) (agent : ℕ) : Type 0 where
   pub is : numbers.agent ≡ pos agent
-  pub below : agent < 16
+  pub below : agent < MAX_AGENTS
 
 -- they give so many bytes from the place on, one at least, which are there
 pub record AreBytes (numbers : Numbers) (place : Place) (len : ℕ) : Type 0 where

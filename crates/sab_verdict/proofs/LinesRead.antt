@@ -13,6 +13,7 @@ use Rattle.sab_plan.specs.Plan.{PlanParts, call_of}
 use Rattle.sab_plan.specs.declared.entry.Entry.{Entry}
 use Rattle.sab_judge.specs.declared.access.Access.{Access}
 use Rattle.sab_judge.specs.declared.event.Event.{Event}
+use Rattle.sab_judge.specs.declared.trace.TheConstants.Trace.{MAX_AGENTS}
 use Rattle.sab_judge.specs.declared.race.Race.{Race}
 use Rattle.sab_judge.specs.Event.{idle_event, event_at, agent_at}
 use Rattle.sab_judge.specs.Trace.{HasBytes, IsWithinLimits, IsTrace}
@@ -34,7 +35,7 @@ use Rattle.sab_verdict.proofs.TreesRead.{call_side_in_order, access_side_in_orde
 
 -- its agent is one of 16, and its access is of bytes that are there
 record IsShortEvent (e : Event) : Type 0 where
-  agent : e.agent < 16
+  agent : e.agent < MAX_AGENTS
   bytes : HasBytes (access_in e.access).place (access_in e.access).len
 
 access_short : (o : Option Access) → ForSome o (λ (a : Access). HasBytes a.place a.len)
@@ -133,7 +134,7 @@ unfolding count_data accesses_of agents_of
 count_short judged trace reported rest data_races is few more some =
     let accesses : accesses_of trace < 2 ^ 64 = omega (arith, count_by-le-length has_access trace, is.short) in
     let agents : agents_of trace < 2 ^ 64 =
-    omega (arith, count_by-le-length (is_accessing trace) (range_with_len 0 16), length-range_with_len 0 16) in
+    omega (arith, count_by-le-length (is_accessing trace) (range_with_len 0 MAX_AGENTS), length-range_with_len 0 MAX_AGENTS) in
     (accesses, (agents, (some, (tt, (more, (few, tt))))))
 
 lines_read_back : (side_data : Side → Data) (judged : List ℕ) (trace : List Event) (reported : List Race) (rest data_races : ℕ)

@@ -8,6 +8,7 @@ use Rattle.sab_judge.specs.declared.order.Order.TheVariants.{Unordered}
 use Rattle.sab_judge.specs.declared.access.Access.{Access}
 use Rattle.sab_judge.specs.declared.event.Event.{Event}
 use Rattle.sab_judge.specs.declared.race.Race.{Race}
+use Rattle.sab_judge.specs.declared.trace.TheConstants.Trace.{MAX_AGENTS}
 use Rattle.sab_judge.specs.Access.{overlap}
 use Rattle.sab_judge.specs.Event.{event_at, agent_at}
 use Rattle.sab_verdict.specs.declared.byte_range.ByteRange.{ByteRange}
@@ -65,6 +66,6 @@ accesses_of trace = count_by has_access trace
 abbrev pub is_accessing : List Event → ℕ → Bool
 is_accessing trace agent = list_any (λ e. (e.agent == agent) && has_access e) trace
 
--- of how many of the 16 agents one has
+-- of how many of the agents one has
 unfoldable pub agents_of : List Event → ℕ
-agents_of trace = count_by (is_accessing trace) (range_with_len 0 16)
+agents_of trace = count_by (is_accessing trace) (range_with_len 0 MAX_AGENTS)

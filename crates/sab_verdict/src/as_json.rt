@@ -4,6 +4,7 @@ ghost use Rattle.std.specs.Prelude.{◌≡◌, ◌+◌, ◌<◌, ◌≤◌, ◌+
 ghost use Rattle.serde_json.specs.Data.{boolean, string};
 ghost use Rattle.serde_json.specs.Written.{compact_text};
 ghost use Rattle.sab_judge.specs.declared.event.Event.{Event};
+ghost use Rattle.sab_judge.specs.declared.trace.TheConstants.Trace.{MAX_AGENTS};
 ghost use Rattle.sab_json.specs.Members.{member_text, member_text_if};
 ghost use Rattle.sab_json.specs.CallData.{AreNames, natural, call_data};
 ghost use Rattle.sab_json.specs.Lines.{line};
@@ -155,7 +156,7 @@ pub(crate) fn push_count(
     data_races: u64,
     chunk: &mut Chunk,
 )
-    requires agents { All (λ (e : Event). e.agent < 16) events.now }
+    requires agents { All (λ (e : Event). e.agent < MAX_AGENTS) events.now }
     requires room { length chunk.old + Chunk.LINE_ROOM ≤ Chunk.ROOM }
     ensures { chunk.new ≡ chunk.old ++ line (count_data (judged_of sides.now) events.now reported rest data_races) }
 {

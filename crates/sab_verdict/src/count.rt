@@ -2,6 +2,7 @@
 
 ghost use Rattle.std.specs.Prelude.{◌≡◌, ◌<◌, ◌≤◌, All, count_by};
 ghost use Rattle.sab_judge.specs.declared.event.Event.{Event};
+ghost use Rattle.sab_judge.specs.declared.trace.TheConstants.Trace.{MAX_AGENTS};
 ghost use Rattle.sab_verdict.specs.Events.{has_access, accesses_of, agents_of, data_races_in};
 
 use sab_judge::{Event, Race, Trace};
@@ -25,7 +26,7 @@ pub(crate) fn count_data_races(races: &[Race]) -> usize
 /// How many agents have events with an access.
 #[tactic(auto, using(crate::proofs::Counting::counted_agents))]
 pub(crate) fn count_agents(events: &[Event]) -> usize
-    requires { All (λ (e : Event). e.agent < 16) events.now }
+    requires { All (λ (e : Event). e.agent < MAX_AGENTS) events.now }
     ensures { result ≡ agents_of events.now }
 {
     let mut seen = [false; Trace::MAX_AGENTS as usize];

@@ -3,6 +3,7 @@
 ghost use Rattle.std.specs.Prelude.{◌≡◌, ◌+◌, ◌^◌, ◌<◌, ◌≤◌, ◌++◌, length, All, OnOk, flat_map};
 ghost use Rattle.std.specs.Io.KnownBytes.{Appends, append_known};
 ghost use Rattle.sab_judge.specs.declared.event.Event.{Event};
+ghost use Rattle.sab_judge.specs.declared.trace.TheConstants.Trace.{MAX_AGENTS};
 ghost use Rattle.sab_judge.specs.Trace.{IsTrace};
 ghost use Rattle.sab_judge.specs.Verdict.{IsReported};
 ghost use Rattle.sab_json.specs.CallData.{AreNames};
@@ -160,7 +161,7 @@ fn push_last(
     format: VerdictFormat,
     chunk: &mut Chunk,
 )
-    requires agents { All (λ (e : Event). e.agent < 16) events.now }
+    requires agents { All (λ (e : Event). e.agent < MAX_AGENTS) events.now }
     requires room { length chunk.old + Chunk.LINE_ROOM ≤ Chunk.ROOM }
     ensures { chunk.new ≡ chunk.old
         ++ last_line format (whose_of sides.now) (judged_of sides.now) events.now races.now rest data_races }

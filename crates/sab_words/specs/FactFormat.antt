@@ -5,6 +5,7 @@ use Rattle.sab_plan.specs.Entry.{is_stuck}
 use Rattle.sab_plan.specs.Plan.{PlanParts}
 use Rattle.sab_plan.specs.Report.{ReportParts}
 use Rattle.sab_plan.specs.declared.fact.Fact.{Fact}
+use Rattle.sab_plan.specs.declared.plan.TheConstants.Plan.{MAX_AGENTS}
 use Rattle.sab_plan.specs.declared.standing.Standing.{Standing}
 
 -- what a format writes: a start, a text for each entry, by its plan, the position of each agent's last entry with an
@@ -25,7 +26,7 @@ sinces_after sinces k (e ∷ journal) = sinces_after (noted sinces k e) (k + 1) 
 
 -- no agent has had an entry
 abbrev pub no_sinces : List (Option ℕ)
-no_sinces = replicate 16 None
+no_sinces = replicate MAX_AGENTS None
 
 -- the text of each entry of a journal with its fact, of which the first is entry k
 abbrev pub entries_text : Texts → PlanParts → List (Option ℕ) → ℕ → List Entry → List Fact → List ℕ

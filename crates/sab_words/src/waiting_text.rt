@@ -1,6 +1,7 @@
 //! Who waits, and who is woken.
 
-ghost use Rattle.std.specs.Prelude.{◌≡◌, ◌+◌, ◌≤◌, ◌++◌, length};
+ghost use Rattle.std.specs.Prelude.{◌≡◌, ◌+◌, ◌<◌, ◌≤◌, ◌++◌, length};
+ghost use Rattle.sab_plan.specs.declared.plan.TheConstants.Plan.{MAX_AGENTS};
 ghost use Rattle.sab_words.specs.CallText.{element_text};
 ghost use Rattle.sab_words.specs.FactText.{ahead_text, unwoken_text, idle_text, nobody_text, one_woken_text};
 ghost use Rattle.sab_words.specs.FactText.{more_woken_text, woken_text, still_text, some_text, notified_text};
@@ -79,7 +80,7 @@ fn push_some(
     waiting: u32,
     chunk: &mut Chunk,
 )
-    requires few { length others.now ≤ 15 }
+    requires few { length others.now < MAX_AGENTS }
     requires room { length chunk.old + NOTIFIED_LEN ≤ Chunk.ROOM }
     ensures bytes { chunk.new
         ≡ chunk.old ++ some_text (element_text names.now call) sinces.now first others.now waiting }
@@ -134,7 +135,7 @@ fn push_woken(
     others: &[u32],
     chunk: &mut Chunk,
 )
-    requires few { length others.now ≤ 15 }
+    requires few { length others.now < MAX_AGENTS }
     requires room { length chunk.old + WOKEN_LEN ≤ Chunk.ROOM }
     ensures bytes { chunk.new ≡ chunk.old ++ woken_text (element_text names.now call) sinces.now first others.now }
     ensures len { length chunk.new ≤ length chunk.old + WOKEN_LEN }
@@ -168,7 +169,7 @@ fn push_more_woken(
     others: &[u32],
     chunk: &mut Chunk,
 )
-    requires few { length others.now ≤ 15 }
+    requires few { length others.now < MAX_AGENTS }
     requires room { length chunk.old + WOKEN_LEN ≤ Chunk.ROOM }
     ensures bytes { chunk.new ≡ chunk.old ++ more_woken_text (element_text names.now call) sinces.now first others.now }
     ensures len { length chunk.new ≤ length chunk.old + WOKEN_LEN }

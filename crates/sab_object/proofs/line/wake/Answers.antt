@@ -13,7 +13,7 @@ overflow_cast-result c =
     omega (
       arith,
       few,
-      c.requires.sixteen,
+      c.requires.few,
       c.woken_count-many.ensures.most,
       c.waiting_at.ensures.most,
       ap length c.deref.ensures.value,

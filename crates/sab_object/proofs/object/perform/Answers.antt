@@ -29,7 +29,7 @@ pub push_reserved-requires : goal.push_reserved-requires
 push_reserved-requires c =
     let less = agents_room c.args.line.now.items (length c.args.woken.now)
     (record { place = c.in-Ok-Some.place; agent = c.args.agent }) c.requires.agents c.requires.agent c.requires.free in
-    omega (arith, less, c.requires.sixteen, c.requires.room, c.args.line.now.ok)
+    omega (arith, less, c.requires.few, c.requires.room, c.args.line.now.ok)
 
 pub returns-in-Ok-Some-clause-agents : goal.returns-in-Ok-Some-clause-agents
 returns-in-Ok-Some-clause-agents c =
