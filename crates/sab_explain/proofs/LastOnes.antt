@@ -6,7 +6,6 @@ use Rattle.std.proofs.lemmas.Option.{slice_get_within}
 use Rattle.std.proofs.lemmas.List.{get_or-set_same, get_or-set_other}
 use Rattle.sab_plan.specs.declared.entry.Entry.{Entry}
 use Rattle.sab_plan.specs.Entry.{is_stuck}
-use Rattle.sab_plan.specs.Plan.{PlanParts}
 use Rattle.sab_sim.proofs.ChangedLists.{slice_get-push}
 use Rattle.sab_explain.specs.Fact.{HasEffect, IsLast}
 use Rattle.sab_explain.specs.Explainer.{AreLast}
@@ -89,10 +88,10 @@ last_new journal e s = (
   λ k x. let l = slice_get_within (journal ++ e ∷ []) k x.0 x.1 in omega (arith, l, length-append journal (e ∷ [])),
 )
 
-pub AreLast-push : (plan : PlanParts) (journal : List Entry) (e : Entry) (last last' : List (Option ℕ))
+pub AreLast-push : (journal : List Entry) (e : Entry) (last last' : List (Option ℕ))
     → e.agent < length last → last' ≡ (if is_stuck e.what then last else slice_set last e.agent (Some (length journal)))
-    → AreLast plan journal last → AreLast plan (journal ++ e ∷ []) last'
-AreLast-push plan journal e last last' room new h a l = go (is_stuck e.what) refl
+    → AreLast journal last → AreLast (journal ++ e ∷ []) last'
+AreLast-push journal e last last' room new h a l = go (is_stuck e.what) refl
   where
     written : is_stuck e.what ≡ false → last' ≡ slice_set last e.agent (Some (length journal))
     written s = new ∙ (rw s refl)

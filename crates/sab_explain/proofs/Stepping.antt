@@ -6,6 +6,7 @@ use Rattle.std.specs.List.{list_any}
 use Rattle.std.proofs.Math.Seq.{get_or-append_seam}
 use Rattle.sab_plan.specs.declared.entry.Entry.{Entry}
 use Rattle.sab_plan.specs.declared.schedule.Move.{Move}
+use Rattle.sab_plan.specs.declared.plan.TheConstants.Plan.{MAX_AGENTS}
 use Rattle.sab_plan.specs.Schedule.{agent_of}
 use Rattle.sab_plan.specs.Entry.{is_stuck}
 use Rattle.sab_object.specs.Object.{State}
@@ -41,16 +42,17 @@ pub record Concludes (old new : SimParts) (a : ℕ) (e : Entry) (fact : Fact) (k
   pub wakers_are : (wakers' : List ℕ) → IsNoted (woken_in fact.found) k wakers wakers'
       → AreWakers new.plan new.journal wakers'
   pub last_are : (last' : List (Option ℕ)) → last' ≡ (if is_stuck e.what then last else slice_set last a (Some k))
-      → AreLast new.plan new.journal last'
+      → AreLast new.journal last'
 
 -- of the agent that the move names
 concludes_at : (old new : SimParts) (m : Move) (e : Entry) (b : Before) (wakers : List ℕ) (last : List (Option ℕ))
     → Stepped old new m e → IsBefore old (agent_of m) b → agent_of m < length old.plan.scripts
-    → length old.plan.scripts ≤ length last → AreWakers old.plan old.journal wakers → AreLast old.plan old.journal last
+    → length old.plan.scripts ≤ MAX_AGENTS → length last ≡ MAX_AGENTS
+    → AreWakers old.plan old.journal wakers → AreLast old.journal last
     → Concludes old new (agent_of m) e (fact_of b (slice_index_or last (agent_of m) None)
     (concluded e.what b.sight (then_some b.woken (slice_index_or wakers (agent_of m) 0)) b.failing new.blocks))
     (length old.journal) wakers last
-concludes_at old new m e b wakers last s i l room w p = record {
+concludes_at old new m e b wakers last s i l few size w p = record {
   fact_is =
       record {
         call = tied.call;
@@ -71,8 +73,8 @@ concludes_at old new m e b wakers last s i l room w p = record {
       λ wakers' n. rw (s.plan_is, s.journal_is) (AreWakers-push old.plan old.journal e k.0 k.1 wakers wakers' k.2.before
       k.2.after (noted_of k.0 k.1 (length old.journal) (woken_in fact.found) wakers wakers' after unnotified n) w);
   last_are =
-      λ last' n. rw (s.plan_is, s.journal_is) (AreLast-push old.plan old.journal e last last' (let below : e.agent <
-      length old.plan.scripts = rw k.2.agent l in omega (arith, below, room)) (n ∙ ap
+      λ last' n. rw s.journal_is (AreLast-push old.journal e last last' (let below : e.agent <
+      length old.plan.scripts = rw k.2.agent l in omega (arith, below, few, size)) (n ∙ ap
       (λ (a : ℕ). if is_stuck e.what then last else slice_set last a (Some (length old.journal))) (sym k.2.agent))
       p);
 }
@@ -92,7 +94,7 @@ concludes_at old new m e b wakers last s i l room w p = record {
     tied = record { call = i.call_is ∙ sym (its_call old new m e k.0 k.1 k.2); place = i.place_is }
 
     since : IsLast old.journal e.agent fact.since
-    since = rw k.2.agent (p (agent_of m) l)
+    since = rw k.2.agent (p (agent_of m) (omega (arith, l, few)))
 
     finds : Finds old.plan old.journal k.0 e k.1 fact e.what
     finds =
@@ -116,13 +118,13 @@ pub concludes : (old new : SimParts) (m : Move) (a : ℕ) (xs ys : List Entry) (
     → AtEnd old.plan old.journal (IsOfWaits old.plan old.journal)
     → new.plan ≡ old.plan → new.moves ≡ old.moves ++ m ∷ [] → ((e : Entry) × (new.journal ≡ old.journal ++ e ∷ []))
     → ys ≡ old.journal → xs ≡ new.journal → a ≡ agent_of m → a < length old.plan.scripts
-    → length old.plan.scripts ≤ length last
-    → IsBefore old a b → AreWakers old.plan old.journal wakers → AreLast old.plan old.journal last
+    → length old.plan.scripts ≤ MAX_AGENTS → length last ≡ MAX_AGENTS
+    → IsBefore old a b → AreWakers old.plan old.journal wakers → AreLast old.journal last
     → fact ≡ fact_of b (slice_index_or last a None) (concluded (get_or xs (length ys) d).what b.sight
     (then_some b.woken (slice_index_or wakers a 0)) b.failing new.blocks)
     → Concludes old new a (get_or xs (length ys) d) fact (length ys) wakers last
 concludes old new m a xs ys d b wakers last fact fits_old fits_new line plan_is moves_is journal_is ys_are xs_are a_is l
-    room i w p f =
+    few size i w p f =
     let e = get_or xs (length ys) d in
     let last_is : e ≡ journal_is.0 = last_entry old.journal xs ys journal_is.0 d ys_are (xs_are ∙ journal_is.1) in
     let s : Stepped old new m e = record {
@@ -144,4 +146,4 @@ concludes old new m a xs ys d b wakers last fact fits_old fits_new line plan_is 
     (subst (λ (es : List Entry). Concludes old new (agent_of m) e (fact_of b (slice_index_or last (agent_of m) None)
     (concluded e.what b.sight (then_some b.woken (slice_index_or wakers (agent_of m) 0)) b.failing new.blocks))
     (length es) wakers last) (sym ys_are)
-    (concludes_at old new m e b wakers last s i' l' room w p)))
+    (concludes_at old new m e b wakers last s i' l' few size w p)))

@@ -14,6 +14,7 @@ use Rattle.sab_plan.specs.declared.plan_view.PlanView.{PlanView}
 use Rattle.sab_plan.specs.declared.call.Call.{Call}
 use Rattle.sab_plan.specs.declared.call.Call.TheVariants as C
 use Rattle.sab_plan.specs.declared.entry.Entry.{Entry}
+use Rattle.sab_plan.specs.declared.plan.TheConstants.Plan.{MAX_AGENTS}
 use Rattle.sab_plan.specs.Call.{view_of, index_of}
 use Rattle.sab_plan.specs.Place.{place_of}
 use Rattle.sab_plan.specs.Script.{ScriptParts}
@@ -94,9 +95,9 @@ AreWakers plan journal wakers =
     AtEnd plan journal (λ S. (a : ℕ) → a < length plan.scripts → S.notified a ≡ true
     → IsWaker plan journal a (slice_index_or wakers a 0))
 
--- for each agent, its last entry that had an effect
-abbrev pub AreLast : PlanParts → List Entry → List (Option ℕ) → Type 0
-AreLast plan journal last = (a : ℕ) → a < length plan.scripts → IsLast journal a (slice_index_or last a None)
+-- for each agent that a plan can have, its last entry that had an effect
+abbrev pub AreLast : List Entry → List (Option ℕ) → Type 0
+AreLast journal last = (a : ℕ) → a < MAX_AGENTS → IsLast journal a (slice_index_or last a None)
 
 -- the entry was noted at these agents, and the rest is as before
 pub record IsNoted (agents : List ℕ) (entry : ℕ) (old new : List ℕ) : Type 0 where

@@ -3,12 +3,14 @@
 ghost use Rattle.std.specs.Prelude.{◌≡◌, ◌+◌, ◌-◌, ◌^◌, ◌<◌, ◌≤◌, ◌++◌, ◌∷◌, [], length, min, Err, OnErr, OnOk, IfOk};
 ghost use Rattle.std.specs.Prelude.{IfSome, IfNone, IsOk, IsOkUnless, None};
 ghost use Rattle.sab_sim.specs.declared.sim_fault.SimFault.TheVariants.{NoAgent, Full, OutOfMemory};
+ghost use Rattle.sab_plan.specs.declared.plan.TheConstants.Plan.{MAX_AGENTS};
 ghost use Rattle.sab_plan.specs.Schedule.{agent_of};
 ghost use Rattle.sab_object.specs.Object.{zero_blocks};
 ghost use Rattle.sab_plan.specs.Plan.{call_of};
 ghost use Rattle.sab_plan.specs.Journal.{returned_of};
 ghost use Rattle.sab_sim.specs.Shown.{AtEnd};
 ghost use Rattle.sab_sim.specs.Fits.{Fits, IsOnly};
+ghost use Rattle.sab_explain.specs.Explainer.{AreLast};
 ghost use Rattle.sab_explain.specs.Fact.{IsFact, IsOnlyFact, NamesWaker};
 ghost use Rattle.sab_explain.specs.Standing as standings;
 ghost use Rattle.sab_explain.specs.Standing.{IsAt, IsStanding, IsOnlyStanding, what_at};
@@ -27,9 +29,9 @@ use std::marker::Model;
 pub struct Explainer {
     sim: Sim,
     // Of each agent, the entry that woke it last.
-    wakers: [u32; 16],
+    wakers: [u32; Plan::MAX_AGENTS],
     // Of each agent, its last entry that had an effect.
-    last: [Option<u32>; 16],
+    last: [Option<u32>; Plan::MAX_AGENTS],
 }
 
 impl Model for Explainer {
@@ -40,7 +42,7 @@ impl Model for Explainer {
 
     ghost view = { λ x. x.sim };
 
-    ghost invariant = { λ x. AreWakers x.sim.plan x.sim.journal x.wakers × AreLast x.sim.plan x.sim.journal x.last };
+    ghost invariant = { λ x. AreWakers x.sim.plan x.sim.journal x.wakers × AreLast x.sim.journal x.last };
 }
 
 impl Explainer {
@@ -55,8 +57,8 @@ impl Explainer {
     {
         Ok(Explainer {
             sim: Sim::new(alloc, plan)?,
-            wakers: [0; 16],
-            last: [None; 16],
+            wakers: [0; Plan::MAX_AGENTS],
+            last: [None; Plan::MAX_AGENTS],
         })
     }
 
@@ -140,6 +142,13 @@ impl Explainer {
         &self.sim
     }
 
+    /// For each agent, the position of its last entry so far that had an effect; none, where it has no such entry.
+    pub fn last_positions(&self) -> [Option<u32>; Plan::MAX_AGENTS]
+        ensures { AreLast self.now.journal result }
+    {
+        self.last
+    }
+
     /// Where an agent stands, some of whose calls haven't returned; none, where all have, or there is no such agent.
     pub fn standing(&self, agent: u32) -> Option<Standing>
         ensures none { IfNone result (call_of self.now.plan agent (returned_of self.now.journal agent) ≡ None) }
@@ -165,7 +174,7 @@ impl Explainer {
     /// How far an agent is with the call of this place; where it neither waits nor was woken, as far as it last came.
     fn at(&self, agent: u32, place: Option<Place>, since: Option<u32>, last: At) -> At
         requires named { agent < length self.now.plan.scripts }
-        requires few { agent < 16 }
+        requires few { agent < MAX_AGENTS }
         requires last { last ≡ standings.by_last (what_at self.now.journal since) }
         ensures { AtEnd self.now.plan self.now.journal
             (λ S. IsAt self.now.plan self.now.journal S agent place since result) }

@@ -19,14 +19,6 @@ use Rattle.sab_words.proofs.ChunkTexts.{appends_none, from_empty}
 use Rattle.sab_words.specs.FactFormat.{Texts, noted, sinces_after, no_sinces, entries_text, facts_text}
 use Rattle.sab_report.specs.Facts.{IsTheFact, AreFacts, ReportsEntries, IsStandingOf, AreStandings, ReportsFacts}
 
-pub sinces_after-push : (sinces : List (Option ℕ)) (k : ℕ) (journal : List Entry) (e : Entry)
-    → sinces_after sinces k (journal ++ e ∷ []) ≡ noted (sinces_after sinces k journal) (k + length journal) e
-sinces_after-push sinces k [] e = let z : k + 0 ≡ k = omega arith in rw z refl
-sinces_after-push sinces k (f ∷ journal) e =
-    let z : k + 1 + length journal ≡ k + length (f ∷ journal) = omega arith in
-    sinces_after-push (noted sinces k f) (k + 1) journal e
-    ∙ ap (λ (n : ℕ). noted (sinces_after (noted sinces k f) (k + 1) journal) n e) z
-
 pub AreFacts-none : (plan : PlanParts) → AreFacts plan [] []
 AreFacts-none plan = record { count = refl; each = λ k e fact e_is f_is. absurd (cc) }
 

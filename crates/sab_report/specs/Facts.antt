@@ -14,8 +14,7 @@ use Rattle.sab_explain.specs.Fact.{IsFact, IsOnlyFact, IsLast}
 use Rattle.sab_explain.specs.Standing.{IsStanding, IsOnlyStanding}
 use Rattle.sab_words.specs.FactFormat.{Texts, no_sinces, sinces_after, entries_text, facts_text}
 
--- after any journal, what a format has noted of each agent is its last entry with an effect: its own, or a notify that
--- woke it
+-- after any journal, what a format is given for each agent is the position of the agent's own last entry with an effect
 abbrev pub NotesLast : Type 0
 NotesLast = (journal : List Entry) (a : ℕ) → a < MAX_AGENTS
     → IsLast journal a (slice_index_or (sinces_after no_sinces 0 journal) a None)

@@ -7,7 +7,6 @@ ghost use Rattle.sab_report.specs.Facts.{ReportsEntries, ReportsFacts};
 ghost use Rattle.sab_report.specs.Driver.{AreMovesOf, IsFreshFor};
 ghost use Rattle.sab_report.specs.RunReport.{IsReportingFault};
 
-use crate::noting::note;
 use crate::standings::standings_of;
 use sab_explain::Explainer;
 use sab_faults::ToolFault;
@@ -92,14 +91,13 @@ fn write_entries<F: FactFormat, W: Write>(
     ensures reported { OnOk result (ReportsEntries (F.texts format.old) explainer.old.plan explainer.new.journal
         (append_known (W.contents w.old) chunk.old) (append_known (W.contents w.new) chunk.new)) }
 {
-    let mut sinces = [None; Plan::MAX_AGENTS];
     for (k, m) in schedule.iter().enumerate() {
+        let sinces = explainer.last_positions();
         let Ok(reported) = explainer.step(*m) else {
             unreachable!();
         };
         let plan = explainer.sim().plan();
         format.write_entry(plan, &sinces, k as u32, &reported, chunk, w)?;
-        note(&mut sinces, k as u32, reported.entry);
     }
     Ok(())
 }

@@ -14,8 +14,8 @@ pub fn calls_are_reported_as_spelled()
         → IsReportedAsSpelled names call }
 {}
 
-/// What a format has noted of an agent, after any journal, is the agent's last entry with an effect: its own, or a
-/// notify that woke it. Each format says by it since when the agent has been as it is.
+/// What a format is given for an agent, after any journal, is the position of the agent's own last entry that had an
+/// effect. Each format says by it since when the agent has been as it is.
 pub fn the_last_entry_of_an_agent_is_noted()
     ensures { NotesLast }
 {}

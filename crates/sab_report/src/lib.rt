@@ -7,7 +7,6 @@ mod judging;
 mod laws;
 mod moves;
 mod names;
-mod noting;
 mod ordinary;
 mod racing;
 mod replaying;

@@ -1,6 +1,5 @@
 use Rattle.std.proofs.Common.{◌≡◌, ◌≤◌, ◌+◌, length, take}
 use Rattle.std.specs.Io.KnownBytes.{append_known}
-use Rattle.sab_words.specs.FactFormat.{no_sinces, sinces_after}
 use Rattle.sab_report.specs.Facts.{ReportsEntries}
 use Rattle.sab_report.proofs.driver.write_entries.Given as goal
 
@@ -9,7 +8,6 @@ invariant-loop-k g l = record {
   plan : l.explainer.plan ≡ l.fn.explainer.plan;
   moves : l.explainer.moves ≡ take l.k l.schedule;
   count : length l.explainer.journal ≡ l.k;
-  sinces : l.sinces ≡ sinces_after no_sinces 0 l.explainer.journal;
   reserved : length l.schedule ≤ l.explainer.reserved + l.k;
   same : g.F.FactFormat.texts l.format ≡ g.F.FactFormat.texts l.fn.format;
   reported : ReportsEntries (g.F.FactFormat.texts l.fn.format) l.fn.explainer.plan l.explainer.journal

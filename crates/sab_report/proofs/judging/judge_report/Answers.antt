@@ -1,6 +1,7 @@
 -- The verdict is that on the events of the report's journal.
 use Rattle.std.proofs.Common.{◌≡◌, ap, ◌∙◌, sym, subst, All, ◌<◌, List}
 use Rattle.sab_plan.specs.declared.entry.Entry.{Entry}
+use Rattle.sab_plan.specs.declared.plan.TheConstants.Plan.{MAX_AGENTS}
 use Rattle.sab_plan.specs.Report.{ReportParts}
 use Rattle.sab_events.proofs.Fitting.{agents_in_report}
 use Rattle.sab_report.proofs.Verdicts.{verdict_reported}
@@ -10,7 +11,7 @@ pub trace_of-requires-clause-agents : goal.trace_of-requires-clause-agents
 trace_of-requires-clause-agents g c =
     let journal : c.as_slice-journal.result.now ≡ c.args.report.now.journal =
     c.as_slice-journal.ensures.value ∙ ap (λ (r : ReportParts). r.journal) c.report.view_is in
-    subst (λ (j : List Entry). All (λ (e : Entry). e.agent < 16) j) (sym journal)
+    subst (λ (j : List Entry). All (λ (e : Entry). e.agent < MAX_AGENTS) j) (sym journal)
     (agents_in_report c.args.plan.now c.args.report.now c.requires.plan c.requires.fits)
 
 pub returns-in-Ok-clause-ok : goal.returns-in-Ok-clause-ok

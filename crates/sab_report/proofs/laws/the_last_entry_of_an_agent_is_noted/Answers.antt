@@ -1,4 +1,4 @@
--- Each entry is noted of the agents that it has an effect on.
+-- Each entry that has an effect is noted of its own agent.
 use Rattle.sab_report.proofs.LastNoted.{notes_last}
 use Rattle.sab_report.proofs.laws.the_last_entry_of_an_agent_is_noted.Goals as goal
 

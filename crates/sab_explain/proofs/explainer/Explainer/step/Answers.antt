@@ -3,6 +3,7 @@ use Rattle.std.proofs.Common.{rules, ◌≡◌, ◌∙◌, ◌<◌, ◌≤◌, �
 use Rattle.std.specs.Prelude.{slice_index_or}
 use Rattle.sab_plan.specs.declared.entry.Entry.{Entry}
 use Rattle.sab_plan.specs.declared.entry.What.TheVariants.{Began}
+use Rattle.sab_plan.specs.declared.plan.TheConstants.Plan.{MAX_AGENTS}
 use Rattle.sab_plan.specs.Plan.{PlanParts}
 use Rattle.sab_sim.specs.Sim.{SimParts}
 use Rattle.sab_plan.specs.declared.fact.Fact.{Fact}
@@ -23,22 +24,23 @@ first_reported_fact c =
     fact_of c.before_move-before.result (slice_index_or c.self.inside.last c.agent-agent.result None)
     c.conclude-found.result
 
-few_first : (c : goal.After-woken) → length c.self.inside.sim.plan.scripts ≤ 16
-few_first c = subst (λ (p : PlanParts). length p.scripts ≤ 16) c.plan.ensures c.scripts.ensures.valid.limits.agents
+few_first : (c : goal.After-woken) → length c.self.inside.sim.plan.scripts ≤ MAX_AGENTS
+few_first c =
+    subst (λ (p : PlanParts). length p.scripts ≤ MAX_AGENTS) c.plan.ensures c.scripts.ensures.valid.limits.agents
 
 all_first : (c : goal.After-woken)
     → Concludes c.self.inside.sim c.step.new.self c.agent-agent.result (entry_first c) (first_reported_fact c)
     (length c.journal-position.result.now) c.self.inside.wakers c.self.inside.last
 all_first c =
     let within : c.agent-agent.result < length c.self.inside.sim.plan.scripts = search rules in
-    let size : length c.self.inside.last ≡ 16 = search rules in
+    let size : length c.self.inside.last ≡ MAX_AGENTS = search rules in
     let most = few_first c in
     concludes c.self.inside.sim c.step.new.self c.args.m c.agent-agent.result c.journal.result.now
     c.journal-position.result.now (record { agent = 0; call = 0; what = Began }) c.before_move-before.result
     c.self.inside.wakers c.self.inside.last (first_reported_fact c)
     c.journal-position.ensures.fits c.journal.ensures.fits c.journal-position.ensures.line c.step.ensures.plan
     c.in_ok-step.ensures.moves c.in_ok-step.ensures.journal c.journal-position.ensures.journal
-    c.journal.ensures.journal c.agent-agent.ensures within (omega (arith, size, most))
+    c.journal.ensures.journal c.agent-agent.ensures within most size
     c.before_move-before.ensures c.self.invariant.0 c.self.invariant.1
     (ap (fact_of c.before_move-before.result (slice_index_or c.self.inside.last c.agent-agent.result None))
     (c.conclude-found.ensures ∙ ap (λ (w : Option ℕ). concluded (entry_first c).what c.before_move-before.result.sight w
@@ -60,22 +62,23 @@ reported_fact c =
     fact_of c.before_move-before.result (slice_index_or c.self.inside.last c.agent-agent.result None)
     c.conclude-found.result
 
-few : (c : goal.After-note_last) → length c.self.inside.sim.plan.scripts ≤ 16
-few c = subst (λ (p : PlanParts). length p.scripts ≤ 16) c.plan.ensures c.scripts.ensures.valid.limits.agents
+few : (c : goal.After-note_last) → length c.self.inside.sim.plan.scripts ≤ MAX_AGENTS
+few c =
+    subst (λ (p : PlanParts). length p.scripts ≤ MAX_AGENTS) c.plan.ensures c.scripts.ensures.valid.limits.agents
 
 all : (c : goal.After-note_last)
     → Concludes c.self.inside.sim c.step.new.self c.agent-agent.result (entry c) (reported_fact c)
     (length c.journal-position.result.now) c.self.inside.wakers c.self.inside.last
 all c =
     let within : c.agent-agent.result < length c.self.inside.sim.plan.scripts = search rules in
-    let size : length c.self.inside.last ≡ 16 = search rules in
+    let size : length c.self.inside.last ≡ MAX_AGENTS = search rules in
     let most = few c in
     concludes c.self.inside.sim c.step.new.self c.args.m c.agent-agent.result c.journal.result.now
     c.journal-position.result.now (record { agent = 0; call = 0; what = Began }) c.before_move-before.result
     c.self.inside.wakers c.self.inside.last (reported_fact c)
     c.journal-position.ensures.fits c.journal.ensures.fits c.journal-position.ensures.line c.step.ensures.plan
     c.in_ok-step.ensures.moves c.in_ok-step.ensures.journal c.journal-position.ensures.journal
-    c.journal.ensures.journal c.agent-agent.ensures within (omega (arith, size, most))
+    c.journal.ensures.journal c.agent-agent.ensures within most size
     c.before_move-before.ensures c.self.invariant.0 c.self.invariant.1
     (ap (fact_of c.before_move-before.result (slice_index_or c.self.inside.last c.agent-agent.result None))
     (c.conclude-found.ensures ∙ ap (λ (w : Option ℕ). concluded (entry c).what c.before_move-before.result.sight w
