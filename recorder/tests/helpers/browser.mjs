@@ -11,6 +11,8 @@ import { hasSabsim, needing, withSabsim } from "./needs.mjs";
 const NAMES = ["chromium", "chromium-browser", "google-chrome", "google-chrome-stable"];
 /** What takes longer hangs. */
 export const MOST_MILLISECONDS = 300_000;
+/** How often the folder of one that has ended is tried again, each tenth of a second, while it can't be removed. */
+const MOST_REMOVALS = 100;
 
 /** The browser of this machine, or undefined. */
 export const BROWSER = NAMES.find((name) => spawnSync(name, ["--version"]).status === 0);
@@ -79,8 +81,24 @@ export class StartedBrowser {
     this.child.kill();
     await this.ended;
     clearTimeout(timer);
-    // Processes that it began may still write there for a moment.
-    rmSync(this.room, { recursive: true, force: true, maxRetries: 10, retryDelay: 100 });
+    await removeFolder(this.room);
+  }
+}
+
+/**
+ * Removes a browser's folder. Processes that it began may still write there for a moment. What they write after a
+ * folder was listed isn't removed with it, however often `rmSync` tries again: so the whole folder is tried again.
+ * @param {string} folder
+ */
+async function removeFolder(folder) {
+  for (let left = MOST_REMOVALS; ; left -= 1) {
+    try {
+      rmSync(folder, { recursive: true, force: true });
+      return;
+    } catch (error) {
+      if (left === 0) throw error;
+      await sleep(100);
+    }
   }
 }
 
