@@ -7,7 +7,11 @@ import { after, before, describe, it } from "node:test";
 import { TableRuns, findingOf } from "../helpers/program-findings.mjs";
 import { PROGRAMS, urlOf } from "../programs/table.mjs";
 
-const SEEDS = 200;
+/** Under so many seeds a right program passes. `SEEDS=1000 npm test -- known` tries more. */
+const SEEDS = Number(process.env.SEEDS ?? 100);
+
+/** Under one of so many seeds a wrong program fails. */
+const WRONG_SEEDS = 200;
 
 /** Of a rare program at most one run in so many fails, if each thread that can go on is as likely. */
 const RARE = 50;
@@ -51,7 +55,7 @@ function testEach(all, how = {}) {
 
   for (const program of those(({ right, notYet }) => !right && notYet === undefined)) {
     it(`${program.name} is found`, async () => {
-      const outcomes = await runs.untilFailing(program, SEEDS);
+      const outcomes = await runs.untilFailing(program, WRONG_SEEDS);
       assert.ok(outcomes.some(({ fails }) => fails), "no run has failed");
       demandKnown(program, outcomes);
     });
@@ -79,9 +83,9 @@ function testRare() {
 
   for (const program of PROGRAMS.filter(({ isRare, notYet }) => isRare && notYet === undefined)) {
     it(`${program.name} fails in at most one run in ${RARE}`, async () => {
-      const outcomes = await runs.runs(program, { last: SEEDS });
+      const outcomes = await runs.runs(program, { last: WRONG_SEEDS });
       const failed = outcomes.filter(({ fails }) => fails);
-      assert.ok(failed.length <= SEEDS / RARE, `${failed.length} of ${SEEDS} runs have failed`);
+      assert.ok(failed.length <= WRONG_SEEDS / RARE, `${failed.length} of ${WRONG_SEEDS} runs have failed`);
       demandKnown(program, outcomes);
     });
   }

@@ -1,7 +1,7 @@
-// Programs with known answers: how the runs of 500 seeds of each end is what its module says in `known`, which was
-// reasoned out by the standard. `endings` are those that occur, `may` those that need not, and `races` the pairs of
-// lines of code that race: for each side a text that its line has. Nothing else is found, and nothing is missed. Other
-// judges look at some of the runs, too.
+// Programs with known answers: how the runs of 250 seeds of each end is what its module says in `known`, which was
+// reasoned out by the standard. `SEEDS=1000 npm test -- known` tries more. `endings` are those that occur, `may` those
+// that need not, and `races` the pairs of lines of code that race: for each side a text that its line has. Nothing else
+// is found, and nothing is missed. Other judges look at some of the runs, too.
 
 import assert from "node:assert/strict";
 import { readFileSync, readdirSync } from "node:fs";
@@ -16,7 +16,7 @@ import { hasSabsim, withSabsim } from "../helpers/needs.mjs";
 
 const FOLDER = new URL("../known/", import.meta.url);
 const NAMES = readdirSync(FOLDER).filter((name) => name.endsWith(".mjs"));
-const SEEDS = 500;
+const SEEDS = Number(process.env.SEEDS ?? 250);
 
 const CHECKED = 25;
 
