@@ -35,6 +35,8 @@ class Proving:
                 if status == -signal.SIGKILL:
                     print("the check was killed, most likely for memory: once more, with one job", file=self.crate.out)
                     status = self.prove(folder, 1)
+                if status < 0:
+                    print(f"the check was ended by signal {-status}", file=self.crate.out)
             except SystemExit:
                 status = 1
             self.crate.out.seek(0)
