@@ -54,6 +54,7 @@ const COMMANDS = [
   ["npm test", { notRun: "tests/recorder runs the same tests" }],
   ["npm test -- nearest strategy", { status: 0 }],
   ["npm test -- --unit", { notRun: "npm test runs these tests, and refuses them threads and processes" }],
+  ["SEEDS=1000 npm test -- known", { notRun: "npm test runs the same with fewer seeds, and this takes minutes" }],
   ["SABSIM=crates/sabsim/out/sabsim npm test", { notRun: "tests/recorder does the same" }],
   ["npm run published", { notRun: "most of the programs have to be fetched first" }],
   ["node recorder/record.mjs recorder/examples/mutex-naive.agents.mjs --seeds 1..200", { status: 1 }],
@@ -84,7 +85,7 @@ const COMMANDS = [
 ];
 
 /** How a command begins that is in backticks. */
-const COMMAND = /^(?:\.\/(?:build|check)\b|SABSIM=|(?:cd|npm|npx|node|rt|(?:tools|tests)\/\w+|crates\/\S+\/sabsim) )/;
+const COMMAND = /^(?:\.\/(?:build|check)\b|[A-Z]+=|(?:cd|npm|npx|node|rt|(?:tools|tests)\/\w+|crates\/\S+\/sabsim) )/;
 
 /** The commands in a document's blocks, each with the lines that are shown below it. @param {string} path */
 function blocksOf(path) {
