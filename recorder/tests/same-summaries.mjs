@@ -4,9 +4,9 @@
 // usage: node recorder/tests/same-summaries.mjs "NODE" "OTHER NODE" [--seeds A..B] [--beside N] [WORD..]
 //
 // Each NODE is a command with its words, as "unshare .. node". With WORDs only those modules and programs are compared
-// whose names have one of them. N pairs of summaries are made at a time, by default 2. If runs end by a limit of
-// seconds, since an agent makes no call or `init` or `check` goes on, only three seeds are compared. The last line is
-// `N passed, M failed`, and the status is 0 only if none failed. It is 2 if the command line can't be used.
+// whose names have one of them. N pairs of summaries are made at a time, by default 2. If the first runs end by the
+// limit of seconds, only three seeds are compared, and the line says so. The last line is `N passed, M failed`, and the
+// status is 0 only if none failed. It is 2 if the command line can't be used.
 
 import { execFile } from "node:child_process";
 import { readFileSync, readdirSync } from "node:fs";
