@@ -16,4 +16,6 @@ export default function agent({ buffers, agent }) {
   }
 }
 
-export const known = { endings: ["finished", "race", "limit"], races: [["flag\\[0\\] = 1", "while \\(flag"]] };
+export const known = {
+  endings: ["finished", "race", "limit"], within: 250, races: [["flag\\[0\\] = 1", "while \\(flag"]],
+};

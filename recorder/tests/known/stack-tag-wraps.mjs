@@ -30,4 +30,4 @@ export function check(buffers) {
   if (new Uint8Array(buffers[1])[node] === IS_MINE) throw new Error(`node ${node} is on the stack, and an agent's`);
 }
 
-export const known = { endings: ["finished", "check"] };
+export const known = { endings: ["finished", "check"], within: 250 };

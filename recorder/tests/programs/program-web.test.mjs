@@ -17,6 +17,7 @@ import { programGroup } from "../helpers/groups.mjs";
 import { CHECKER } from "../helpers/needs.mjs";
 import { TableRuns } from "../helpers/program-findings.mjs";
 import { seedsTo } from "../helpers/recorded.mjs";
+import { seedsTried } from "../helpers/seeds-tried.mjs";
 import { linesInBrowser } from "../helpers/web-page.mjs";
 import { programIn, programOf, runsOf } from "../helpers/whole-programs.mjs";
 import { runsInRecorder } from "../programs/order.mjs";
@@ -25,7 +26,7 @@ import { PROGRAMS } from "../programs/table.mjs";
 const FOLDER = new URL("../programs/web/order/", import.meta.url);
 const NAMES = readdirSync(FOLDER).filter((name) => name.endsWith(".mjs")).sort();
 const SEEDS = 3;
-const MANY_SEEDS = 2_000;
+const MANY_SEEDS = seedsTried(200);
 
 /** @param {string} name of a program @returns {string[]} the lines that Chromium has printed */
 const linesOf = (name) => readFileSync(new URL(name.replace(/mjs$/, "lines"), FOLDER), "utf8").split("\n").slice(0, -1);

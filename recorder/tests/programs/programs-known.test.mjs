@@ -5,16 +5,20 @@
 import assert from "node:assert/strict";
 import { after, before, describe, it } from "node:test";
 import { TableRuns, findingOf } from "../helpers/program-findings.mjs";
+import { seedsTried } from "../helpers/seeds-tried.mjs";
 import { PROGRAMS, urlOf } from "../programs/table.mjs";
 
 /** Under so many seeds a right program passes. `SEEDS=1000 npm test -- known` tries more. */
-const SEEDS = Number(process.env.SEEDS ?? 100);
+const SEEDS = seedsTried(25);
 
 /** Under one of so many seeds a wrong program fails. */
 const WRONG_SEEDS = 200;
 
 /** Of a rare program at most one run in so many fails, if each thread that can go on is as likely. */
 const RARE = 50;
+
+/** Under so many seeds that is tried. */
+const RARE_SEEDS = seedsTried(2 * RARE);
 
 /** @typedef {import("../programs/table.mjs").Program} Program */
 /** @typedef {import("../../lib/run/outcome.mjs").Outcome} Outcome */
@@ -83,9 +87,9 @@ function testRare() {
 
   for (const program of PROGRAMS.filter(({ isRare, notYet }) => isRare && notYet === undefined)) {
     it(`${program.name} fails in at most one run in ${RARE}`, async () => {
-      const outcomes = await runs.runs(program, { last: WRONG_SEEDS });
+      const outcomes = await runs.runs(program, { last: RARE_SEEDS });
       const failed = outcomes.filter(({ fails }) => fails);
-      assert.ok(failed.length <= WRONG_SEEDS / RARE, `${failed.length} of ${WRONG_SEEDS} runs have failed`);
+      assert.ok(failed.length <= RARE_SEEDS / RARE, `${failed.length} of ${RARE_SEEDS} runs have failed`);
       demandKnown(program, outcomes);
     });
   }

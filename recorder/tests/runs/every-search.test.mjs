@@ -12,12 +12,16 @@ import { resultIn, statusOf } from "../../lib/every/search/lines.mjs";
 import { searched } from "../../lib/every/search/searched-file.mjs";
 import { fileIn, temporaryFolder } from "../helpers/common.mjs";
 import { needing } from "../helpers/needs.mjs";
+import { seedsTried } from "../helpers/seeds-tried.mjs";
 
 /** The model is in Python. */
 const withPython = needing("python3", spawnSync("python3", ["--version"]).status === 0);
 
 const SEARCH = fileURLToPath(new URL("../../../tests/search/", import.meta.url));
 const EXAMPLES = join(SEARCH, "examples");
+
+/** So many files are drawn. tests/search compares more of them with the native program. */
+const DRAWN = seedsTried(80);
 
 /** @param {object} data a file of automata @param {any} wanted the model's result */
 function compare(data, wanted) {
@@ -55,11 +59,11 @@ print(json.dumps(found))
 test("files that were drawn", withPython, (context) => {
   const script = fileIn(temporaryFolder(context), "draws.py", DRAWS);
   const options = /** @type {const} */ ({ encoding: "utf8", maxBuffer: 2 ** 28 });
-  const { stdout, error, status, stderr } = spawnSync("python3", [script, SEARCH, "1", "200"], options);
+  const { stdout, error, status, stderr } = spawnSync("python3", [script, SEARCH, "1", String(DRAWN + 1)], options);
   assert.equal(error, undefined);
   assert.equal(status, 0, stderr);
   const drawn = JSON.parse(stdout);
-  assert.equal(drawn.length, 3 * 199);
+  assert.equal(drawn.length, 3 * DRAWN);
   for (const [data, wanted, lines] of drawn) {
     compare(data, wanted);
     const { status, ...result } = wanted;

@@ -9,13 +9,14 @@ import { describe, it, test } from "node:test";
 import { detected, detectedPairs } from "../helpers/detected.mjs";
 import { pathOf } from "../helpers/programs.mjs";
 import { seedsTo } from "../helpers/recorded.mjs";
+import { seedsTried } from "../helpers/seeds-tried.mjs";
 import { eventsOfTrace, slowJudge } from "../helpers/slow-judge.mjs";
 import { jsonText, plainText, statusOf } from "../helpers/verdict-texts.mjs";
 import { simulated } from "../helpers/simulate.mjs";
 
 const ROWS = new URL("../judge-rows/", import.meta.url);
 const LEAST_ROWS = 20;
-const RANDOM = 5_000;
+const RANDOM = seedsTried(2_000);
 
 // Each process has the judges' code compiled anew, and that takes longer than to judge some thousand short traces.
 const PROCESSES = 1;

@@ -1,7 +1,8 @@
-// Programs with known answers: how the runs of 250 seeds of each end is what its module says in `known`, which was
+// Programs with known answers: how the runs of 100 seeds of each end is what its module says in `known`, which was
 // reasoned out by the standard. `SEEDS=1000 npm test -- known` tries more. `endings` are those that occur, `may` those
-// that need not, and `races` the pairs of lines of code that race: for each side a text that its line has. Nothing else
-// is found, and nothing is missed. Other judges look at some of the runs, too.
+// that need not, and `races` the pairs of lines of code that race: for each side a text that its line has. `within` is
+// how many seeds are tried if an ending is rare. Nothing else is found, and nothing is missed. Other judges look at some
+// of the runs, too.
 
 import assert from "node:assert/strict";
 import { readFileSync, readdirSync } from "node:fs";
@@ -10,15 +11,18 @@ import { keptScript } from "../../lib/shorter/kept-script.mjs";
 import { AskedProcesses } from "../helpers/asked-processes.mjs";
 import { demandOfModule, demandOfNative, demandOfSlowJudge } from "../helpers/known-judged.mjs";
 import { hasSabsim, withSabsim } from "../helpers/needs.mjs";
+import { seedsTried } from "../helpers/seeds-tried.mjs";
 
 /** @typedef {import("../helpers/known-process.mjs").Made} Made */
 /** @typedef {import("../helpers/known-process.mjs").Judged} Judged */
 
 const FOLDER = new URL("../known/", import.meta.url);
 const NAMES = readdirSync(FOLDER).filter((name) => name.endsWith(".mjs"));
-const SEEDS = Number(process.env.SEEDS ?? 250);
 
 const CHECKED = 25;
+
+/** The seeds of each program, if none of its endings is rare. */
+const USUAL = 100;
 
 /** For so many seeds others judge the run. About so many of these the simulator is asked; so many are made by rows. */
 const JUDGED = 5;
@@ -37,17 +41,18 @@ after(() => processes.end());
 /**
  * How the runs of a program end, a few runs with all that is known about them, and some of these made by their rows.
  * @param {string} name of its file
+ * @param {number} seeds how many
  * @returns {Promise<{ made: Made[], judged: Judged[], forced: Judged[] }>}
  */
-const runsOf = (name) => processes.ask({
-  module: new URL(name, FOLDER).href, seeds: SEEDS, checkEvery: CHECKED, judged: JUDGED, again: BY_ROWS,
+const runsOf = (name, seeds) => processes.ask({
+  module: new URL(name, FOLDER).href, seeds, checkEvery: CHECKED, judged: JUDGED, again: BY_ROWS,
 });
 
 /** How often each value occurs, and what it occurred with first. */
 function counted(entries) {
   const counts = new Map();
   for (const [value, seed] of entries) {
-    const { count, first } = counts.get(value) ?? { agents: 0, first: seed };
+    const { count, first } = counts.get(value) ?? { count: 0, first: seed };
     counts.set(value, { count: count + 1, first });
   }
   return counts;
@@ -97,7 +102,7 @@ function demandRaces({ races = [] }, made) {
 function demandChecks(made) {
   const whole = made.filter(({ isWhole }) => isWhole);
   assert.deepEqual(whole.filter(({ scriptHolds }) => scriptHolds !== "all").map(({ noScript }) => noScript), []);
-  assert.ok(whole.length >= SEEDS / CHECKED);
+  assert.ok(whole.length >= made.length / CHECKED);
   assert.deepEqual(made.filter(({ checked }) => checked), whole);
 }
 
@@ -118,13 +123,16 @@ describe("programs with known answers", { concurrency: SIDE_BY_SIDE }, () => {
     describe(name.replace(".mjs", ""), () => {
       /** @type {Awaited<ReturnType<typeof runsOf>>} */
       let runs;
+      /** @type {any} */
+      let known;
       before(async () => {
-        runs = await runsOf(name);
-        assert.deepEqual([runs.made.length, runs.judged.length], [SEEDS, JUDGED]);
+        ({ known } = await import(new URL(name, FOLDER).href));
+        const seeds = seedsTried(known.within ?? USUAL);
+        runs = await runsOf(name, seeds);
+        assert.deepEqual([runs.made.length, runs.judged.length], [seeds, JUDGED]);
       });
 
-      it("ends and races as it is known", async () => {
-        const { known } = await import(new URL(name, FOLDER).href);
+      it("ends and races as it is known", () => {
         const { made, judged, forced } = runs;
         demandEndings(known, made);
         demandRaces(known, made);

@@ -11,18 +11,22 @@ import { Runs, outcomesOf } from "../../lib/seeds/runs.mjs";
 import { CONSTRUCTORS, KINDS } from "../../script/kinds.mjs";
 import { agentsPath } from "../helpers/common.mjs";
 import { CHECKER } from "../helpers/needs.mjs";
+import { seedsTried } from "../helpers/seeds-tried.mjs";
 import { eventsOfTrace, racingLines } from "../helpers/slow-judge.mjs";
 
+/** How many random programs of each way are tried. */
+const PROGRAMS = seedsTried(150);
+
 /**
- * How the agents keep out of each other's way, what else their runs are recorded with, and from how many to how many
- * of 500 runs race: neither hardly any nor nearly all, except when no agent keeps out of another's way.
+ * How the agents keep out of each other's way, what else their runs are recorded with, and from what part to what part
+ * of the runs race: neither hardly any nor nearly all, except when no agent keeps out of another's way.
  */
 const WAYS = [
-  { way: "wild", options: {}, racy: [400, 499] },
-  { way: "words", options: {}, racy: [150, 400] },
-  { way: "locked", options: {}, racy: [30, 200] },
+  { way: "wild", options: {}, racy: [0.8, 1] },
+  { way: "words", options: {}, racy: [0.3, 0.8] },
+  { way: "locked", options: {}, racy: [0.06, 0.4] },
   // An agent mostly goes on for long, so that they come by the places one after the other.
-  { way: "passing", options: { strategy: "switch:0.02" }, racy: [150, 400] },
+  { way: "passing", options: { strategy: "switch:0.02" }, racy: [0.3, 0.8] },
 ];
 
 /**
@@ -34,7 +38,7 @@ const WAYS = [
 async function recorded(way, options) {
   const outcomes = [];
   const all = {
-    module: moduleUrl(agentsPath("random-ordinary")), args: [way], first: 1, last: 500, jobs: 1, checkEvery: 1,
+    module: moduleUrl(agentsPath("random-ordinary")), args: [way], first: 1, last: PROGRAMS, jobs: 1, checkEvery: 1,
     sabsim: CHECKER, maxMoves: 100_000, seconds: 10, fresh: false, ordinary: "watch", trace: true, ...options,
   };
   for await (const outcome of outcomesOf(new Runs(all, { job: new Job() }))) outcomes.push(outcome);
@@ -44,6 +48,9 @@ async function recorded(way, options) {
 
 /** The outcomes of each way, without their traces. @type {Map<string, ReturnType<typeof withoutTrace>[]>} */
 const recordedByWay = new Map();
+
+/** How many runs of each way are made once more without a trace. */
+const FEW = Math.min(50, PROGRAMS);
 
 /** How many runs of wild agents are made once more in workers that are started anew. */
 const ANEW = 5;
@@ -105,7 +112,7 @@ function effectOf(does, Kind, expected, answer) {
 }
 
 for (const { way, options, racy: [least, most] } of WAYS) {
-  test(`clocks and the search agree on 500 random programs: ${way}`, async () => {
+  test(`clocks and the search agree on ${PROGRAMS} random programs: ${way}`, async () => {
     let racy = 0;
     const outcomes = await recorded(way, options);
     recordedByWay.set(way, outcomes.map(withoutTrace));
@@ -118,15 +125,16 @@ for (const { way, options, racy: [least, most] } of WAYS) {
       assert.deepEqual(callLines(events), callLinesOfReport(script, report), `seed ${seed}`);
       racy += expected.length > 0 ? 1 : 0;
     }
-    assert.ok(least < racy && racy < most, `${racy} of them race`);
+    const part = racy / PROGRAMS;
+    assert.ok(least < part && part < most, `${racy} of them race`);
   });
 }
 
 test("runs without a trace, which keep each access once, have the same outcomes", async () => {
   for (const { way, options } of WAYS) {
-    const few = { ...options, last: 100, checkEvery: 0 };
+    const few = { ...options, last: FEW, checkEvery: 0 };
     // The test before has made these runs, unless this one runs alone.
-    const traced = recordedByWay.get(way)?.slice(0, 100) ?? (await recorded(way, few)).map(withoutTrace);
+    const traced = recordedByWay.get(way)?.slice(0, FEW) ?? (await recorded(way, few)).map(withoutTrace);
     const untraced = await recorded(way, { ...few, trace: false });
     assert.deepEqual(untraced.map(withoutTrace), traced, way);
   }
