@@ -10,7 +10,7 @@ from .functions import IN_A_TWIN, IN_PLACE, Unreadable, calls_of, functions_of, 
 from .kit import rt, rtlib
 from .modules import save_nothing_of, unpack_modules
 from .twins import InPlace, Twin, apart, placed_of, tried_of, wants_copy, write_texts, write_with
-from .verdicts import Judge, Reading
+from .verdicts import MAY_LACK_A_FIELD, NAME_IS_GONE, Judge, Reading
 
 # The results that a try can have.
 REFUSED, LOSES_A_NAME, NOT_REFUSED, BAD = "refused", "loses a name", "NOT REFUSED", "BAD EDIT"
@@ -153,10 +153,25 @@ class Trial:
             return result
         if edit.name not in self.proved:
             with copy_of(kept) as own:
-                result = result_of(rt.must_fail(self.crate, edit.file, self.flags, own))
+                result = self.try_as_rt_does(edit, own)
             if result.kind in (REFUSED, LOSES_A_NAME) or result.said.startswith(BAD):
                 return result
-        return result_of(rt.must_fail(self.crate, edit.file, self.flags))
+        return self.try_as_rt_does(edit)
+
+    def try_as_rt_does(self, edit, kept=None):
+        """Tries an edit as rt does, over what a folder of modules keeps, if one is given. rt doesn't know each way to
+        say that a record has no field, and cuts the line off. So where rt's line may say that, all lines are read."""
+        result = result_of(rt.must_fail(self.crate, edit.file, self.flags, kept))
+        may_lack_a_field = result.kind == REFUSED and MAY_LACK_A_FIELD.search(result.said)
+        return result_of_lines(result, self.read_alone(edit, kept)) if may_lack_a_field else result
+
+    def read_alone(self, edit, kept):
+        """Returns what a check of the crate with an edit says, over what a folder of modules keeps, if one is given."""
+        texts, _ = rt.read_edit(edit.file, self.crate.folder)
+        with tempfile.TemporaryDirectory(prefix="sabsim-edit-") as room:
+            write_texts(self.crate, texts, room)
+            ran = run_check(self.crate, room, self.flags, kept)
+        return Reading(ran.returncode, ran.stdout)
 
     def try_touched(self, edit, kept):
         """Tries the functions that an edit changes or adds, or that name a constant which it changes, and nothing else
@@ -197,6 +212,16 @@ def result_of(answer):
     return Result(kind, said, True)
 
 
+def result_of_lines(result, reading):
+    """Returns the result of an edit that rt calls refused, by all lines that refuse something: whether one does that
+    isn't about a name that went."""
+    lines = [line for _, _, line in reading.places]
+    line = next((line for line in lines if not NAME_IS_GONE.search(line)), "")
+    if line or not lines:
+        return result._replace(said=line or result.said)
+    return Result(LOSES_A_NAME, lines[0], result.is_alone)
+
+
 @contextmanager
 def copy_of(kept):
     """Yields a copy of a folder of modules. A check keeps there what it checks of functions with edits, in place of
@@ -206,8 +231,9 @@ def copy_of(kept):
         yield own
 
 
-def run_check(crate, room, flags, kept):
-    """Checks the copy of a crate in a folder, over what a folder of modules keeps."""
-    words = [rtlib.RATTLE, "check", *crate.words(flags, keeps=False), "--incremental", kept]
+def run_check(crate, room, flags, kept=None):
+    """Checks the copy of a crate in a folder, over what a folder of modules keeps, if one is given."""
+    over = ["--incremental", kept] if kept else []
+    words = [rtlib.RATTLE, "check", *crate.words(flags, keeps=False), *over]
     streams = {"stdin": subprocess.DEVNULL, "stdout": subprocess.PIPE, "stderr": subprocess.STDOUT}
     return subprocess.run([*rtlib.guarded(), *words], cwd=room, errors="replace", **streams)

@@ -10,8 +10,15 @@ ITEM = re.compile(r"(?:fn|struct|enum|impl|trait|closure|union|type|const|static
 PLACE = re.compile(r"(?:(note|warning|help): )?(?:\./)?((?:src|specs|proofs)/\S+?):(\d+):\d+: (.*)")
 # A line about a place that the front end refuses. No proof is tried then.
 FRONT_END = re.compile(r"(?:\./)?(src/\S+?):(\d+):\d+: error\[")
+# How a message begins that says that a record has no field of a name. If it is long, the first line ends behind the
+# record, or behind the names of fields that are nearest.
+OF_A_RECORD = r"error: (?:`[^`]*`: )?record `"
 # What says that a proof file names what went, and not that a goal is false.
-NAME_IS_GONE = re.compile(r"has no field|is not in scope|has no `|is no name|was not admitted")
+NAME_IS_GONE = re.compile(
+    rf"has no field|is not in scope|has no `|is no name|was not admitted|\(nearest: |{OF_A_RECORD}[^`]*`$"
+)
+# A line that may say this, or that is cut off before it says what is wrong.
+MAY_LACK_A_FIELD = re.compile(rf"{OF_A_RECORD}|error: `[^`]*`?:? ?\w*$")
 # What the line of a function says, if the function has a loop without a measure, and nothing else is known of its
 # proof.
 LACKS_A_MEASURE = re.compile(r"no proof: expected a measure in (?:\./)?(proofs/\S+)/Invariants\.antt")

@@ -1,8 +1,8 @@
 // Programs with known answers: how the runs of 100 seeds of each end is what its module says in `known`, which was
 // reasoned out by the standard. `SEEDS=1000 npm test -- known` tries more. `endings` are those that occur, `may` those
 // that need not, and `races` the pairs of lines of code that race: for each side a text that its line has. `within` is
-// how many seeds are tried if an ending is rare. Nothing else is found, and nothing is missed. Other judges look at some
-// of the runs, too.
+// how many seeds are tried if an ending is rare. Nothing else is found, and nothing is missed. Other judges look at
+// some of the runs, too.
 
 import assert from "node:assert/strict";
 import { readFileSync, readdirSync } from "node:fs";
