@@ -58,10 +58,10 @@ export default function agent({ buffers, agent: self }) {
 
 /** Agents whose state counts for long, and what they throw in some schedule. */
 export const LONG = Object.freeze({
-  "a counter to 600": ["600 looks", `let n = 0;
+  "a counter to 2,000": ["2000 looks", `let n = 0;
     while (ld(0) === 0) {
       n += 1;
-      if (n === 600) throw new Error("600 looks");
+      if (n === 2000) throw new Error("2000 looks");
     }`, "Atomics.store(words, 0, 1);"],
   "a combination": ["opened", `const code = [3, 1, 4, 1, 5, 9, 2, 6];
     let at = 0;

@@ -1,7 +1,7 @@
-// How many seeds tests of programs with known answers, and of random programs, try.
+// Under how many seeds tests try programs with known answers, and how many random programs they try.
 
 /**
- * As many as SEEDS of the environment says, and else as many as `npm test` tries.
+ * The number that SEEDS has in the environment; without SEEDS the usual one.
  * @param {number} usual
  * @returns {number}
  */

@@ -96,8 +96,9 @@ describe("programs on the order of events print the same in node and each run", 
   for (const name of ORDER) {
     it(name, async () => {
       const path = orderPath(name);
-      const [one, inRecorder] = await Promise.all([runInNode(path), recorded]);
+      const [one, other, inRecorder] = await Promise.all([runInNode(path), runInNode(path), recorded]);
       assert.ok(one.lines.length > 0 && one.status !== null && !one.lines.some((line) => /\bnever\b/.test(line)), name);
+      assert.deepEqual([other.lines, other.status], [one.lines, one.status]);
       const runs = inRecorder.get(name) ?? [];
       assert.equal(runs.length, SEEDS);
       for (const run of runs) assert.deepEqual([run.lines, codeOf(run)], [one.lines, one.status], run.detail);

@@ -17,8 +17,8 @@ const WRONG_SEEDS = 200;
 /** Of a rare program at most one run in so many fails, if each thread that can go on is as likely. */
 const RARE = 50;
 
-/** Under so many seeds that is tried. */
-const RARE_SEEDS = seedsTried(2 * RARE);
+/** Under so many seeds a rare program is tried. */
+const RARE_SEEDS = 2 * RARE;
 
 /** @typedef {import("../programs/table.mjs").Program} Program */
 /** @typedef {import("../../lib/run/outcome.mjs").Outcome} Outcome */

@@ -20,7 +20,7 @@ const withPython = needing("python3", spawnSync("python3", ["--version"]).status
 const SEARCH = fileURLToPath(new URL("../../../tests/search/", import.meta.url));
 const EXAMPLES = join(SEARCH, "examples");
 
-/** So many files are drawn. tests/search compares more of them with the native program. */
+/** So many files are drawn. */
 const DRAWN = seedsTried(80);
 
 /** @param {object} data a file of automata @param {any} wanted the model's result */
