@@ -50,11 +50,13 @@ const CHANGES_BUILTINS = "an agent changes the language's own objects, so what w
 export class Every {
   /**
    * @param {EveryRunOptions} options
-   * @param {{ signal?: AbortSignal }} how
+   * @param {{ signal?: AbortSignal, job?: import("../seeds/job.mjs").Job }} how what ends it; what makes the real runs,
+   * if that is in this process
    */
-  constructor(options, { signal }) {
+  constructor(options, { signal, job }) {
     this.options = options;
     this.signal = signal;
+    this.job = job;
     /** How many states were found so far. */
     this.states = 0;
     /** @type {import("../seeds/job.mjs").CheckedOutcome[]} of the real runs */
@@ -73,7 +75,8 @@ export class Every {
 
   /** @returns {Promise<Omit<EveryResult, "milliseconds">>} */
   async #tried() {
-    const real = new Runs({ ...this.#ofRuns(), wanted: { needsTrace: true } }, { signal: this.signal });
+    const { job, signal } = this;
+    const real = new Runs({ ...this.#ofRuns(), wanted: { needsTrace: true } }, { signal, job });
     const running = this.#take(real);
     // If something else fails, nobody waits for the runs.
     running.catch(() => {});

@@ -5,6 +5,7 @@ import { Refused } from "../options/refused.mjs";
 import { OPTIONS, SEEDS_OF_ALL, assumed } from "../options/table.mjs";
 import { chosenProgram } from "../simulator/chosen.mjs";
 import { folderOfCaller } from "./caller.cjs";
+import { jobHere } from "./explore.mjs";
 import { exploreOptions } from "./library-options.mjs";
 
 /** @typedef {import("../every/data.mjs").EveryData} EveryData */
@@ -18,7 +19,7 @@ const spelled = (name) => `\`${name}\``;
  * The options of a search of every schedule, as it takes them.
  * @param {EveryOptions} options
  * @param {() => string | undefined} callersFolder from which a relative path is taken, if it is known
- * @returns {import("../every/every.mjs").EveryRunOptions & { signal?: AbortSignal }}
+ * @returns {import("../every/every.mjs").EveryRunOptions & { jobs: number, signal?: AbortSignal }}
  */
 export function everyOptions(options, callersFolder) {
   const { within = assumed("within"), states = assumed("states"), ...rest } = options ?? {};
@@ -46,5 +47,5 @@ export async function everySchedule(options) {
   const { signal, ...taken } = everyOptions(options, () => folderOfCaller(everySchedule));
   // A program that makes runs alone doesn't load it.
   const [{ dataOf }, { Every }] = await Promise.all([import("../every/data.mjs"), import("../every/every.mjs")]);
-  return dataOf(await new Every(taken, { signal }).run());
+  return dataOf(await new Every(taken, { signal, job: jobHere(taken) }).run());
 }

@@ -25,6 +25,9 @@ export function explore(options) {
   return outcomesOf(runsOf(options, () => folderOfCaller(explore)));
 }
 
+/** @param {{ jobs: number }} options @returns {Job | undefined} one in this process, if it is the only one */
+export const jobHere = ({ jobs }) => (jobs === 1 ? new Job() : undefined);
+
 /**
  * The runs of some options, for a caller whose folder is known otherwise.
  * @param {ExploreOptions} options
@@ -36,6 +39,5 @@ export function runsOf(options, callersFolder) {
   const checking = sabsim !== false && rest.checkEvery > 0 ? { sabsim: chosenProgram(sabsim) } : { checkEvery: 0 };
   // Each job makes a batch while the one before is taken.
   const ahead = rest.jobs * BATCH;
-  const job = rest.jobs === 1 ? new Job() : undefined;
-  return new Runs({ ...rest, ...seeds, ...checking, ahead }, { signal, job });
+  return new Runs({ ...rest, ...seeds, ...checking, ahead }, { signal, job: jobHere(rest) });
 }

@@ -11,7 +11,9 @@ import { everyOptions } from "../../lib/library/every-schedule.mjs";
 import { simulatorAt } from "../../lib/simulator/chosen.mjs";
 import { NotAsLearned, everySchedule, record } from "../../recorder.mjs";
 import { assertAgents } from "../../testing.mjs";
-import { COUNTS, commandThere, fileIn, moduleOf, temporaryFolder } from "../helpers/common.mjs";
+import { COUNTS, commandThere, fileIn, moduleOf, nodeThere, temporaryFolder } from "../helpers/common.mjs";
+
+const LIBRARY = new URL("../../recorder.mjs", import.meta.url).href;
 
 /** The exchange of one agent and the read of another are unordered, and no state has a conflict. */
 const EXCHANGE = `export const setup = { agents: 2, buffers: [4] };
@@ -90,6 +92,18 @@ test("a `check` that finds something else in the same bytes isn't as it was lear
   const module = moduleOf(context, `${COUNTS}let calls = 0;\nexport const check = () => (calls += 1) < 3;\n`);
   const message = /^the run of seed \d fails check, .*: check returned false\. `check` may go by some/;
   await assert.rejects(everySchedule({ module, seeds: 6 }), { constructor: NotAsLearned, message });
+});
+
+test("a single job makes the real runs in the process that calls the library", async (context) => {
+  const file = fileIn(temporaryFolder(context), "here.mjs", `import childProcess from "node:child_process";
+import { syncBuiltinESMExports } from "node:module";
+childProcess.fork = () => { throw new Error("it starts a process"); };
+syncBuiltinESMExports();
+const { everySchedule } = await import("${LIBRARY}");
+console.log((await everySchedule({ module: process.argv[2], seeds: 3 })).realRuns);
+`);
+  const { stdout, stderr } = await nodeThere([file, moduleOf(context, COUNTS)]);
+  assert.deepEqual([stdout, stderr], ["3\n", ""]);
 });
 
 test("a run whose trace lacks accesses isn't compared, and the summary says so", async (context) => {
