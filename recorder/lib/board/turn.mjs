@@ -15,7 +15,7 @@ export const REASON_BYTES = 4_096;
 /** No thread changes it, and none wakes those that wait here. */
 const NEVER = new Int32Array(new SharedArrayBuffer(4));
 
-// How long an agent that was silent may take to say where it is.
+// How long an agent that was silent may take to say where it is, at most. It gets no more time than it was silent for.
 const SECONDS_TO_ANSWER = 1;
 
 // The word GO of an agent: nothing is new to it; it may go on; or its run is over, which it doesn't know yet.
@@ -272,7 +272,7 @@ export class Turn {
   #endSilent(seconds) {
     // An agent that makes ordinary accesses ends by itself.
     this.end.ask();
-    const patience = new Patience(SECONDS_TO_ANSWER);
+    const patience = new Patience(Math.min(SECONDS_TO_ANSWER, seconds));
     while (!this.end.hasEnded() && !patience.isOver()) this.end.await(patience.step);
     const turn = load(this.words, WORD.TURN);
     if (turn === NOBODY || compareExchange(this.words, WORD.TURN, turn, NOBODY) !== turn) return;

@@ -58,10 +58,10 @@ export default function agent({ buffers, agent: self }) {
 
 /** Agents whose state counts for long, and what they throw in some schedule. */
 export const LONG = Object.freeze({
-  "a counter to 2,000": ["2000 looks", `let n = 0;
+  "a counter to 1,000": ["1000 looks", `let n = 0;
     while (ld(0) === 0) {
       n += 1;
-      if (n === 2000) throw new Error("2000 looks");
+      if (n === 1000) throw new Error("1000 looks");
     }`, "Atomics.store(words, 0, 1);"],
   "a combination": ["opened", `const code = [3, 1, 4, 1, 5, 9, 2, 6];
     let at = 0;

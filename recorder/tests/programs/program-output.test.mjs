@@ -51,10 +51,10 @@ test("what a program prints is shown for the first seed and the kept run, for al
   assert.equal(count(some.lines, "[main] and that is it"), 2);
   assert.ok(count(some.lines, "[main] the word is 0") >= 1);
   assert.equal(count(some.lines, `[${started}] writes no line`), 2);
-  const all = shown(main, "--seeds", "1..8", "--out", out, "--program-output", "all");
+  const all = shown(main, "--seeds", "1..8", "--program-output", "all");
   assert.equal(count(all.lines, "[main] and that is it"), 8);
   assert.equal(count(all.lines, "[main] the word is 0"), Number(failed));
-  assert.deepEqual(shown(main, "--seeds", "1..8", "--out", out, "--program-output", "none").lines, []);
+  assert.deepEqual(shown(main, "--seeds", "1..8", "--no-shorten", "--out", out, "--program-output", "none").lines, []);
   const agents = commandNow([main, "--program-output", "all"]);
   assert.deepEqual([agents.status, agents.stderr], [2,
     "record: --program-output needs --program: what agents print is always shown\n"]);

@@ -305,7 +305,7 @@ describe("a run that can't be repeated", () => {
 if (Atomics.load(words, 1) === 2) throw new Error("it fails");` });
     const out = temporaryFolder(context);
     const { status, stdout } = await commandThere(["--program", main, "--seeds", "1..60", "--jobs", "1", "--fail-fast",
-      "--out", out]);
+      "--no-shorten", "--out", out]);
     assert.equal(status, 1, stdout);
     assert.doesNotMatch(stdout, new RegExp(OTHERWISE));
     const kept = readdirSync(out).find((name) => name.endsWith(".program.json"));

@@ -87,7 +87,7 @@ test("a run without a script is made again, and options of the command line go b
       process.exitCode = 3;`,
     "worker.mjs": `${WORKER}
       for (let woken = 0; woken < 15; woken += Atomics.notify(words, 0)) Atomics.wait(words, 1, 0, 1);`,
-  }), []);
+  }), ["--no-shorten"]);
   assert.ok(!readdirSync(folder).some((name) => /^seed-\d+\.json$/.test(name)));
   const { status, stdout } = await commandHere(["--replay", file, "--races", "allow"]);
   assert.equal(status, 1);
@@ -104,7 +104,7 @@ test("a run that waits by waitAsync is made again, and what differs is named as 
       process.exitCode = 3;`,
     "worker.mjs": `${WORKER}
       for (let woken = 0; woken < 2; woken += Atomics.notify(words, 0)) Atomics.wait(words, 1, 0, 1);`,
-  }), []);
+  }), ["--no-shorten"]);
   const script = readFileSync(join(folder, `${name}.json`), "utf8");
   assert.match(script, /"waitAsync_2_of_0"/);
   const { status, stdout, stderr } = await commandHere(["--replay", file, "--out", join(folder, "again")]);
@@ -233,7 +233,7 @@ test("a run in fresh threads is shown with its lines, kept and replayed in fresh
       if (Atomics.load(words, 0) === 0) Atomics.wait(words, 1, globalThis.times - 1);`,
     "worker.mjs": `${WORKER}Atomics.store(words, 0, 1);
       Atomics.notify(words, 1);`,
-  }), ["--fresh"]);
+  }), ["--fresh", "--no-shorten"]);
   assert.deepEqual(JSON.parse(readFileSync(file, "utf8")).options, { fresh: true });
   assert.match(readFileSync(join(folder, `${name}.words`), "utf8"),
     /wait\(Int32_b0, 1, 0\) waits .*, at main\.mjs:7:\d+$/m);

@@ -316,7 +316,8 @@ describe("a kept run", () => {
   const home = temporaryFolder();
   const main = programIn(home, RACING);
   const folder = join(home, "kept");
-  const recorded = commandThere(["--program", main, "--seeds", "1..8", "--jobs", "1", "--out", folder]);
+  const words = ["--program", main, "--seeds", "1..8", "--jobs", "1", "--no-shorten", "--out", folder];
+  const recorded = commandThere(words);
 
   it("says which bytes are where, is made again, and differs by the program's own bytes", async () => {
     const { status, stdout } = await recorded;

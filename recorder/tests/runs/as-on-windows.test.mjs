@@ -124,7 +124,7 @@ require("node:module").syncBuiltinESMExports();
 test("files that another program holds for a moment are kept, and removed, all the same", (context) => {
   const folder = temporaryFolder(context);
   const out = join(folder, "found");
-  const words = [RECORD, agentsPath("naive-mutex"), "--seeds", "1..60", "--check", "0", "--out", out];
+  const words = [RECORD, agentsPath("naive-mutex"), "--seeds", "1..60", "--check", "0", "--no-shorten", "--out", out];
   const code = holding(out);
   const { status, stdout, stderr } = ended([...asOnWindows(folder, ["heldMilliseconds"], { code }), ...words]);
   assert.deepEqual([status, stderr], [1, ""]);

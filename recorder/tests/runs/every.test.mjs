@@ -107,6 +107,11 @@ test("a race says which lines read and write", async (context) => {
   assert.deepEqual(found.map(({ kind, text }) => [kind, text]), [["race", "agents.mjs:5:12 and agents.mjs:5:12"]]);
 });
 
+/** Learns a module in a thread of its own, and makes no runs of it. @param {string} path @param {object} [more] */
+const learned = (path, more = {}) => learnApart({
+  module: pathToFileURL(path).href, args: [], place: {}, timeouts: "early", limit: 10_000, within: 60, ...more,
+}, { seconds: 10 });
+
 test("what can't be learned is refused, with its line", async (context) => {
   for (const [text, wanted] of /** @type {[string, RegExp][]} */ ([
     [LOADS("Math.random();"), /it asks for a random number, at agents\.mjs:5:8$/],
@@ -132,9 +137,10 @@ test("what can't be learned is refused, with its line", async (context) => {
     [LOADS("Array.prototype.push = 1;\n  Atomics.load(words, 0);"), /: one changes the language's own objects$/],
     [`import "node:fs";\n${LOADS("")}`, /node:fs, which agents\.mjs imports$/],
   ])) {
-    const module = moduleOf(context, text);
-    await assert.rejects(everySchedule({ module, seeds: 1 }), { constructor: Refused, message: wanted }, text);
+    await assert.rejects(learned(moduleOf(context, text)), { constructor: Refused, message: wanted }, text);
   }
+  const module = moduleOf(context, LOADS("Math.random();"));
+  await assert.rejects(everySchedule({ module, seeds: 1 }), { constructor: Refused, message: /, at agents\.mjs:5:8$/ });
 });
 
 test("what a module throws is learned as it is written", async (context) => {
@@ -222,10 +228,10 @@ test("a real run that isn't a way through the automata is noticed", async (conte
 });
 
 test("moments that were merged wrongly are noticed by the second learning", async (context) => {
-  const module = pathToFileURL(moduleOf(context, nastyOf(BODIES["temporary in a sum"]))).href;
-  const wanted = { module, args: [], place: {}, timeouts: /** @type {"early"} */ ("early"), limit: 10_000, within: 60 };
+  const path = moduleOf(context, nastyOf(BODIES["temporary in a sum"]));
+  const module = pathToFileURL(path).href;
   for (const hides of [undefined, "temporaries"]) {
-    const { edges, isShared, nodes, plan } = await learnApart({ ...wanted, flaw: { hides } }, { seconds: 10 });
+    const { edges, isShared, nodes, plan } = await learned(path, { flaw: { hides } });
     const differs = await learnAgain({ module, args: [], plan, isShared, isFresh: false, nodes, edges });
     assert.equal(differs !== undefined, hides !== undefined, differs);
   }
@@ -262,7 +268,7 @@ test("what was found is shown if not every schedule can be tried, too", async (c
 
 test("an agent that never comes back ends its thread", async (context) => {
   const module = moduleOf(context, LOADS("if (self === 1) for (;;);"));
-  const done = await command(module, "--all", "--seeds", "1..2", "--seconds", "1");
+  const done = await command(module, "--all", "--seeds", "1", "--everywhere", "--seconds", "1");
   assert.match(done.stdout,
     /^not every schedule was tried: an agent that was called alone didn't come back within 1 s/);
   assert.equal(done.status, 1);
@@ -270,9 +276,9 @@ test("an agent that never comes back ends its thread", async (context) => {
 
 test("an agent that catches everything is broken off", async (context) => {
   const module = moduleOf(context, LOADS("for (;;) try { Atomics.add(words, 0, 1); } catch {}"));
-  const done = await command(module, "--all", "--seeds", "1..2", "--seconds", "2");
-  const late = /^not every schedule was tried: an agent .* alone didn't come back within 2 s: .* catches everything/;
-  assert.match(done.stdout, late);
+  const { closed, open } = await everySchedule({ module, seeds: 1, seconds: 1 });
+  assert.equal(closed, false);
+  assert.match(open ?? "", /^an agent .* alone didn't come back within 1 s: .* catches everything that is thrown$/);
 });
 
 test("options that don't go with it are refused by name", async () => {

@@ -72,14 +72,14 @@ test("a command ends when all is written, whatever else would keep its process",
 
 // What several jobs print is compared with what one job prints that is in this process.
 test("one job and several print the same", async () => {
-  const words = [agentsPath("naive-mutex"), "--seeds", "1..150", ...CHECKING];
+  const words = [agentsPath("naive-mutex"), "--seeds", "1..80", ...CHECKING];
   const one = await commandHere([...words, "--jobs", "1"]);
   assert.equal(one.status, 1);
-  assert.deepEqual(run([...words, "--jobs", "4"]), one);
+  assert.deepEqual(run([...words, "--jobs", "3"]), one);
 });
 
 test("without --jobs a command that goes on takes further jobs, and prints the same as one", onLinux, async () => {
-  const words = [RECORD, agentsPath("naive-mutex"), "--seeds", "1..1500", "--check", "10", ...CHECKING];
+  const words = [RECORD, agentsPath("naive-mutex"), "--seeds", "1..800", "--check", "10", ...CHECKING];
   const mark = randomUUID();
   const child = spawn(process.execPath, words, { env: { ...process.env, RECORDER_TEST: mark } });
   let most = 0;
@@ -252,7 +252,7 @@ test("if one job of several is killed, the others go on", onLinux, async (contex
     if (agent === 0) console.error("a run");
   `);
   const env = { ...process.env, RECORDER_TEST: mark };
-  const all = [RECORD, ...words, "--seeds", "1..1500", "--jobs", "3"];
+  const all = [RECORD, ...words, "--seeds", "1..500", "--jobs", "3"];
   const child = spawn(process.execPath, all, { env, stdio: ["ignore", "pipe", "pipe"] });
   const ended = endOf(child);
   child.stderr.once("data", () => {
@@ -261,10 +261,10 @@ test("if one job of several is killed, the others go on", onLinux, async (contex
   });
   const { status, stdout, stderr } = await ended;
   assert.equal(status, 3);
-  const [, runs] = /^stopped after ([\d,]+) of 1,500 runs\n\1 runs: \1 finished\n/.exec(stdout);
-  const made = Number(runs.replaceAll(",", ""));
+  const [, runs] = /^stopped after (\d+) of 500 runs\n\1 runs: \1 finished\n/.exec(stdout);
+  const made = Number(runs);
   // A job is given 16 seeds at a time at most.
-  assert.ok(made >= 1_500 - 16 && made < 1_500, runs);
+  assert.ok(made >= 500 - 16 && made < 500, runs);
   assert.match(stderr, /^record: a job's process ended by itself \(SIGKILL\), and nothing is known of /m);
   assert.deepEqual(await stayingWith(mark), []);
 });

@@ -80,8 +80,8 @@ test("pilots that meet a limit, that fail or that don't end let the runs be made
   const withPilots = { everywhere: false };
   const spins = await recordCase("spins", withPilots);
   assert.deepEqual([spins.ending, /has made 1000 calls/.test(spins.detail)], ["limit", true]);
-  const endless = await recordCase("loops", { ...withPilots, seconds: 1 });
-  const silent = "agent 1 has made no call for 1 s: it is at cases.mjs:40:5";
+  const endless = await recordCase("loops", { ...withPilots, seconds: 0.3 });
+  const silent = "agent 1 has made no call for 0.3 s: it is at cases.mjs:40:5";
   assert.deepEqual([endless.ending, endless.detail], ["limit", silent]);
   const init = () => {
     throw new Error("no");
@@ -101,7 +101,7 @@ export default function agent({ agent }) {
   for (;;);
 }
 `);
-  const { ending } = await record({ module, sabsim: false, seconds: 1, everywhere: false });
+  const { ending } = await record({ module, sabsim: false, seconds: 0.3, everywhere: false });
   assert.equal(ending, "limit");
   assert.equal(readFileSync(begun, "utf8"), "..", "in a pilot, and in the run");
 });

@@ -128,8 +128,8 @@ test("an agent that spins for ever meets the limit of calls, or of moves", async
 });
 
 test("an agent that makes no call meets the limit of seconds", async () => {
-  const outcome = await recordCase("loops", { sabsim: CHECKER, seconds: 1.5 });
-  const detail = "agent 1 has made no call for 1.5 s: it is at cases.mjs:40:5";
+  const outcome = await recordCase("loops", { sabsim: CHECKER, seconds: 0.5 });
+  const detail = "agent 1 has made no call for 0.5 s: it is at cases.mjs:40:5";
   assert.deepEqual([outcome.ending, outcome.detail], ["limit", detail]);
 });
 

@@ -64,12 +64,12 @@ test("random calls of all kinds, right and wrong, return what sabsim returns", a
 test("the same seeds give the same scripts byte for byte, whatever the jobs", async () => {
   const one = await outcomesOf("naive-mutex", { checkEvery: 1 });
   const again = await outcomesOf("naive-mutex", { checkEvery: 1 });
-  const four = await outcomesOf("naive-mutex", { checkEvery: 1, jobs: 4 });
+  const two = await outcomesOf("naive-mutex", { checkEvery: 1, jobs: 2 });
   assert.deepEqual(again.outcomes, one.outcomes);
   // Each job returns the trace of its own first failing run, and the code that it names.
   const untraced = ({ outcomes }) => outcomes.map((outcome) =>
     ({ ...outcome, trace: undefined, accesses: undefined, sources: undefined }));
-  assert.deepEqual(untraced(four), untraced(one));
+  assert.deepEqual(untraced(two), untraced(one));
   assert.ok(new Set(one.outcomes.map((outcome) => outcome.script)).size > 30);
 });
 
@@ -107,7 +107,7 @@ test("state of a module stays from seed to seed, and with fresh workers it doesn
 test("after an agent that has gone astray the next seeds are recorded all the same", async () => {
   const astray = { exits: "failed", catchesAll: "failed", loops: "limit", manyViews: "limit" };
   for (const [name, ending] of Object.entries(astray)) {
-    const options = { args: [name], agents: 2, buffers: [72], last: 2, seconds: 1, checkEvery: 1, everywhere: true };
+    const options = { args: [name], agents: 2, buffers: [72], last: 2, seconds: 0.3, checkEvery: 1, everywhere: true };
     const { outcomes } = await outcomesOf("cases", options);
     assert.deepEqual(outcomes.map((outcome) => outcome.ending), [ending, ending], name);
   }

@@ -257,7 +257,7 @@ describe("joined, kept and stopped", { concurrency: 2 }, () => {
     const out = join(folder, "never");
     /** @param {string[]} words */
     const ran = (words) => commandThere([both.module, "--timeouts", "never", ...words, "--", "lost"]);
-    const { stdout } = await ran(["--out", out]);
+    const { stdout } = await ran(["--no-shorten", "--out", out]);
     const [, seed] = /first failing seed: (\d+), deadlock/.exec(stdout) ?? assert.fail(stdout);
     const script = join(out, `seed-${seed}.json`);
     assert.match(readFileSync(join(out, `seed-${seed}.html`), "utf8"), /--timeouts never/);

@@ -53,7 +53,7 @@ withTypeScript("an agents' module in TypeScript has its own lines, and the page 
     const file = fileIn(folder, name, AGENTS);
     writeFileSync(join(folder, "package.json"), '{ "type": "module" }');
     const out = join(folder, "found", name);
-    const words = [...nodeWords, RECORD, file, "--seeds", "1..40", "--out", out, ...CHECKING];
+    const words = [...nodeWords, RECORD, file, "--seeds", "1..40", "--no-shorten", "--out", out, ...CHECKING];
     const { status, stdout, stderr } = nodeNow(words);
     assert.equal(status, 1, `${stdout}${stderr}`);
     const line = AGENTS.split("\n").findIndex((each) => each.includes("words[2] += 1")) + 1;

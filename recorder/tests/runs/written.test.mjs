@@ -314,7 +314,7 @@ test("a kept page says its module, options and versions, and its command makes t
   mkdirSync(join(folder, "src"));
   writeFileSync(join(folder, "src", "ring.mjs"), readFileSync(RING, "utf8"));
   const words = ["src/ring.mjs", "--seeds", "1..40", "--strategy", "uniform", "--timeouts", "0.5", "--out", "found"];
-  const made = commandNow([...words, ...CHECKING], { cwd: folder });
+  const made = commandNow([...words, "--no-shorten", ...CHECKING], { cwd: folder });
   assert.equal(made.status, 1, made.stderr);
   const name = readdirSync(join(folder, "found")).find((each) => each.endsWith(".html"));
   // The explained report has bits there. A line beside the kept files says so.
