@@ -27,6 +27,9 @@ export default function agent({ buffers, agent: self }) {
 }
 `;
 
+/** Two agents without pilots take half as many workers. */
+const FEW = Object.freeze({ agents: 2, everywhere: true });
+
 /** @param {string[]} words */
 const command = (...words) => commandThere(words);
 
@@ -122,7 +125,7 @@ export default function agent({ buffers, agent: self }) {
   else while (words[0] === 0);
 }
 `);
-  const data = await everySchedule({ module, seeds: 1, seconds: 1 });
+  const data = await everySchedule({ ...FEW, module, seeds: 1, seconds: 1 });
   const kinds = data.found.map(({ kind, detail, seed }) => [kind, detail === null, seed]);
   assert.deepEqual(kinds, [["race", true, null], ["limit", false, 1]]);
   const race = /: agents can race or meet a limit\n {2}race: .*, in \d states?; the first one after .*\n {4}not /;

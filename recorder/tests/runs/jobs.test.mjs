@@ -96,7 +96,7 @@ test("without --jobs a command that goes on takes further jobs, and prints the s
 });
 
 /** So many outcomes are taken when there is a further job, so that some come from it. */
-const SINCE = 300;
+const SINCE = 100;
 
 test("further jobs are taken while processors are idle, and the outcomes are those of one job", async (context) => {
   // Runs of some milliseconds each, on a machine of three processors that nobody else uses.

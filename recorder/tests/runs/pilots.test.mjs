@@ -71,7 +71,7 @@ test("an agent that waits for what pilots couldn't see doesn't spin for ever", (
     if (agent === 1) Atomics.store(words, 0, 1);
     for (let look = 0; agent === 0 && Atomics.load(words, 0) === 0; look += 1) if (look > 990) throw new Error("no");
   `);
-  const words = ["--agents", "6", "--buffers", "24", "--seeds", "1..10", "--strategy", "uniform"];
+  const words = ["--agents", "6", "--buffers", "24", "--seeds", "1..4", "--strategy", "uniform"];
   const { status, stdout } = run([module, ...words]);
   assert.equal(status, 0, stdout);
 });

@@ -15,7 +15,7 @@ import { seedsTried } from "../helpers/seeds-tried.mjs";
 import { eventsOfTrace, racingLines } from "../helpers/slow-judge.mjs";
 
 /** How many random programs of each way are tried. */
-const PROGRAMS = seedsTried(150);
+const PROGRAMS = seedsTried(100);
 
 /**
  * How the agents keep out of each other's way, what else their runs are recorded with, and from what part to what part

@@ -54,7 +54,7 @@ describe("runs with timed waits", { concurrency: 2 }, () => {
   it("a sleeper doesn't starve beside a spin, nor beside an agent that polls", async () => {
     for (const options of [{ timeouts: 0, ...WITH_PILOTS }, { timeouts: 0.05 }]) {
       for (const name of ["spins", "polls"]) {
-        const outcomes = await outcomesOf(name, 50, options);
+        const outcomes = await outcomesOf(name, 25, options);
         assert.deepEqual(endingsOf(outcomes), ["finished"]);
         for (const { calls } of outcomes) assert.ok(calls < 700, `${calls} calls`);
       }
