@@ -1,11 +1,12 @@
 // Runs the tests of the recorder, as many files at a time as there are processors. `npm test` calls it.
 //
-// usage: node recorder/tests/run.mjs [NAME ..] [--unit] [--require-all]
+// usage: node recorder/tests/run.mjs [NAME ..] [--all] [--unit] [--require-all]
 //
 // With words only the files whose names contain one of them are run; a name has its folder, as unit/nearest.test.mjs.
-// `--unit` runs only those of the folder unit, which start no thread and no process. If SABSIM in the environment names
-// the built program, it checks the runs, except with `--unit`. Without it the recorder is tested alone, with node and
-// nothing else: the simulator's module checks the runs.
+// Those of the folders fuzz and bench are run if a word names them, or with `--all`. `--unit` runs only those of the
+// folder unit, which start no thread and no process. If SABSIM in the environment names the built program, it checks
+// the runs, except with `--unit`. Without it the recorder is tested alone, with node and nothing else: the simulator's
+// module checks the runs.
 //
 // The last line is `N passed, M failed`, and the status is 0 only if no test failed. The line before says which tests
 // were left out, since this machine lacks something. Some tests watch threads by the clock. So if tests fail, their
@@ -19,7 +20,7 @@ import { join, resolve } from "node:path";
 import { fileURLToPath } from "node:url";
 import { closingLines, readReport, wholeOf } from "./helpers/results.mjs";
 import {
-  Mistaken, REFUSAL, WITHOUT_OTHERS, askedBy, isUnitTest, keepSeconds, namesOfAll,
+  Mistaken, REFUSAL, WITHOUT_OTHERS, askedBy, isUnitTest, keepSeconds,
 } from "./helpers/test-files.mjs";
 
 const FOLDER = fileURLToPath(new URL("./", import.meta.url));
@@ -134,14 +135,14 @@ function printLeftOut() {
 
 /** @param {string[]} words */
 async function main(words) {
-  const { names, isUnit, requireAll } = askedBy(words);
+  const { names, isUnit, isNamed, requireAll } = askedBy(words);
   const sabsim = isUnit ? undefined : sabsimHere();
   const { results, second } = await finalResults(names, {
     ...process.env,
     [CERTIFICATES]: undefined,
     SABSIM: sabsim,
   });
-  if (names.length === namesOfAll().length) keepSeconds(results);
+  if (!isNamed && !isUnit) keepSeconds(results);
   const hasSabsim = sabsim !== undefined;
   if (!hasSabsim && !isUnit) printLeftOut();
   const whole = wholeOf(results, second, { hasSabsim, requireAll });

@@ -19,7 +19,8 @@ const filesIn = (folder) => readdirSync(join(TOP, folder)).length;
 const COUNTED = new Map([
   ["programs", () => filesIn("recorder/bench/programs")],
   ["classic wrong programs", () => filesIn("recorder/bench/programs")],
-  ["random traces", () => constantOf("recorder/tests/runs/judge.test.mjs", /^const RANDOM = ([\d_]+);$/m)],
+  ["random traces", () =>
+    constantOf("recorder/tests/fuzz/judge.test.mjs", /^const RANDOM = seedsTried\(([\d_]+)\);$/m)],
 ]);
 
 test("README.md has at most 130 lines and 900 words", () => {

@@ -20,9 +20,14 @@ function ran(words, sabsim) {
   return { status, last: stdout.trimEnd().split("\n").slice(-2), stdout, stderr };
 }
 
-test("without a word all files are asked for, by words those whose names contain one", () => {
-  assert.deepEqual(askedBy([]), { names: namesOfAll(), isUnit: false, requireAll: false });
-  assert.deepEqual(askedBy(["nearest"]), { names: ["unit/nearest.test.mjs"], isUnit: false, requireAll: false });
+test("without a word all files are asked for except commands of their own, by words those with one in the name", () => {
+  const others = { isUnit: false, isNamed: false, requireAll: false };
+  assert.deepEqual(askedBy(["--all"]), { names: namesOfAll(), ...others });
+  const { names: usual, ...rest } = askedBy([]);
+  assert.deepEqual([rest, usual], [others, namesOfAll().filter((name) => !/^(fuzz|bench)\//.test(name))]);
+  assert.ok(usual.length < namesOfAll().length);
+  assert.deepEqual(askedBy(["fuzz/"]).names.sort(), namesOfAll().filter((name) => name.startsWith("fuzz/")).sort());
+  assert.deepEqual(askedBy(["nearest"]), { ...others, names: ["unit/nearest.test.mjs"], isNamed: true });
   const { names, requireAll } = askedBy(["--require-all", "page-", "nearest"]);
   assert.deepEqual([...names].sort(), namesOfAll().filter((name) => /page-|nearest/.test(name)).sort());
   assert.ok(names.length > 4 && requireAll);
@@ -90,7 +95,7 @@ test("a word that no name contains, and an option that there isn't, are named", 
     'no name of a file that starts no thread and no process in recorder/tests contains "jobs"': ["--unit", "jobs"],
     "there is no option --units: is --unit meant?": ["--units"],
     "there is no option --require-all=1: is --require-all meant?": ["--require-all=1"],
-    "there is no option --watch: there are --unit and --require-all": ["--watch"],
+    "there is no option --watch: there are --all, --unit, --require-all": ["--watch"],
   };
   for (const [message, words] of Object.entries(mistakes)) {
     assert.throws(() => askedBy(words), (error) => error instanceof Mistaken && error.message === message, message);

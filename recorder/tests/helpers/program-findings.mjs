@@ -1,6 +1,7 @@
 // What the recorder finds in the runs of the table's programs: all in one process and in the same threads, one
 // program after the other.
 
+import assert from "node:assert/strict";
 import { checkedBy } from "../../lib/check/check.mjs";
 import { simulatorAt } from "../../lib/simulator/chosen.mjs";
 import { placesOf, urlOf } from "../programs/table.mjs";
@@ -98,4 +99,10 @@ export function findingOf(program, outcome) {
     if (ending === "race") return races.length > 0 && races.every(({ lines }) => areAt(lines, places));
     return places.every((place) => hasPlace(detail, place));
   });
+}
+
+/** @param {Program} program @param {Outcome[]} outcomes: each that fails is known */
+export function demandKnown(program, outcomes) {
+  const strange = outcomes.filter((outcome) => outcome.fails && findingOf(program, outcome) === undefined);
+  assert.deepEqual(strange.map(({ seed, ending, detail }) => `seed ${seed}: ${ending}: ${detail}`), []);
 }

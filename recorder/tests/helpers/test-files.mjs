@@ -13,6 +13,9 @@ const ENDING = ".test.mjs";
 /** The folders that have the files. docs/ARCHITECTURE.md says which tests are in which one. */
 const LAYERS = ["unit", "runs", "programs", "pages", "documents"];
 
+/** Those whose files are commands of their own: they run if a word names them, or with `--all`. */
+const APART = ["fuzz", "bench"];
+
 /** The file of the user's cache that has how many seconds each file of tests took the last time. */
 const { XDG_CACHE_HOME: CACHE = "" } = process.env;
 const SECONDS = join(isAbsolute(CACHE) ? CACHE : join(homedir(), ".cache"), "sabsim/test-seconds.json");
@@ -62,7 +65,9 @@ export const REFUSAL = "ERR_ACCESS_DENIED";
 export class Mistaken extends Error {}
 
 /** The options, by their names, in the form that node takes. */
-const OPTIONS = /** @type {const} */ ({ unit: { type: "boolean" }, "require-all": { type: "boolean" } });
+const OPTIONS = /** @type {const} */ ({
+  all: { type: "boolean" }, unit: { type: "boolean" }, "require-all": { type: "boolean" },
+});
 
 /**
  * What a file took the last time; one that wasn't run yet may take long.
@@ -71,22 +76,25 @@ const OPTIONS = /** @type {const} */ ({ unit: { type: "boolean" }, "require-all"
 const lastOf = (name) => LAST[name] ?? Number.MAX_VALUE;
 
 /** The names of all files, with their folders. Those that took longest begin first, so that none is left alone. */
-export const namesOfAll = () => LAYERS.flatMap((layer) => {
+export const namesOfAll = () => [...LAYERS, ...APART].flatMap((layer) => {
   return readdirSync(join(FOLDER, layer)).filter((name) => name.endsWith(ENDING)).map((name) => `${layer}/${name}`);
 }).sort().sort((a, b) => lastOf(b) - lastOf(a));
+
+/** @param {string} name of a file @returns {boolean} whether it runs if neither a word nor `--all` asks for it */
+export const isAsked = (name) => !APART.some((folder) => name.startsWith(`${folder}/`));
 
 /** @param {string} word an option that there isn't */
 function mistakenOption(word) {
   const near = nearest(word, Object.keys(OPTIONS));
-  const meant = near === undefined ? `there are --${Object.keys(OPTIONS).join(" and --")}` : `is --${near} meant?`;
+  const meant = near === undefined ? `there are --${Object.keys(OPTIONS).join(", --")}` : `is --${near} meant?`;
   return new Mistaken(`there is no option ${word}: ${meant}`);
 }
 
 /**
  * What a command line asks for.
  * @param {string[]} args
- * @returns {{ names: string[], isUnit: boolean, requireAll: boolean }} the files' names, in the order in which they
- * begin
+ * @returns {{ names: string[], isUnit: boolean, isNamed: boolean, requireAll: boolean }} the files' names, in the order
+ * in which they begin, and whether words have named them
  */
 export function askedBy(args) {
   const { tokens } = parseArgs({ args, options: OPTIONS, allowPositionals: true, strict: false, tokens: true });
@@ -107,6 +115,8 @@ export function askedBy(args) {
     if (names.some((name) => name.includes(word))) continue;
     throw new Mistaken(`no ${among} in recorder/tests contains "${word}"`);
   }
-  if (words.length > 0) names = names.filter((name) => words.some((word) => name.includes(word)));
-  return { names, isUnit, requireAll: given.has("require-all") };
+  const isNamed = words.length > 0;
+  if (isNamed) names = names.filter((name) => words.some((word) => name.includes(word)));
+  else if (!given.has("all")) names = names.filter(isAsked);
+  return { names, isUnit, isNamed, requireAll: given.has("require-all") };
 }

@@ -4,7 +4,7 @@
 
 import assert from "node:assert/strict";
 import { after, before, describe, it } from "node:test";
-import { TableRuns, findingOf } from "../helpers/program-findings.mjs";
+import { TableRuns, demandKnown } from "../helpers/program-findings.mjs";
 import { seedsTried } from "../helpers/seeds-tried.mjs";
 import { PROGRAMS, urlOf } from "../programs/table.mjs";
 
@@ -14,20 +14,8 @@ const SEEDS = seedsTried(25);
 /** Under one of so many seeds a wrong program fails. */
 const WRONG_SEEDS = 200;
 
-/** Of a rare program at most one run in so many fails, if each thread that can go on is as likely. */
-const RARE = 50;
-
-/** Under so many seeds a rare program is tried. */
-const RARE_SEEDS = 2 * RARE;
-
 /** @typedef {import("../programs/table.mjs").Program} Program */
 /** @typedef {import("../../lib/run/outcome.mjs").Outcome} Outcome */
-
-/** @param {Program} program @param {Outcome[]} outcomes: each that fails is known */
-function demandKnown(program, outcomes) {
-  const strange = outcomes.filter((outcome) => outcome.fails && findingOf(program, outcome) === undefined);
-  assert.deepEqual(strange.map(({ seed, ending, detail }) => `seed ${seed}: ${ending}: ${detail}`), []);
-}
 
 /** @param {Program} program @param {Outcome[]} outcomes */
 function demandRight({ isEndless }, outcomes) {
@@ -76,36 +64,15 @@ function testEach(all, how = {}) {
   }
 }
 
-const OF_NODE = PROGRAMS.filter(({ isWeb }) => isWeb !== true);
-
-/** Rare programs under the uniform strategy. */
-function testRare() {
-  /** @type {TableRuns} */
-  let runs;
-  before(async () => { runs = await TableRuns.open({ strategy: "uniform", everywhere: true }); });
-  after(() => runs.close());
-
-  for (const program of PROGRAMS.filter(({ isRare, notYet }) => isRare && notYet === undefined)) {
-    it(`${program.name} fails in at most one run in ${RARE}`, async () => {
-      const outcomes = await runs.runs(program, { last: RARE_SEEDS });
-      const failed = outcomes.filter(({ fails }) => fails);
-      assert.ok(failed.length <= RARE_SEEDS / RARE, `${failed.length} of ${RARE_SEEDS} runs have failed`);
-      demandKnown(program, outcomes);
-    });
-  }
-}
-
 /** In the same threads one program is run after the other. */
 const IN_TURN = { concurrency: 1 };
 
 // One thread of a program goes on at a time. So that this file isn't left alone at the end, two parts go side by side.
 // More would take longer, since each has threads of its own.
 describe("programs in the recorder", { concurrency: 2 }, () => {
-  describe("with known answers", IN_TURN, () => testEach(OF_NODE));
+  describe("with known answers", IN_TURN, () => testEach(PROGRAMS.filter(({ isWeb }) => isWeb !== true)));
 
-  describe("of another kind", IN_TURN, () => {
-    const ofWeb = PROGRAMS.filter(({ isWeb }) => isWeb === true);
-    describe("for browsers, with known answers", IN_TURN, () => testEach(ofWeb, { web: true }));
-    describe("rare ones, if each thread that can go on is as likely", IN_TURN, testRare);
+  describe("for browsers, with known answers", IN_TURN, () => {
+    testEach(PROGRAMS.filter(({ isWeb }) => isWeb === true), { web: true });
   });
 });
