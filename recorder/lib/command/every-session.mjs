@@ -24,12 +24,14 @@ export class EverySession {
   /**
    * @param {CommandOptions} options
    * @param {string} module its URL
+   * @param {import("../seeds/runs.mjs").AnyJob} [job] the first one of the real runs, if it has begun
    * @param {number} [after] after how many milliseconds the line of progress is shown, if it isn't a second
    */
-  constructor(options, module, after) {
+  constructor(options, module, job, after) {
     const { within = assumed("within"), states = assumed("states") } = /** @type {any} */ (options);
     this.options = options;
     this.module = module;
+    this.job = job;
     this.every = { ...options, module, within, states };
     this.interruption = new Interruption();
     this.after = after;
@@ -40,7 +42,7 @@ export class EverySession {
     const { checkEvery, first, format, last, sabsim } = this.options;
     const chosen = checkEvery > 0 ? chosenProgram(sabsim) : undefined;
     const given = /** @type {any} */ ({ ...this.every, sabsim: chosen });
-    const every = new Every(given, { signal: this.interruption.signal });
+    const every = new Every(given, { signal: this.interruption.signal, job: this.job });
     const progress = new EveryProgress(every, last - first + 1, this.after);
     /** @type {EveryResult} */
     let tried;

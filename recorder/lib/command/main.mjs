@@ -48,7 +48,7 @@ async function run(words, job) {
     const module = existing(/** @type {any} */ (asked));
     if (asked.all) {
       const { EverySession } = await import("./every-session.mjs");
-      return await new EverySession(asked, module).run();
+      return await new EverySession(asked, module, job).run();
     }
     if (replay === undefined) return await new Session(asked, module, job).run();
     const { Replay } = await import("./replay.mjs");

@@ -50,8 +50,8 @@ const CHANGES_BUILTINS = "an agent changes the language's own objects, so what w
 export class Every {
   /**
    * @param {EveryRunOptions} options
-   * @param {{ signal?: AbortSignal, job?: import("../seeds/job.mjs").Job }} how what ends it; what makes the real runs,
-   * if that is in this process
+   * @param {{ signal?: AbortSignal, job?: import("../seeds/runs.mjs").AnyJob }} how what ends it; the first job of the
+   * real runs, if it has begun or is in this process
    */
   constructor(options, { signal, job }) {
     this.options = options;

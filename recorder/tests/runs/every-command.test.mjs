@@ -5,9 +5,11 @@ import { readdirSync } from "node:fs";
 import { test } from "node:test";
 import { pathToFileURL } from "node:url";
 import { EverySession } from "../../lib/command/every-session.mjs";
+import { obey } from "../../lib/command/main.mjs";
 import { commandOptionsOf } from "../../lib/command/options.mjs";
-import { withStreams } from "../helpers/command-here.mjs";
-import { COUNTS, commandThere, moduleOf, temporaryFolder } from "../helpers/common.mjs";
+import { Job } from "../../lib/seeds/job.mjs";
+import { commandHere, withStreams } from "../helpers/command-here.mjs";
+import { COUNTS, moduleOf, temporaryFolder } from "../helpers/common.mjs";
 
 /** One agent counts, and the other throws a text as long as the count. */
 const MANY_KINDS = `export const setup = { agents: 2, buffers: [4] };
@@ -27,7 +29,7 @@ function written(context, { isTerminal, after }) {
   const module = moduleOf(context, COUNTS);
   const options = /** @type {any} */ (commandOptionsOf([module, "--all", "--seeds", "1..2", "--format", "json"]));
   return withStreams(async () => {
-    const { failed } = await new EverySession(options, pathToFileURL(module).href, after).run();
+    const { failed } = await new EverySession(options, pathToFileURL(module).href, new Job(), after).run();
     return failed ? 1 : 0;
   }, isTerminal);
 }
@@ -42,11 +44,22 @@ test("a line of progress is on a terminal's standard error, after a while, and i
   assert.equal(elsewhere.stderr, "");
 });
 
+test("a job that has begun when the command line is read makes the real runs", async (context) => {
+  const job = new Job();
+  const seeds = [];
+  const run = job.run.bind(job);
+  job.run = (wanted, ...others) => {
+    seeds.push(...wanted.map(({ seed }) => seed));
+    return run(wanted, ...others);
+  };
+  const { status } = await withStreams(() => obey([moduleOf(context, COUNTS), "--all", "--seeds", "1..3"], job));
+  assert.deepEqual([status, seeds], [0, [1, 2, 3]]);
+});
+
 test("twenty kinds are shown and kept, and the others are counted", async (context) => {
   const out = temporaryFolder(context);
-  const { status, stdout, stderr } = await commandThere([
-    moduleOf(context, MANY_KINDS), "--all", "--seeds", "1..1", "--out", out,
-  ]);
+  const words = [moduleOf(context, MANY_KINDS), "--all", "--seeds", "1..1", "--out", out];
+  const { status, stdout, stderr } = await commandHere(words);
   assert.equal(status, 1, stderr);
   assert.equal(stdout.match(/^ {2}threw: Error.*; shown by \d+ acts? with /gm)?.length, 8);
   assert.match(stdout, /\n {2}and 18 more\n/);

@@ -11,6 +11,7 @@ import { everyOptions } from "../../lib/library/every-schedule.mjs";
 import { simulatorAt } from "../../lib/simulator/chosen.mjs";
 import { NotAsLearned, everySchedule, record } from "../../recorder.mjs";
 import { assertAgents } from "../../testing.mjs";
+import { commandHere } from "../helpers/command-here.mjs";
 import { COUNTS, commandThere, fileIn, moduleOf, nodeThere, temporaryFolder } from "../helpers/common.mjs";
 
 const LIBRARY = new URL("../../recorder.mjs", import.meta.url).href;
@@ -31,7 +32,7 @@ export default function agent({ buffers, agent: self }) {
 const FEW = Object.freeze({ agents: 2, everywhere: true });
 
 /** @param {string[]} words */
-const command = (...words) => commandThere(words);
+const command = (...words) => commandHere(words);
 
 test("unordered accesses that no state shows are found by real runs, shown and kept", async (context) => {
   const module = moduleOf(context, EXCHANGE);

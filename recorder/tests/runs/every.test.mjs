@@ -12,12 +12,13 @@ import { searched } from "../../lib/every/search/searched-file.mjs";
 import { NotAsLearned, Refused, everySchedule, record } from "../../recorder.mjs";
 import { assertAgents } from "../../testing.mjs";
 import { BODIES, moduleOf as nastyOf } from "../every/nasty.mjs";
+import { commandHere } from "../helpers/command-here.mjs";
 import { RECORD, agentsPath, commandThere, moduleOf, temporaryFolder } from "../helpers/common.mjs";
 
 const EXAMPLES = fileURLToPath(new URL("../../examples/", import.meta.url));
 
 /** @param {string[]} words */
-const command = (...words) => commandThere(words);
+const command = (...words) => commandHere(words);
 
 const OTHER_NEXT = "Object.getPrototypeOf([][Symbol.iterator]()).next = () => ({ done: true });";
 
@@ -36,7 +37,7 @@ export default function agent({ buffers, agent: self }) {
 test("a right lock: every schedule was tried, and nothing was found", async (context) => {
   const out = temporaryFolder(context);
   const module = join(EXAMPLES, "mutex-three-state.agents.mjs");
-  const done = await command(module, "--all", "--seeds", "1..20", "--out", out);
+  const done = await commandThere([module, "--all", "--seeds", "1..20", "--out", out]);
   assert.equal(done.stderr, "");
   assert.equal(done.status, 0);
   const [first, states, learned, ...rest] = done.stdout.split("\n");
