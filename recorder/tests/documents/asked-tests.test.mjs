@@ -20,7 +20,7 @@ function ran(words, sabsim) {
   return { status, last: stdout.trimEnd().split("\n").slice(-2), stdout, stderr };
 }
 
-test("without a word all files are asked for except commands of their own, by words those with one in the name", () => {
+test("without a word all files run except those of fuzz and bench, with --all these too, by words what they name", () => {
   const others = { isUnit: false, isNamed: false, requireAll: false };
   assert.deepEqual(askedBy(["--all"]), { names: namesOfAll(), ...others });
   const { names: usual, ...rest } = askedBy([]);

@@ -81,7 +81,7 @@ export const namesOfAll = () => [...LAYERS, ...APART].flatMap((layer) => {
 }).sort().sort((a, b) => lastOf(b) - lastOf(a));
 
 /** @param {string} name of a file @returns {boolean} whether it runs if neither a word nor `--all` asks for it */
-export const isAsked = (name) => !APART.some((folder) => name.startsWith(`${folder}/`));
+const isAsked = (name) => !APART.some((folder) => name.startsWith(`${folder}/`));
 
 /** @param {string} word an option that there isn't */
 function mistakenOption(word) {
