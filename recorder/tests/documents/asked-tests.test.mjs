@@ -20,7 +20,7 @@ function ran(words, sabsim) {
   return { status, last: stdout.trimEnd().split("\n").slice(-2), stdout, stderr };
 }
 
-test("without a word all files run except those of fuzz and bench, with --all these too, by words what they name", () => {
+test("without a word fuzz and bench are left out, with --all nothing is, and words name files", () => {
   const others = { isUnit: false, isNamed: false, requireAll: false };
   assert.deepEqual(askedBy(["--all"]), { names: namesOfAll(), ...others });
   const { names: usual, ...rest } = askedBy([]);
