@@ -15,9 +15,9 @@ import { join } from "node:path";
 import { parseArgs } from "node:util";
 import { fileURLToPath } from "node:url";
 import { OnlyByTimeWaits, hiddenWaits } from "../lib/command/only-by-time.mjs";
+import { jobHere } from "../lib/library/explore.mjs";
 import { checkedOptions } from "../lib/library/library-options.mjs";
 import { Refused } from "../lib/options/refused.mjs";
-import { Job } from "../lib/seeds/job.mjs";
 import { Runs, outcomesOf } from "../lib/seeds/runs.mjs";
 import { EDITS, HIDDEN, RIGHT, STARVES, editedText, fileOf } from "./edits.mjs";
 import { isMain } from "./is-main.mjs";
@@ -49,7 +49,7 @@ const NOTES = new Map([[RIGHT, "right"], [HIDDEN, "hidden by a time"], [STARVES,
 export async function counted(module, { seeds, jobs }, further = {}) {
   const many = { first: 1, last: seeds, jobs, checkEvery: 0, fresh: false, sabsim: undefined, trials: true };
   const options = { ...checkedOptions({ module, ...further }, () => undefined), ...many };
-  const runs = new Runs(options, jobs === 1 ? { job: new Job() } : {});
+  const runs = new Runs(options, { job: jobHere({ jobs }) });
   /** @type {Counted} */
   const counts = { failed: 0, first: undefined, endings: new Map(), hidden: 0 };
   const onlyByTime = new OnlyByTimeWaits();

@@ -74,7 +74,7 @@ test("the ratio of two commits is the median of the turns' ratios, and the turns
 
 const ROOT = fileURLToPath(new URL("../../../", import.meta.url));
 const TURNS = join(ROOT, "recorder/bench/turns.mjs");
-/** git answers to nobody but the owner of a clone. */
+/** git works only for the owner of a clone. */
 const inClone = needing("clone of the repository", spawnSync("git", ["rev-parse", "HEAD"], { cwd: ROOT }).status === 0);
 
 /** What `turns.mjs` prints. @param {string[]} words */

@@ -151,6 +151,9 @@ export function shellProgram(folder, code) {
 /** What a program does that always reports one begin, which no run has alone. */
 export const LIES = "cat > /dev/null\necho '0 0 0 begin'";
 
+/** Two agents without pilots take half as many workers. */
+export const FEW_WORKERS = Object.freeze({ agents: 2, everywhere: true });
+
 /** A module of two agents, each of which adds 1. */
 export const COUNTS = `export const setup = { agents: 2, buffers: [4] };
 export default ({ buffers }) => void Atomics.add(new Int32Array(buffers[0]), 0, 1);

@@ -14,7 +14,7 @@ const FOLDER = new URL("../programs/", import.meta.url);
 const SIDE_BY_SIDE = 4;
 const SEEDS = 3;
 
-/** On a busy machine node has what comes after a time in another order, or breaks down. So often it may run again. */
+/** How often a program runs at most: on a busy machine node's own timers come in another order, or node breaks down. */
 const TIMES_IN_NODE = 3;
 
 const LEAST = { programs: 40, rare: 10, order: 30 };

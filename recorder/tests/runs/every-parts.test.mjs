@@ -4,10 +4,7 @@ import assert from "node:assert/strict";
 import { test } from "node:test";
 import { isShownBy } from "../../lib/every/showing.mjs";
 import { NotAsLearned, Refused, everySchedule } from "../../recorder.mjs";
-import { COUNTS, moduleOf } from "../helpers/common.mjs";
-
-/** Two agents without pilots take half as many workers. */
-const FEW = Object.freeze({ agents: 2, everywhere: true });
+import { COUNTS, FEW_WORKERS, moduleOf } from "../helpers/common.mjs";
 
 test("an `init` that fails leaves nothing to search", async (context) => {
   for (const [init, wanted] of [
@@ -16,7 +13,7 @@ test("an `init` that fails leaves nothing to search", async (context) => {
     ["async () => {}", "`init` returned a promise, but it must be synchronous"],
   ]) {
     const module = moduleOf(context, `${COUNTS}export const init = ${init};\n`);
-    const { closed, open } = await everySchedule({ ...FEW, module, seeds: 1 });
+    const { closed, open } = await everySchedule({ ...FEW_WORKERS, module, seeds: 1 });
     assert.deepEqual([closed, open], [false, wanted]);
   }
 });
@@ -24,7 +21,7 @@ test("an `init` that fails leaves nothing to search", async (context) => {
 test("an `init` or a `check` that never comes back is ended", async (context) => {
   for (const name of ["init", "check"]) {
     const module = moduleOf(context, `${COUNTS}export const ${name} = () => { for (;;); };\n`);
-    const { closed, open } = await everySchedule({ ...FEW, module, seeds: 1, seconds: 1 });
+    const { closed, open } = await everySchedule({ ...FEW_WORKERS, module, seeds: 1, seconds: 1 });
     assert.deepEqual([closed, open], [false, `\`${name}\` didn't come back within 1 s`]);
   }
 });
@@ -34,7 +31,8 @@ test("an agent that never comes back in the code as it is written isn't as it wa
 function spin() { runs += 1; if (runs > 1) for (;;); }
 `);
   const message = /than was learned\. There an agent .* didn't come back within 1 s: .* keep something /;
-  await assert.rejects(everySchedule({ ...FEW, module, seeds: 1, seconds: 1 }), { constructor: NotAsLearned, message });
+  const options = { ...FEW_WORKERS, module, seeds: 1, seconds: 1 };
+  await assert.rejects(everySchedule(options), { constructor: NotAsLearned, message });
 });
 
 test("a module that can't be loaded is refused, and one that asks for chance while it is loaded", async (context) => {
@@ -43,8 +41,8 @@ test("a module that can't be loaded is refused, and one that asks for chance whi
     ["Math.more = 1;\n", /^--all can't load agents\.mjs: TypeError: Cannot add property more, /],
     ["const chance = Math.random();\n", /it asks for a random number, at agents\.mjs:1:21$/],
   ])) {
-    const module = moduleOf(context, begins + COUNTS);
-    await assert.rejects(everySchedule({ ...FEW, module, seeds: 1 }), { constructor: Refused, message: wanted });
+    const options = { ...FEW_WORKERS, module: moduleOf(context, begins + COUNTS), seeds: 1 };
+    await assert.rejects(everySchedule(options), { constructor: Refused, message: wanted });
   }
 });
 
@@ -56,7 +54,7 @@ export const check = ([buffer]) => {
   assert(false);
 };
 `;
-  const { found } = await everySchedule({ ...FEW, module: moduleOf(context, fails), seeds: 2 });
+  const { found } = await everySchedule({ ...FEW_WORKERS, module: moduleOf(context, fails), seeds: 2 });
   const title = "threw TypeError: lock.missing is not a function";
   assert.deepEqual(found.map(({ kind, text }) => [kind, text]), [["check", title]]);
   const ran = (/** @type {string} */ detail) => /** @type {any} */ ({ ending: "check", detail, races: [] });
@@ -71,7 +69,7 @@ test("an error whose text is its own, or can't be made, is found as real runs sh
 export const setup = { agents: 2, buffers: [4] };
 export default ({ buffers }) => { if (Atomics.add(new Int32Array(buffers[0]), 0, 1) === 1) throw new E("x"); };
 `;
-    const { found } = await everySchedule({ ...FEW, module: moduleOf(context, throws), seeds: 2 });
+    const { found } = await everySchedule({ ...FEW_WORKERS, module: moduleOf(context, throws), seeds: 2 });
     assert.deepEqual(found.map(({ kind, text }) => [kind, text]), [["threw", "Error: x"]]);
   }
 });

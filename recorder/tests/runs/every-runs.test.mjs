@@ -12,7 +12,7 @@ import { simulatorAt } from "../../lib/simulator/chosen.mjs";
 import { NotAsLearned, everySchedule, record } from "../../recorder.mjs";
 import { assertAgents } from "../../testing.mjs";
 import { commandHere } from "../helpers/command-here.mjs";
-import { COUNTS, commandThere, fileIn, moduleOf, nodeThere, temporaryFolder } from "../helpers/common.mjs";
+import { COUNTS, FEW_WORKERS, commandThere, fileIn, moduleOf, nodeThere, temporaryFolder } from "../helpers/common.mjs";
 
 const LIBRARY = new URL("../../recorder.mjs", import.meta.url).href;
 
@@ -27,9 +27,6 @@ export default function agent({ buffers, agent: self }) {
   }
 }
 `;
-
-/** Two agents without pilots take half as many workers. */
-const FEW = Object.freeze({ agents: 2, everywhere: true });
 
 /** @param {string[]} words */
 const command = (...words) => commandHere(words);
@@ -126,7 +123,7 @@ export default function agent({ buffers, agent: self }) {
   else while (words[0] === 0);
 }
 `);
-  const data = await everySchedule({ ...FEW, module, seeds: 1, seconds: 1 });
+  const data = await everySchedule({ ...FEW_WORKERS, module, seeds: 1, seconds: 1 });
   const kinds = data.found.map(({ kind, detail, seed }) => [kind, detail === null, seed]);
   assert.deepEqual(kinds, [["race", true, null], ["limit", false, 1]]);
   const race = /: agents can race or meet a limit\n {2}race: .*, in \d states?; the first one after .*\n {4}not /;

@@ -13,7 +13,7 @@ import { NotAsLearned, Refused, everySchedule, record } from "../../recorder.mjs
 import { assertAgents } from "../../testing.mjs";
 import { BODIES, moduleOf as nastyOf } from "../every/nasty.mjs";
 import { commandHere } from "../helpers/command-here.mjs";
-import { RECORD, agentsPath, commandThere, moduleOf, temporaryFolder } from "../helpers/common.mjs";
+import { FEW_WORKERS, RECORD, agentsPath, commandThere, moduleOf, temporaryFolder } from "../helpers/common.mjs";
 
 const EXAMPLES = fileURLToPath(new URL("../../examples/", import.meta.url));
 
@@ -21,9 +21,6 @@ const EXAMPLES = fileURLToPath(new URL("../../examples/", import.meta.url));
 const command = (...words) => commandHere(words);
 
 const OTHER_NEXT = "Object.getPrototypeOf([][Symbol.iterator]()).next = () => ({ done: true });";
-
-/** Two agents without pilots take half as many workers. */
-const FEW = Object.freeze({ agents: 2, everywhere: true });
 
 /** A module of two agents that load and then do something. */
 const LOADS = (more) => `export const setup = { agents: 2, buffers: [8] };
@@ -101,13 +98,13 @@ for (const [name, wanted] of /** @type {[string, [string, RegExp][]][]} */ ([
 }
 
 test("steps that one history alone leads to are counted", async (context) => {
-  const { edges, edgesByOne } = await everySchedule({ ...FEW, module: moduleOf(context, LOADS("")), seeds: 1 });
+  const { edges, edgesByOne } = await everySchedule({ ...FEW_WORKERS, module: moduleOf(context, LOADS("")), seeds: 1 });
   assert.deepEqual({ edges, edgesByOne }, { edges: 2, edgesByOne: 2 });
 });
 
 test("a race says which lines read and write", async (context) => {
   const module = moduleOf(context, LOADS("words[1] = self;\n  Atomics.load(words, 0);"));
-  const { found } = await everySchedule({ ...FEW, module, seeds: 1 });
+  const { found } = await everySchedule({ ...FEW_WORKERS, module, seeds: 1 });
   assert.deepEqual(found.map(({ kind, text }) => [kind, text]), [["race", "agents.mjs:5:12 and agents.mjs:5:12"]]);
 });
 
@@ -156,7 +153,7 @@ test("what a module throws is learned as it is written", async (context) => {
       "TypeError: this[#f] is not a function"],
     ["const lock = {};\n  new lock.Kind(Atomics.load(words, 1));", "TypeError: lock.Kind is not a constructor"],
   ]) {
-    const { closed, found } = await everySchedule({ ...FEW, module: moduleOf(context, LOADS(more)), seeds: 2 });
+    const { closed, found } = await everySchedule({ ...FEW_WORKERS, module: moduleOf(context, LOADS(more)), seeds: 2 });
     assert.deepEqual([closed, found.map(({ text }) => text)], [true, [wanted]]);
   }
 });
@@ -167,7 +164,7 @@ test("what a module throws is learned as it is written", async (context) => {
  * @param {RegExp} [message]
  */
 const demandNotAsLearned = (options, message = /./) =>
-  assert.rejects(everySchedule({ ...FEW, seeds: 1, ...options }), { constructor: NotAsLearned, message });
+  assert.rejects(everySchedule({ ...FEW_WORKERS, seeds: 1, ...options }), { constructor: NotAsLearned, message });
 
 test("what agents do before any call is learned a second time", async (context) => {
   const module = moduleOf(context, `let runs = 0;
@@ -195,7 +192,7 @@ test("an agent that goes by the depth of its stack isn't as it was learned", asy
   await demandNotAsLearned({ module },
     /something else than was learned.*\["store","Int32_0",1,\d+\]; and now it does: \[/);
   const other = moduleOf(context, LOADS(deep));
-  assert.deepEqual((await everySchedule({ ...FEW, module: other, seeds: 1 })).found, []);
+  assert.deepEqual((await everySchedule({ ...FEW_WORKERS, module: other, seeds: 1 })).found, []);
 });
 
 test("with new workers for each run they are as they were learned", async () => {
@@ -280,7 +277,7 @@ test("an agent that never comes back ends its thread", async (context) => {
 
 test("an agent that catches everything is broken off", async (context) => {
   const module = moduleOf(context, LOADS("for (;;) try { Atomics.add(words, 0, 1); } catch {}"));
-  const { closed, open } = await everySchedule({ ...FEW, module, seeds: 1, seconds: 1 });
+  const { closed, open } = await everySchedule({ ...FEW_WORKERS, module, seeds: 1, seconds: 1 });
   assert.equal(closed, false);
   assert.match(open ?? "", /^an agent .* alone didn't come back within 1 s: .* catches everything that is thrown$/);
 });
@@ -346,14 +343,14 @@ export const check = ([words, bytes]) => new Int32Array(words)[1] === 16 && new 
 test("a time that is over at any moment, or never", async (context) => {
   const waits = "if (self === 0) Atomics.wait(words, 0, 0, 500); else Atomics.notify(words, 0);";
   const module = moduleOf(context, LOADS(waits));
-  const early = await everySchedule({ ...FEW, module, seeds: 2 });
+  const early = await everySchedule({ ...FEW_WORKERS, module, seeds: 2 });
   assert.deepEqual(early.found, []);
-  const never = await everySchedule({ ...FEW, module, timeouts: "never", seeds: 2 });
+  const never = await everySchedule({ ...FEW_WORKERS, module, timeouts: "never", seeds: 2 });
   assert.deepEqual(never.found.map(({ kind }) => kind), ["deadlock"]);
   const none = moduleOf(context, LOADS("if (self === 0) Atomics.wait(words, 0, 0, 0);"));
   const endless = { module: none, timeouts: /** @type {const} */ ("never"), seeds: 2 };
   await assert.rejects(everySchedule(endless), /waits for 0 ms, .*, at agents\.mjs:5/);
-  assert.deepEqual((await everySchedule({ ...FEW, module: none, seeds: 2 })).found, []);
+  assert.deepEqual((await everySchedule({ ...FEW_WORKERS, module: none, seeds: 2 })).found, []);
 });
 
 test("an agent that changes the language's own objects isn't as it was learned", async (context) => {

@@ -6,7 +6,7 @@ import { join } from "node:path";
 import { fileURLToPath } from "node:url";
 import { describe, it } from "node:test";
 import { UNSEEN_LINE } from "../../lib/run/trace.mjs";
-import { agentsPath, commandThere, temporaryFolder } from "../helpers/common.mjs";
+import { FEW_WORKERS, agentsPath, commandThere, temporaryFolder } from "../helpers/common.mjs";
 import { groupOf } from "../helpers/groups.mjs";
 import { CHECKING } from "../helpers/needs.mjs";
 import { recorded } from "../helpers/recorded.mjs";
@@ -29,9 +29,6 @@ function seenEventsOf(trace) {
   assert.ok(trace.startsWith(UNSEEN_LINE));
   return eventsOf(trace.slice(UNSEEN_LINE.length));
 }
-
-/** Without pilots, half as many workers are needed. */
-const FEW_WORKERS = { agents: 2, everywhere: true };
 
 describe("traces", { concurrency: 2 }, () => {
   it("beside the script of a racing run lies its trace, in which the same races are found", async (context) => {
