@@ -1,7 +1,7 @@
 // What modules leave with merged moments and without, as a thread of its own learns it.
 
 import { Worker } from "node:worker_threads";
-import graphFlags from "../lib/program/graph-flags.cjs";
+import graphFlags from "../lib/program/node/graph-flags.cjs";
 
 /** @param {object} workerData of `merging-worker.mjs` @returns {Promise<any[]>} a result for each module */
 export const compared = (workerData) => new Promise((done, fail) => {

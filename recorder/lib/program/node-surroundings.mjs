@@ -6,40 +6,26 @@ import threads from "node:worker_threads";
 import { member } from "../agent/ordinary/patch.mjs";
 import { defineProperty } from "../primordials.mjs";
 import { HERE } from "../processes/platform.cjs";
-import { broadcastClass } from "./broadcast.mjs";
-import { Ends } from "./ends.mjs";
-import { installThreads } from "./install.mjs";
-import { lockManager } from "./locks.mjs";
-import { received } from "./message-values.mjs";
-import { NodePorts, servePorts } from "./port-events.mjs";
-import { KIND, channelClass, receiverOf } from "./ports.mjs";
-import { envOf, ignoringCase } from "./process-env.mjs";
-import { ProgramModules } from "./program-modules.mjs";
-import { argvOf, evaluatedProgram } from "./start.mjs";
-import { beginStdio, clearStdio } from "./stdio.mjs";
-import { workerClass } from "./workers.mjs";
+import { broadcastClass } from "./ports/broadcast.mjs";
+import { Ends } from "./workers/ends.mjs";
+import { installThreads } from "./thread/install.mjs";
+import { lockManager } from "./locks/locks.mjs";
+import { received } from "./ports/message-values.mjs";
+import { NodePorts, servePorts } from "./ports/port-events.mjs";
+import { KIND, channelClass, receiverOf } from "./ports/ports.mjs";
+import { envOf, ignoringCase } from "./workers/process-env.mjs";
+import { ProgramModules } from "./modules/program-modules.mjs";
+import { argvOf, evaluatedProgram } from "./modules/start.mjs";
+import { beginStdio, clearStdio } from "./workers/stdio.mjs";
+import { workerClass } from "./workers/workers.mjs";
 
 /** The program is no test that a runner of tests has started, also if the recorder is one. */
 const { NODE_TEST_CONTEXT: _, ...firstEnv } = process.env;
 
-/** @typedef {{ begin(): void }} ProgramGraph a thread's modules; it forgets them for the next run */
+/** @typedef {import("./thread/thread-services.mjs").ThreadServices} ThreadServices */
+/** @typedef {import("./thread/thread-services.mjs").Surroundings} Surroundings */
 
-/**
- * @typedef {object} Surroundings what the code of a program's thread finds besides the language
- * @property {new (given: { refuse: (what: string, place?: string) => void }) => ProgramGraph} Graph makes the modules
- * @property {boolean} hasPhases whether the event loop has the phases of node's
- * @property {typeof Ends} Ends
- * @property {typeof import("./ports.mjs").Ports} Ports
- * @property {(agent: number) => typeof Atomics} atomics the engine's own functions, for a thread
- * @property {(ports: any) => void} serve puts methods in the place of those that the engine's ports have
- * @property {(parts: any, graph: any) => void} install is called once in a thread, when all else is replaced
- * @property {(main: import("./control-channels.mjs").MainChannels) => any} mainStart what the first thread is to run
- * @property {(parts: any, start: any, parentPort: any) => void} begin is called for each run
- * @property {(start: any, graph: any, parts: any) => Promise<unknown>} evaluated evaluates the thread's module
- * @property {(parts: any) => void} clear leaves nothing of a run
- */
-
-/** @param {import("./program-worker.mjs").ThreadServices} parts of a thread @param {ProgramModules} graph */
+/** @param {ThreadServices} parts of a thread @param {ProgramModules} graph */
 function install({ locks, ends }, graph) {
   graph.tests.onFailed = (failed) => ends.testFailed(failed);
   // Later versions of node have locks between threads.
@@ -52,8 +38,8 @@ function install({ locks, ends }, graph) {
 
 /**
  * Gives the thread's code what it is in a run.
- * @param {import("./program-worker.mjs").ThreadServices} parts
- * @param {import("./workers.mjs").WorkerStart} start
+ * @param {ThreadServices} parts
+ * @param {import("./workers/workers.mjs").WorkerStart} start
  * @param {any} parentPort null in the first thread
  */
 function begin(parts, start, parentPort) {

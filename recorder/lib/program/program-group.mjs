@@ -13,7 +13,7 @@ import { assumed } from "../options/table.mjs";
 import { FIRST_THREADS } from "../processes/first-workers.cjs";
 import { begunThread } from "../processes/thread.mjs";
 import { Group } from "../run/group.mjs";
-import { GRAPH_FLAGS } from "./graph-flags.cjs";
+import { GRAPH_FLAGS } from "./node/graph-flags.cjs";
 import { programMemory, programPlan } from "./program-memory.mjs";
 
 /** @typedef {import("../processes/thread.mjs").Thread} Thread */

@@ -30,34 +30,34 @@ import { Stores } from "../memory/stores.mjs";
 import { TaskNotes } from "../memory/task-notes.mjs";
 import { onceMore } from "../processes/garbage.mjs";
 import { SourceNames } from "../run/source-names.mjs";
-import { Awaits } from "./awaits.mjs";
-import { Buffers } from "./buffers.mjs";
-import { restoreBuiltins } from "./restored-builtins.mjs";
-import { Children } from "./children.mjs";
-import { installGrowing } from "./growing.mjs";
-import { UNKNOWN_PLACE, here, hereLater } from "./here.mjs";
-import { installCloning, installMemory, installProcess, keepProcess, restoreProcess } from "./install.mjs";
-import { countAnew, showFrames } from "./internals.mjs";
-import { IoPolling } from "./io-polling.mjs";
-import { Loop } from "./loop.mjs";
-import { Locks } from "./locks.mjs";
-import { ControlChannels } from "./control-channels.mjs";
-import { messageText } from "./message-text.mjs";
-import { installMicrotasks } from "./microtasks.mjs";
-import { Moves } from "./moves.mjs";
+import { Awaits } from "./modules/awaits.mjs";
+import { Buffers } from "./moves/buffers.mjs";
+import { restoreBuiltins } from "./thread/restored-builtins.mjs";
+import { Children } from "./real/children.mjs";
+import { installGrowing } from "./moves/growing.mjs";
+import { UNKNOWN_PLACE, here, hereLater } from "./thread/here.mjs";
+import { installCloning, installMemory, installProcess, keepProcess, restoreProcess } from "./thread/install.mjs";
+import { countAnew, showFrames } from "./node/internals.mjs";
+import { IoPolling } from "./real/io-polling.mjs";
+import { Loop } from "./loop/loop.mjs";
+import { Locks } from "./locks/locks.mjs";
+import { ControlChannels } from "./moves/control-channels.mjs";
+import { messageText } from "./ports/message-text.mjs";
+import { installMicrotasks } from "./loop/microtasks.mjs";
+import { Moves } from "./moves/moves.mjs";
 import { NODE } from "./node-surroundings.mjs";
 import { PortTable } from "../board/port-table.mjs";
-import { forgetError, lastError, printAtOnce } from "./printing.mjs";
-import { turnLater } from "./real-loop.mjs";
-import { RealWork } from "./real-work.mjs";
-import { installInput } from "./stdio.mjs";
-import { refuseRest } from "./node-api-policy.mjs";
-import { takenStart, threadName } from "./thread-start.mjs";
-import { Threads } from "./threads.mjs";
-import { Timers } from "./timers.mjs";
-import { putAllSyncVersions } from "./all-sync-versions.mjs";
-import { leaveOf } from "./unwinding.mjs";
-import { WaitAsync } from "./wait-async.mjs";
+import { forgetError, lastError, printAtOnce } from "./thread/printing.mjs";
+import { turnLater } from "./real/real-loop.mjs";
+import { RealWork } from "./real/real-work.mjs";
+import { installInput } from "./workers/stdio.mjs";
+import { refuseRest } from "./node/node-api-policy.mjs";
+import { takenStart, threadName } from "./workers/thread-start.mjs";
+import { Threads } from "./moves/threads.mjs";
+import { Timers } from "./loop/timers.mjs";
+import { putAllSyncVersions } from "./sync/all-sync-versions.mjs";
+import { leaveOf } from "./thread/unwinding.mjs";
+import { WaitAsync } from "./moves/wait-async.mjs";
 import { installWebAssembly } from "./wasm/wasm-modules.mjs";
 import { WEB } from "./web/surroundings.mjs";
 
@@ -74,8 +74,8 @@ const { Error: EngineError } = globalThis;
  * @property {import("../board/strategy.mjs").Rules} rules
  */
 
-/** @typedef {import("./thread-start.mjs").ThreadStart} ThreadStart */
-/** @typedef {import("./sync-calls.mjs").SyncVersionContext["later"]} RunLater */
+/** @typedef {import("./workers/thread-start.mjs").ThreadStart} ThreadStart */
+/** @typedef {import("./thread/thread-services.mjs").ThreadServices} ThreadServices */
 
 const { port, origin, web, isRelaxed, memory: shared, plan, rules } =
   /** @type {ProgramWorkerData} */ (threads.workerData);
@@ -192,21 +192,22 @@ const nextMessage = () => new Promise((done) => port.once("message", done));
  * @param {Player} player
  * @param {Blocks} blocks
  * @param {ControlChannels} control
+ * @returns {ThreadServices}
  */
 function partsOf(player, blocks, control) {
   const { agent, context: { board, log } } = player;
   const moves = new Moves(player, shared.buffers[MESSAGES]);
   const began = (/** @type {number} */ block) => blocks.begins(block, agent, log.length);
-  /** @type {import("./buffers.mjs").BufferCallbacks["named"]} */
+  /** @type {import("./moves/buffers.mjs").BufferCallbacks["named"]} */
   const named = (block, place, count) => nameBlock(player, block, place, count);
   const buffers = new Buffers(blocks, control, { seen: watching.seen, refuse, named, began });
   const table = new PortTable(shared.ports);
   const all = new Threads(agent, board, table, moves);
-  /** @type {import("./unwinding.mjs").DeferredServices} */
+  /** @type {import("./thread/unwinding.mjs").DeferredServices} */
   const late = {};
-  const later = /** @type {RunLater} */ ((name, act, place) => late.loop?.later(name, act, place));
+  const later = /** @type {ThreadServices["later"]} */ ((name, act, place) => late.loop?.later(name, act, place));
   const notes = new TaskNotes(shared.tasks);
-  /** @type {import("./ends.mjs").Leaving["note"]} */
+  /** @type {import("./workers/ends.mjs").Leaving["note"]} */
   const note = (text, place) => late.loop?.note(text, place);
   const noted = notingOf(board, notes);
   const around = { here, hereLater, refuse, later, note, noted, late };
@@ -232,8 +233,6 @@ function partsOf(player, blocks, control) {
     threadTexts, here, refuse, real, spawned, isShown,
   };
 }
-
-/** @typedef {ReturnType<typeof partsOf>} ThreadServices */
 
 /** @param {ThreadServices} parts */
 function installReplacements({ moves, buffers, waits, ends, ports, later, late, spawned, isShown }) {
@@ -266,7 +265,7 @@ function installReplacements({ moves, buffers, waits, ends, ports, later, late, 
   keepProcess();
 }
 
-/** @param {Board} board @param {TaskNotes} notes @returns {import("./ports.mjs").PortContext["noted"]} */
+/** @param {Board} board @param {TaskNotes} notes @returns {import("./ports/ports.mjs").PortContext["noted"]} */
 const notingOf = (board, notes) => (number, kind, value) => {
   if (board.words[WORD.NOTES_SOURCES] === 1) notes.noteMessage(number, messageText(kind, value));
 };
@@ -294,7 +293,7 @@ function printedName() {
 /**
  * Begins the thread's part in a run.
  * @param {ThreadServices} parts
- * @param {import("./node-surroundings.mjs").ProgramGraph} graph
+ * @param {import("./thread/thread-services.mjs").ProgramGraph} graph
  */
 function begin(parts, graph) {
   const { moves: { agent, board }, control, ends, threadTexts, loop } = parts;
@@ -340,7 +339,7 @@ function clear(parts) {
 /**
  * Awaits the thread's next part in a run, and begins it. It is called by the real loop.
  * @param {ThreadServices} parts
- * @param {import("./node-surroundings.mjs").ProgramGraph} graph
+ * @param {import("./thread/thread-services.mjs").ProgramGraph} graph
  */
 function serve(parts, graph) {
   const { agent, player, board } = parts.moves;

@@ -6,7 +6,7 @@ const { fork } = require("node:child_process");
 const { fileURLToPath, pathToFileURL } = require("node:url");
 const { FIRST_THREADS, firstWorkers } = require("../processes/first-workers.cjs");
 const { HERE } = require("../processes/platform.cjs");
-const { GRAPH_FLAGS } = require("../program/graph-flags.cjs");
+const { GRAPH_FLAGS } = require("../program/node/graph-flags.cjs");
 
 const own = pathToFileURL(__filename);
 const PROGRAM = fileURLToPath(new URL("../processes/own-process.cjs", own));

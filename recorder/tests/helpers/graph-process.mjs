@@ -2,7 +2,7 @@
 // each run of each program printed, and what was refused.
 
 import util from "node:util";
-import { ProgramModules } from "../../lib/program/program-modules.mjs";
+import { ProgramModules } from "../../lib/program/modules/program-modules.mjs";
 
 const [programs, runs] = process.argv.slice(2).map((word) => JSON.parse(word));
 const graph = new ProgramModules({ refuse: () => {} });

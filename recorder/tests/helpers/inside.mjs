@@ -2,7 +2,7 @@
 
 import { test } from "node:test";
 import { Worker, isMainThread, parentPort, workerData } from "node:worker_threads";
-import { GRAPH_FLAGS } from "../../lib/program/graph-flags.cjs";
+import { GRAPH_FLAGS } from "../../lib/program/node/graph-flags.cjs";
 
 /**
  * @param {URL} url of a module that exports `cases`, an object of functions by the tests' names

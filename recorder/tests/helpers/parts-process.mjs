@@ -2,11 +2,11 @@
 // loop is simple: a task, else an immediate, else a timer, else the clock goes on. Prints each run's lines as JSON.
 
 import util from "node:util";
-import { putAllSyncVersions } from "../../lib/program/all-sync-versions.mjs";
-import { ProgramModules } from "../../lib/program/program-modules.mjs";
-import { turnLater } from "../../lib/program/real-loop.mjs";
-import { refuseRest } from "../../lib/program/node-api-policy.mjs";
-import { Timers } from "../../lib/program/timers.mjs";
+import { putAllSyncVersions } from "../../lib/program/sync/all-sync-versions.mjs";
+import { ProgramModules } from "../../lib/program/modules/program-modules.mjs";
+import { turnLater } from "../../lib/program/real/real-loop.mjs";
+import { refuseRest } from "../../lib/program/node/node-api-policy.mjs";
+import { Timers } from "../../lib/program/loop/timers.mjs";
 
 const [url, runs] = process.argv.slice(2);
 const { log } = console;

@@ -6,9 +6,9 @@ import { AsyncLocalStorage } from "node:async_hooks";
 import { once } from "node:events";
 import { isDeepStrictEqual } from "node:util";
 import { Worker } from "node:worker_threads";
-import { countAnew, leaveContexts } from "../../lib/program/internals.mjs";
-import { turnLater } from "../../lib/program/real-loop.mjs";
-import { Timers } from "../../lib/program/timers.mjs";
+import { countAnew, leaveContexts } from "../../lib/program/node/internals.mjs";
+import { turnLater } from "../../lib/program/real/real-loop.mjs";
+import { Timers } from "../../lib/program/loop/timers.mjs";
 import { BY_NODE, SCENARIOS, TIMERS } from "./timer-scenarios.mjs";
 
 const own = TIMERS;

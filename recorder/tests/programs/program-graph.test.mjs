@@ -7,7 +7,7 @@ import { join } from "node:path";
 import { test } from "node:test";
 import { fileURLToPath, pathToFileURL } from "node:url";
 import { Worker } from "node:worker_threads";
-import { GRAPH_FLAGS } from "../../lib/program/graph-flags.cjs";
+import { GRAPH_FLAGS } from "../../lib/program/node/graph-flags.cjs";
 import { fileIn, jsonOf, nodeThere, temporaryFolder } from "../helpers/common.mjs";
 import { programIn } from "../helpers/whole-programs.mjs";
 
@@ -457,7 +457,7 @@ test("graphs that are over are garbage: memory and time of a run stay", async ()
     exports.later = () => import("./d.mjs");`, "d.mjs": `export const d = 3;`,
   });
   const url = pathToFileURL(join(folder, "memory/main.mjs")).href;
-  const own = (name) => JSON.stringify(new URL(`../../lib/program/${name}.mjs`, import.meta.url));
+  const own = (name) => JSON.stringify(new URL(`../../lib/program/modules/${name}.mjs`, import.meta.url));
   const code = `
     import { ProgramModules } from ${own("program-modules")};
     const graph = new ProgramModules({ refuse: () => {} });

@@ -4,7 +4,7 @@
 import assert from "node:assert/strict";
 import { describe, it } from "node:test";
 import { fileURLToPath, pathToFileURL } from "node:url";
-import { GRAPH_FLAGS } from "../../lib/program/graph-flags.cjs";
+import { GRAPH_FLAGS } from "../../lib/program/node/graph-flags.cjs";
 import { MOST_GROUP_RUNS } from "../../lib/program/program-group.mjs";
 import { jsonOf, nodeThere } from "../helpers/common.mjs";
 import { programGroup } from "../helpers/groups.mjs";

@@ -3,7 +3,7 @@
 import assert from "node:assert/strict";
 import { dirname, join } from "node:path";
 import { test } from "node:test";
-import { namedLines } from "../../lib/program/printing.mjs";
+import { namedLines } from "../../lib/program/thread/printing.mjs";
 import { commandNow, nodeNow } from "../helpers/common.mjs";
 import { WORKER, mainWith, programOf } from "../helpers/whole-programs.mjs";
 

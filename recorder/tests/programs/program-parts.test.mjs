@@ -4,7 +4,7 @@
 import assert from "node:assert/strict";
 import { test } from "node:test";
 import { fileURLToPath, pathToFileURL } from "node:url";
-import { GRAPH_FLAGS } from "../../lib/program/graph-flags.cjs";
+import { GRAPH_FLAGS } from "../../lib/program/node/graph-flags.cjs";
 import { jsonOf, nodeThere } from "../helpers/common.mjs";
 import { programOf } from "../helpers/whole-programs.mjs";
 

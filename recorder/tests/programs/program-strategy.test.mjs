@@ -11,7 +11,7 @@ import { placeNumber } from "../../lib/memory/known-places.mjs";
 import { LOOP, PHASE } from "../../lib/memory/layout.mjs";
 import { FLAG } from "../../lib/memory/log.mjs";
 import { byteOf } from "../../lib/memory/recorded-memory.mjs";
-import { Moves, TO_CHANNELS, toPort } from "../../lib/program/moves.mjs";
+import { Moves, TO_CHANNELS, toPort } from "../../lib/program/moves/moves.mjs";
 import { emptyMemory } from "../helpers/boards.mjs";
 import { seedsTo } from "../helpers/recorded.mjs";
 import { startedBoard } from "../helpers/started-boards.mjs";

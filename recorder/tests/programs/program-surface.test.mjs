@@ -5,8 +5,8 @@ import Module, { createRequire } from "node:module";
 import { test } from "node:test";
 import { fileURLToPath } from "node:url";
 import { LATER, isSince } from "../../lib/processes/node-versions.mjs";
-import { GLOBALS, METHODS, MODULES, SCHEME_MODULES } from "../../lib/program/node-api-table.mjs";
-import { apiPolicyOf, globalPolicyOf, refuseRest, unknownNames } from "../../lib/program/node-api-policy.mjs";
+import { GLOBALS, METHODS, MODULES, SCHEME_MODULES } from "../../lib/program/node/node-api-table.mjs";
+import { apiPolicyOf, globalPolicyOf, refuseRest, unknownNames } from "../../lib/program/node/node-api-policy.mjs";
 import { jsonOf, nodeNow } from "../helpers/common.mjs";
 import { withShell } from "../helpers/needs.mjs";
 import { whereNodeHasIt } from "../helpers/where-node-has-it.mjs";
@@ -93,8 +93,8 @@ test("kinds are found with and without node:", () => {
 
 /** Runs code in a process of its own in which the rest is refused; `used` has the names of what the machine answers. */
 function inProcess(code) {
-  const policy = new URL("../../lib/program/node-api-policy.mjs", import.meta.url).href;
-  const table = new URL("../../lib/program/node-api-table.mjs", import.meta.url).href;
+  const policy = new URL("../../lib/program/node/node-api-policy.mjs", import.meta.url).href;
+  const table = new URL("../../lib/program/node/node-api-table.mjs", import.meta.url).href;
   const all = `
     import { apiPolicyOf, globalPolicyOf, refuseRest } from ${JSON.stringify(policy)};
     import Module, { createRequire } from "node:module";

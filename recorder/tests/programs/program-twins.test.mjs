@@ -12,7 +12,7 @@ import { pipeline as piped } from "node:stream/promises";
 import { test } from "node:test";
 import timers from "node:timers";
 import util from "node:util";
-import { putSyncVersions } from "../../lib/program/sync-versions.mjs";
+import { putSyncVersions } from "../../lib/program/sync/sync-versions.mjs";
 
 const { setImmediate: turn } = timers;
 const { mkdtempSync, realpathSync, rmSync, writeFileSync, readFileSync, mkdirSync } = fs;

@@ -7,7 +7,7 @@ import { dirname, join } from "node:path";
 import { after, before, describe, it, test } from "node:test";
 import { pathToFileURL } from "node:url";
 import { checkedBy } from "../../lib/check/check.mjs";
-import { GRAPH_FLAGS } from "../../lib/program/graph-flags.cjs";
+import { GRAPH_FLAGS } from "../../lib/program/node/graph-flags.cjs";
 import { simulatorAt } from "../../lib/simulator/chosen.mjs";
 import { record } from "../../recorder.mjs";
 import { assertProgram } from "../../testing.mjs";

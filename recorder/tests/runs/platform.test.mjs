@@ -19,8 +19,8 @@ import { onceFree } from "../../lib/keeping/once-free.mjs";
 import { endRest } from "../../lib/processes/group-end.mjs";
 import { POSIX, WINDOWS } from "../../lib/processes/platform.cjs";
 import { readAll } from "../../lib/processes/read-all.mjs";
-import { GRAPH_FLAGS } from "../../lib/program/graph-flags.cjs";
-import { ignoringCase } from "../../lib/program/process-env.mjs";
+import { GRAPH_FLAGS } from "../../lib/program/node/graph-flags.cjs";
+import { ignoringCase } from "../../lib/program/workers/process-env.mjs";
 import { SourceNames } from "../../lib/run/source-names.mjs";
 import { startJob } from "../../lib/seeds/start-job.cjs";
 import { keptFolder } from "../../lib/suite/kept-folder.mjs";
@@ -248,7 +248,7 @@ test("what is left of a job is ended by its group, and never by the number of a 
 test("how long a program's children are waited for is the machine's time, and not the run's", () => {
   const { status, stdout, stderr } = ranBy(`import { spawn } from "node:child_process";
 import { simulateTime } from "${urlOf("lib/agent/time.mjs")}";
-import { Children } from "${urlOf("lib/program/children.mjs")}";
+import { Children } from "${urlOf("lib/program/real/children.mjs")}";
 const children = new Children({ add() {}, remove() {} }, () => false);
 children.install();
 const begun = process.hrtime.bigint;
@@ -270,7 +270,7 @@ test("where there is an lchmod, a program's calls of it are made at once", () =>
   const { status, stdout, stderr } = ranBy(`import fs from "node:fs";
 fs.lchmod = () => console.log("by a thread of node's own");
 fs.lchmodSync = (...given) => console.log("at once", ...given);
-const { putFiles } = await import("${urlOf("lib/program/sync-files.mjs")}");
+const { putFiles } = await import("${urlOf("lib/program/sync/sync-files.mjs")}");
 putFiles({ later: (name, act) => setImmediate(act), isPlaying: () => true });
 fs.lchmod("file", 0o600, (error) => console.log("then", error));`, GRAPH_FLAGS);
   assert.deepEqual([status, stdout], [0, "at once file 384\nthen null\n"], stderr);

@@ -7,7 +7,7 @@ import { fileURLToPath } from "node:url";
 import { Script } from "node:vm";
 import { Refused } from "../../options/refused.mjs";
 import { defineProperty } from "../../primordials.mjs";
-import { parseScript, resolveModule } from "../../program/internals.mjs";
+import { parseScript, resolveModule } from "../../program/node/internals.mjs";
 import { rewritten } from "../rewriting/rewrite.mjs";
 
 /** @typedef {import("../rewriting/rewrite.mjs").Rewritten} Rewritten */

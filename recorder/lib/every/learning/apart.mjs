@@ -1,7 +1,7 @@
 // Has agents learned in threads of their own, and ends a thread in which an agent never comes back.
 
 import { begunThread } from "../../processes/thread.mjs";
-import { GRAPH_FLAGS } from "../../program/graph-flags.cjs";
+import { GRAPH_FLAGS } from "../../program/node/graph-flags.cjs";
 import { Refused } from "../../options/refused.mjs";
 import { PART, PROGRESS } from "./learning-progress.mjs";
 

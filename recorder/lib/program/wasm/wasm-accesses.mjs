@@ -35,7 +35,7 @@ function demandAligned(at, size) {
  * @typedef {object} WasmAccessContext what accesses need of their thread
  * @property {any} atomics those of the run
  * @property {import("../../agent/ordinary/context.mjs").Watching["seen"]} seen
- * @property {import("../buffers.mjs").Buffers} buffers
+ * @property {import("../moves/buffers.mjs").Buffers} buffers
  * @property {(memory: any, pages: number) => number} grow makes a memory longer, and returns how many pages it had
  * @property {(memory: any) => SharedArrayBuffer} ask returns a memory's buffer; that is a move, if the memory can grow
  * @property {boolean} isRelaxed whether plain aligned accesses are relaxed ones

@@ -7,7 +7,7 @@ import { FIRST_MORE } from "../../memory/more-blocks.mjs";
 import {
   apply, construct, create, freeze, mapGet, mapSet, ownKeys, proxyOf, put, uncurried, weakGet, weakSet,
 } from "../../primordials.mjs";
-import { Buffers, MOST_GROWTH, bufferIn } from "../buffers.mjs";
+import { Buffers, MOST_GROWTH, bufferIn } from "../moves/buffers.mjs";
 import { WasmAccesses } from "./wasm-accesses.mjs";
 import { ByteReader } from "./bytes.mjs";
 import { glueBytes } from "./glue.mjs";
@@ -28,8 +28,8 @@ const OWN_NAMES = freeze(Object.values(OWN));
 
 /**
  * @typedef {object} WasmContext what WebAssembly needs of its thread
- * @property {import("../buffers.mjs").Buffers} buffers
- * @property {import("../moves.mjs").Moves} moves
+ * @property {import("../moves/buffers.mjs").Buffers} buffers
+ * @property {import("../moves/moves.mjs").Moves} moves
  * @property {any} atomics those of the run
  * @property {import("./wasm-accesses.mjs").WasmAccessContext["seen"]} seen
  * @property {() => string | undefined} here where the program's code is

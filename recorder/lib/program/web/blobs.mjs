@@ -2,8 +2,8 @@
 // URL ends with the thread that has made it.
 
 import { defineProperty } from "../../primordials.mjs";
-import { isBlob } from "../internals.mjs";
-import { bytesOf } from "../sync-blobs.mjs";
+import { isBlob } from "../node/internals.mjs";
+import { bytesOf } from "../sync/sync-blobs.mjs";
 
 const { TypeError: EngineTypeError, URL: EngineURL } = globalThis;
 
@@ -20,9 +20,9 @@ export class Blobs {
   /**
    * One for each thread.
    * @param {object} parts
-   * @param {import("../control-channels.mjs").ControlChannels} parts.control
-   * @param {import("../moves.mjs").Moves} parts.moves
-   * @param {import("../threads.mjs").Threads} parts.threads
+   * @param {import("../moves/control-channels.mjs").ControlChannels} parts.control
+   * @param {import("../moves/moves.mjs").Moves} parts.moves
+   * @param {import("../moves/threads.mjs").Threads} parts.threads
    */
   constructor({ control, moves, threads }) {
     this.control = control;

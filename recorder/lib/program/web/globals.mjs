@@ -1,9 +1,11 @@
 // The global object of a thread of a browser: what only node has is taken away, and what browsers have is put there.
 
 import { apply, deleteProperty, likeEngine, put, setPrototypeOf } from "../../primordials.mjs";
-import { lockManager } from "../locks.mjs";
+import { lockManager } from "../locks/locks.mjs";
 import { hide } from "./hidden.mjs";
 import { ErrorEvent, PromiseRejectionEvent, putHandler, putMethods } from "./targets.mjs";
+
+/** @typedef {import("../thread/thread-services.mjs").ThreadServices} ThreadServices */
 
 const EngineTarget = EventTarget;
 const EngineException = DOMException;
@@ -71,10 +73,7 @@ class IdleDeadline {
 }
 put(IdleDeadline.prototype, Symbol.toStringTag, "IdleDeadline");
 
-/**
- * @param {import("../program-worker.mjs").ThreadServices} parts of a page: what it does when it is idle is a task of
- * its own
- */
+/** @param {ThreadServices} parts of a page: what it does when it is idle is a task of its own */
 function putIdle({ later, moves: { board: { clock } } }) {
   const cancelled = new Set();
   let made = 0;
@@ -108,7 +107,7 @@ function scriptUrl(given) {
 
 /**
  * What a worker's scope has, and a page doesn't.
- * @param {import("../program-worker.mjs").ThreadServices & { ends: import("./web-ends.mjs").WebEnds }} parts
+ * @param {ThreadServices & { ends: import("./web-ends.mjs").WebEnds }} parts
  * @param {import("./targets.mjs").Targets} targets
  * @param {(url: string) => void} run runs a script in the global scope
  */
@@ -131,7 +130,7 @@ let type = "module";
 
 /**
  * Makes the global object that of a browser: once in a thread.
- * @param {import("../program-worker.mjs").ThreadServices & { ends: import("./web-ends.mjs").WebEnds }} parts
+ * @param {ThreadServices & { ends: import("./web-ends.mjs").WebEnds }} parts
  * @param {import("./targets.mjs").Targets} targets
  * @param {(url: string) => void} run runs a script in the global scope
  */

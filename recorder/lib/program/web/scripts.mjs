@@ -3,7 +3,7 @@
 // variables, in the same lines, and after a run the global object is as it was before.
 
 import vm from "node:vm";
-import { importsByLoader, parseScript } from "../internals.mjs";
+import { importsByLoader, parseScript } from "../node/internals.mjs";
 
 const { Script } = /** @type {any} */ (vm);
 

@@ -3,7 +3,7 @@
 
 import { apply } from "../../primordials.mjs";
 import { member } from "../../agent/ordinary/patch.mjs";
-import { KIND, channelClass } from "../ports.mjs";
+import { KIND, channelClass } from "../ports/ports.mjs";
 import { Blobs } from "./blobs.mjs";
 import { WebEnds } from "./web-ends.mjs";
 import { fetchOf } from "./fetch.mjs";
@@ -17,7 +17,7 @@ const { wait: engineWait } = Atomics;
 
 /** @typedef {import("./worker-object.mjs").WebStart} WebStart */
 /** @typedef {{ ends: WebEnds, ports: WebPorts, blobs: Blobs }} WebServices */
-/** @typedef {import("../program-worker.mjs").ThreadServices & WebServices} WebParts */
+/** @typedef {import("../thread/thread-services.mjs").ThreadServices & WebServices} WebParts */
 
 /** @param {number} agent @returns {typeof Atomics} the engine's own; in a page `wait` throws, as the engine's does */
 function atomicsOf(agent) {
@@ -90,7 +90,7 @@ async function evaluated({ url, type, content }, graph, { ports, ends }) {
   }
 }
 
-/** @type {import("../node-surroundings.mjs").Surroundings} */
+/** @type {import("../thread/thread-services.mjs").Surroundings} */
 export const WEB = {
   Graph: WebModuleGraph,
   hasPhases: false,

@@ -5,9 +5,9 @@
 import process from "node:process";
 import { described } from "../../agent/described.mjs";
 import { WORD } from "../../memory/layout.mjs";
-import { Ends } from "../ends.mjs";
-import { leaveContexts } from "../internals.mjs";
-import { KIND } from "../ports.mjs";
+import { Ends } from "../workers/ends.mjs";
+import { leaveContexts } from "../node/internals.mjs";
+import { KIND } from "../ports/ports.mjs";
 import { ErrorEvent, PromiseRejectionEvent } from "./targets.mjs";
 
 /**

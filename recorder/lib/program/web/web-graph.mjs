@@ -3,9 +3,9 @@
 
 import { methodOf, replaceNeeded } from "../../agent/ordinary/patch.mjs";
 import { apply } from "../../primordials.mjs";
-import { FreshModules } from "../fresh-modules.mjs";
-import { ModuleWrap } from "../internals.mjs";
-import { nodeError } from "../node-error.mjs";
+import { FreshModules } from "../modules/fresh-modules.mjs";
+import { ModuleWrap } from "../node/internals.mjs";
+import { nodeError } from "../node/node-error.mjs";
 import { Scripts, placeOfImport } from "./scripts.mjs";
 
 const EngineException = DOMException;
@@ -22,7 +22,7 @@ const IS_URL = /^(?:\.{0,2}\/|file:)/;
 /** @param {string | Uint8Array} source @returns {string} */
 const textOf = (source) => (typeof source === "string" ? source : new EngineDecoder().decode(source));
 
-/** @typedef {import("../fresh-modules.mjs").ModuleContext} ModuleContext */
+/** @typedef {import("../modules/fresh-modules.mjs").ModuleContext} ModuleContext */
 
 /** @type {ModuleContext} */
 const MODULE = Object.freeze({ format: "module" });

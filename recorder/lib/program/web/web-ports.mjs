@@ -3,10 +3,10 @@
 
 import threads from "node:worker_threads";
 import { deleteProperty, getPrototypeOf, put } from "../../primordials.mjs";
-import { DELIVER, broadcastClass } from "../broadcast.mjs";
-import { QueuedPort } from "../known-ports.mjs";
-import { serveMethods } from "../port-events.mjs";
-import { Ports } from "../ports.mjs";
+import { DELIVER, broadcastClass } from "../ports/broadcast.mjs";
+import { QueuedPort } from "../ports/known-ports.mjs";
+import { serveMethods } from "../ports/port-events.mjs";
+import { Ports } from "../ports/ports.mjs";
 import { hide } from "./hidden.mjs";
 import { Targets, methodsOf, putHandler, putMethods } from "./targets.mjs";
 
@@ -21,7 +21,7 @@ const FOR_NODE = Object.freeze(["on", "ref", "unref"]);
 
 /**
  * A message as an event. Of one that can't be read, the event has no data.
- * @param {import("../ports.mjs").Envelope} envelope
+ * @param {import("../ports/ports.mjs").Envelope} envelope
  * @returns {Event}
  */
 export const eventOfMessage = ({ value, ports, isUnread }) => (isUnread
@@ -50,7 +50,7 @@ export class WebPorts extends Ports {
     return ready.filter((port) => port === first || !isChannel(port));
   }
 
-  /** @param {any} port @param {import("../ports.mjs").Envelope} envelope */
+  /** @param {any} port @param {import("../ports/ports.mjs").Envelope} envelope */
   give(port, envelope) {
     this.targets.dispatch(port, eventOfMessage(envelope));
   }
@@ -83,14 +83,14 @@ export function serveWebPorts(ports) {
 
 /**
  * The BroadcastChannel of the run, with the interface of the DOM.
- * @param {import("../broadcast.mjs").Casting} casting
+ * @param {import("../ports/broadcast.mjs").Casting} casting
  * @param {Targets} targets
  * @returns {Function} the class by which the program makes such channels
  */
 export function webBroadcastClass(casting, targets) {
   const Channel = /** @type {any} */ (broadcastClass(casting));
   class BroadcastChannel extends Channel {
-    /** @param {import("../ports.mjs").Envelope} envelope */
+    /** @param {import("../ports/ports.mjs").Envelope} envelope */
     [DELIVER](envelope) {
       targets.dispatch(this, eventOfMessage(envelope));
     }

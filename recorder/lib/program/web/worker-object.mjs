@@ -3,8 +3,8 @@
 // the Worker is made, also if the URL is revoked meanwhile.
 
 import { put } from "../../primordials.mjs";
-import { KIND } from "../ports.mjs";
-import { startThread } from "../thread-start.mjs";
+import { KIND } from "../ports/ports.mjs";
+import { startThread } from "../workers/thread-start.mjs";
 import { eventOfMessage } from "./web-ports.mjs";
 import { ErrorEvent, putHandler, putMethods } from "./targets.mjs";
 
@@ -31,7 +31,7 @@ const TYPES = Object.freeze(["classic", "module"]);
  * @property {string} base the URL from which others are taken
  */
 
-/** @typedef {import("../thread-start.mjs").StartContext & WebWorkerContext} WebStarting */
+/** @typedef {import("../workers/thread-start.mjs").StartContext & WebWorkerContext} WebStarting */
 
 /** @type {WebStarting | undefined} a thread has one part in a run */
 let starting;
@@ -94,7 +94,7 @@ class Worker extends EngineTarget {
     threads.end(this.#agent);
   }
 
-  /** @param {import("../ports.mjs").Envelope} envelope */
+  /** @param {import("../ports/ports.mjs").Envelope} envelope */
   #take(envelope) {
     if (!this.#isAlive) return;
     if (envelope.kind === KIND.MESSAGE) world().targets.dispatch(this, eventOfMessage(envelope));
