@@ -10,7 +10,7 @@ import { readFileSync, writeFileSync } from "node:fs";
 import { join } from "node:path";
 import { fileURLToPath } from "node:url";
 import { OPTIONS, optionWord, optionsOf, unlinked } from "../recorder/lib/options/table.mjs";
-import { digits } from "../recorder/lib/run/summary-words.mjs";
+import { digits } from "../recorder/lib/run/words/summary-words.mjs";
 
 const HERE = fileURLToPath(new URL("../", import.meta.url));
 const COLUMNS = 120;

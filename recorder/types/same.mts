@@ -15,7 +15,7 @@ import type {
   ExploreOptions, ProgramTrialOptions, TrialOptions, WithBuffers,
 } from "../lib/library/library-options.mjs";
 import type { Ending } from "../lib/run/outcome.mjs";
-import type { Side, RaceReport } from "../lib/run/race-reports.mjs";
+import type { Side, RaceReport } from "../lib/run/races/race-reports.mjs";
 import type { Shortened } from "../lib/shorter/shorten.mjs";
 import type { WholeSummary } from "../lib/command/summary-form.mjs";
 

@@ -2,7 +2,7 @@
 
 import { firstDifference } from "../../script/report.mjs";
 import { Log } from "../memory/log.mjs";
-import { traceText } from "../run/trace.mjs";
+import { traceText } from "../run/script/trace.mjs";
 import { NoSabsim } from "../simulator/native.mjs";
 import { Difference } from "./difference.mjs";
 

@@ -1,6 +1,6 @@
 // A line that shows how far a search of every schedule is, on a terminal only, and if it takes longer than a second.
 
-import { countText, digits } from "../run/summary-words.mjs";
+import { countText, digits } from "../run/words/summary-words.mjs";
 
 const SHOWN_AFTER_MILLISECONDS = 1_000;
 const BETWEEN_LINES_MILLISECONDS = 100;

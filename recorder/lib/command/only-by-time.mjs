@@ -1,12 +1,12 @@
 // Lost wake-ups that a time hides: waits that ended only because their time was up, of all runs that finished. If
 // nobody else notifies or writes the place in any run, the wait is a sleep, and isn't reported.
 
-import { durationText, waitPlaceKey } from "../run/timed-ends.mjs";
-import { countText, digits } from "../run/summary-words.mjs";
+import { durationText, waitPlaceKey } from "../run/ending/timed-ends.mjs";
+import { countText, digits } from "../run/words/summary-words.mjs";
 import { Tally } from "./tally.mjs";
 
-/** @typedef {import("../run/timed-ends.mjs").OnlyByTime} OnlyByTime */
-/** @typedef {import("../run/timed-ends.mjs").WaitPlace} WaitPlace */
+/** @typedef {import("../run/ending/timed-ends.mjs").OnlyByTime} OnlyByTime */
+/** @typedef {import("../run/ending/timed-ends.mjs").WaitPlace} WaitPlace */
 
 /**
  * @typedef {object} OnlyByTimeData as JSON

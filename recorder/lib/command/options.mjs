@@ -5,7 +5,7 @@ import { usageWords, versionLine } from "../keeping/program.mjs";
 import { nearest } from "../options/nearest.mjs";
 import { Refused } from "../options/refused.mjs";
 import { SEEDS_OF_ALL, defaultText, defaultsOf, optionWord, optionsOf as rowsOf, unlinked } from "../options/table.mjs";
-import { countText } from "../run/summary-words.mjs";
+import { countText } from "../run/words/summary-words.mjs";
 import { countOf, shardOf } from "../seeds/ranges.mjs";
 import { runFrom } from "./whole-program.mjs";
 

@@ -1,6 +1,6 @@
 // A line that shows how far the runs are, on a terminal only.
 
-import { digits } from "../run/summary-words.mjs";
+import { digits } from "../run/words/summary-words.mjs";
 
 const BETWEEN_LINES_MILLISECONDS = 100;
 

@@ -4,7 +4,7 @@
 import { basename } from "node:path";
 import { NoSuchPlace } from "../options/named-place.mjs";
 import { Refused } from "../options/refused.mjs";
-import { countText } from "../run/summary-words.mjs";
+import { countText } from "../run/words/summary-words.mjs";
 import { differingText, replayDifferenceText } from "../shorter/differing.mjs";
 import { idleMoves } from "../shorter/idle-moves.mjs";
 import { callNumbers, keptScript } from "../shorter/kept-script.mjs";

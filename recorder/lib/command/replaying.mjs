@@ -9,7 +9,7 @@ import { RunStore } from "../keeping/run-store.mjs";
 import { Refused } from "../options/refused.mjs";
 import { preloads } from "../processes/preloads.mjs";
 import { Job } from "../seeds/job.mjs";
-import { OTHER_INPUT } from "../run/summary-words.mjs";
+import { OTHER_INPUT } from "../run/words/summary-words.mjs";
 import { Runs } from "../seeds/runs.mjs";
 import { NoLongerTheSame } from "../shorter/differing.mjs";
 import { chosenProgram, simulatorAt } from "../simulator/chosen.mjs";

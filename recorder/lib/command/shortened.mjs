@@ -1,6 +1,6 @@
 // What is reported about the shortening of the run that is kept.
 
-import { countText, digits } from "../run/summary-words.mjs";
+import { countText, digits } from "../run/words/summary-words.mjs";
 
 /** @typedef {import("../seeds/job.mjs").ShortenedByJob} ShortenedByJob */
 /** @typedef {import("../shorter/shorten.mjs").BeforeAndAfter} BeforeAndAfter */

@@ -36,7 +36,7 @@
  * @property {number} failed
  * @property {Record<"failing" | "passing", { ending: string, runs: number, first: number }[]>} endings
  * @property {{ seed: number, ending: string, detail: string[], onlyIf: string | null, noScript: string | null,
- *   standing: import("../run/standing.mjs").Standing[] } | null} firstFailing
+ *   standing: import("../run/ending/standing.mjs").Standing[] } | null} firstFailing
  * @property {number} early how many of the failing runs fail only after the early end of a timed wait
  * @property {import("./only-by-time.mjs").OnlyByTimeData} onlyByTime
  * @property {number} threw how many of the runs that ended as `failed` threw

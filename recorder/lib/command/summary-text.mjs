@@ -1,8 +1,8 @@
 // The plain text of a summary. It is made from the object that `--format json` prints, and from nothing else.
 
 import { endingText, endingsText } from "../../page/endings.mjs";
-import { bytesText } from "../run/final-state.mjs";
-import { countText, digits, listed } from "../run/summary-words.mjs";
+import { bytesText } from "../run/ending/final-state.mjs";
+import { countText, digits, listed } from "../run/words/summary-words.mjs";
 import { rememberingText } from "../seeds/first-again.mjs";
 import { rangeText } from "../seeds/ranges.mjs";
 import { onlyByTimeLines } from "./only-by-time.mjs";

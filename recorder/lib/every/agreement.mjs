@@ -3,7 +3,7 @@
 
 import { SCRIPT_KINDS, SIZES } from "../../script/kinds.mjs";
 import { OF_STORES } from "../../script/written.mjs";
-import { unseenLine } from "../run/trace.mjs";
+import { unseenLine } from "../run/script/trace.mjs";
 import { DOES, isCall, isEnd } from "./search/nodes.mjs";
 import { World } from "./search/world.mjs";
 import { nodeAnswerText, callData, nodeText, AutomatonViews } from "./search/node-texts.mjs";

@@ -1,6 +1,6 @@
 // What is reported about every schedule of a module of agents, as an object of JSON.
 
-import { FinalStates } from "../run/final-state.mjs";
+import { FinalStates } from "../run/ending/final-state.mjs";
 
 /** @typedef {import("./every.mjs").EveryResult} EveryResult */
 /** @typedef {import("./learning/learning-report.mjs").LearningReport} LearningReport */

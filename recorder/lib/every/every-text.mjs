@@ -1,6 +1,6 @@
 // The plain text of what is reported about every schedule.
 
-import { countText, digits, listed } from "../run/summary-words.mjs";
+import { countText, digits, listed } from "../run/words/summary-words.mjs";
 
 /** @typedef {import("./data.mjs").EveryData} EveryData */
 /** @typedef {import("./data.mjs").FoundData} FoundData */

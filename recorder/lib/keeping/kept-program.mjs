@@ -9,7 +9,7 @@ import { MOST_DRAWS, moverOf } from "../board/drawn-schedule.mjs";
 import { Refused } from "../options/refused.mjs";
 import { OPTIONS, optionsOf } from "../options/table.mjs";
 import { HERE } from "../processes/platform.cjs";
-import { Windows } from "../run/windows.mjs";
+import { Windows } from "../run/windows/windows.mjs";
 import { rowOf, stretchesOf } from "../shorter/stretches.mjs";
 import { PROGRAM_ENDING } from "./run-store.mjs";
 

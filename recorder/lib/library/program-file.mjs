@@ -3,7 +3,7 @@
 import process from "node:process";
 import { Refused } from "../options/refused.mjs";
 import { preloads } from "../processes/preloads.mjs";
-import { COMPILE, TYPESCRIPT } from "../run/load-problem.mjs";
+import { COMPILE, TYPESCRIPT } from "../run/words/load-problem.mjs";
 
 /**
  * Refuses a program in TypeScript, if this node doesn't leave out its types. Code that was loaded first may do that.

@@ -29,7 +29,7 @@ import { Sources } from "../memory/sources.mjs";
 import { Stores } from "../memory/stores.mjs";
 import { TaskNotes } from "../memory/task-notes.mjs";
 import { onceMore } from "../processes/garbage.mjs";
-import { SourceNames } from "../run/source-names.mjs";
+import { SourceNames } from "../run/words/source-names.mjs";
 import { Awaits } from "./modules/awaits.mjs";
 import { Buffers } from "./moves/buffers.mjs";
 import { restoreBuiltins } from "./thread/restored-builtins.mjs";

@@ -1,7 +1,11 @@
 // What the referee of agents' runs knows besides the board: all agents of the plan take part, and a script can have all
 // of their memory. That of a program's runs knows more (program-state.mjs).
 
-/** @typedef {import("./in-windows.mjs").Written} Written */
+/** @typedef {import("./ending/final-state.mjs").MoreBytes} MoreBytes */
+/** @typedef {import("./windows/in-windows.mjs").Written} Written */
+/** @typedef {import("./windows/windows.mjs").Window} Window */
+/** @typedef {import("./words/program-names.mjs").ProgramNames} ProgramNames */
+/** @typedef {import("./words/source-names.mjs").SourceNames} SourceNames */
 
 /**
  * @typedef {object} RunState what a referee knows of its runs besides the board
@@ -12,16 +16,16 @@
  * @property {() => void} forget nothing is known about the memory of its runs
  * @property {() => number[]} learn a run has ended: returns the agents that took part
  * @property {(bytes: string[]) => string[]} own the bytes of the blocks that the code has made
- * @property {(detail: string, isFound: boolean, names: import("./source-names.mjs").SourceNames) => string} named how a
- * run ended, in which places that the recorder found are named; whether it found all that are there
- * @property {(ending: string, names: import("./source-names.mjs").SourceNames) => string[]} standstill in lines, which
- * agents have ended by themselves, and what keeps idle ones alive
- * @property {(made: Written, withNames: (text: string) => string, list?: import("./windows.mjs").Window[]) => Written |
- * undefined} inWindows a run as its script and its trace have it, if they can
+ * @property {(detail: string, isFound: boolean, names: SourceNames) => string} named how a run ended, in which places
+ * that the recorder found are named; whether it found all that are there
+ * @property {(ending: string, names: SourceNames) => string[]} standstill in lines, which agents have ended by
+ * themselves, and what keeps idle ones alive
+ * @property {(made: Written, withNames: (text: string) => string, list?: Window[]) => Written | undefined} inWindows a
+ * run as its script and its trace have it, if they can
  * @property {(written: Written | undefined) => string | undefined} whyNoScript why the run can't have one, if so
- * @property {() => import("./final-state.mjs").MoreBytes | undefined} moreBytes of blocks that no script can have
- * @property {(withNames: (text: string) => string) => import("./program-names.mjs").ProgramNames | undefined} names of
- * its threads and blocks, if they have some
+ * @property {() => MoreBytes | undefined} moreBytes of blocks that no script can have
+ * @property {(withNames: (text: string) => string) => ProgramNames | undefined} names of its threads and blocks, if
+ * they have some
  */
 
 /**

@@ -14,7 +14,7 @@ import { framesOf } from "../processes/place-of-thread.mjs";
 import { begunThread } from "../processes/thread.mjs";
 import { within } from "../processes/within.mjs";
 import { problemIn } from "./given-calls.mjs";
-import { loadProblem } from "./load-problem.mjs";
+import { loadProblem } from "./words/load-problem.mjs";
 import { RefereeThread } from "./referee-thread.mjs";
 import { TextMaker } from "./run-snapshot.mjs";
 

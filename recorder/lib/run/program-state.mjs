@@ -6,12 +6,12 @@ import { Blocks, FEW_MESSAGES, MESSAGES, MESSAGE_PLACES, MOST_BLOCKS, MOST_BYTES
 import { ThreadTexts } from "../memory/thread-texts.mjs";
 import { WORD } from "../memory/layout.mjs";
 import { TaskNotes } from "../memory/task-notes.mjs";
-import { thrownIn } from "./failure.mjs";
-import { moreBytesOf } from "./final-state.mjs";
-import { inWindows, windowsOf } from "./in-windows.mjs";
-import { blockNames } from "./program-names.mjs";
-import { PAGE_BYTES, Windows } from "./windows.mjs";
-import { digits } from "./summary-words.mjs";
+import { thrownIn } from "./ending/failure.mjs";
+import { moreBytesOf } from "./ending/final-state.mjs";
+import { inWindows, windowsOf } from "./windows/in-windows.mjs";
+import { blockNames } from "./words/program-names.mjs";
+import { PAGE_BYTES, Windows } from "./windows/windows.mjs";
+import { digits } from "./words/summary-words.mjs";
 
 const CUT = "a thread was terminated while it waited, which no script can have: sabsim judges only the trace of such a "
   + "run";
@@ -35,7 +35,7 @@ const CROWDED = `it has more than ${digits(MESSAGE_PLACES)} messages, the most t
 const LOST = "so many ordinary writes were made to its buffers, or one had so many bytes at first, that a script "
   + "doesn't have them: sabsim judges only the trace of such a run";
 
-/** @typedef {import("./in-windows.mjs").Written} Written */
+/** @typedef {import("./windows/in-windows.mjs").Written} Written */
 
 /**
  * @typedef {object} ProgramMemory
@@ -95,7 +95,7 @@ export class ProgramState {
    * A run as its script and its trace have it: in windows, if its memory is more than these can have.
    * @param {Written} made whose blocks are the program's
    * @param {(text: string) => string} withNames names the places in a text
-   * @param {import("./windows.mjs").Window[]} [list] windows that are known already
+   * @param {import("./windows/windows.mjs").Window[]} [list] windows that are known already
    * @returns {Written | undefined} undefined: there is no room for all that it touches
    */
   inWindows(made, withNames, list) {
@@ -118,10 +118,7 @@ export class ProgramState {
     return written.windows !== undefined && written.stores.isLost() ? LOST : undefined;
   }
 
-  /**
-   * @returns {import("./final-state.mjs").MoreBytes | undefined} of the blocks that no script can have, if there are
-   * any
-   */
+  /** @returns {import("./ending/final-state.mjs").MoreBytes | undefined} of the blocks that no script can have */
   moreBytes() {
     const { more } = this.blocks;
     return more.count === 0 ? undefined : moreBytesOf(more.numbers().map((block) => more.known(block)));
@@ -145,7 +142,7 @@ export class ProgramState {
   /**
    * Which threads have ended by an error or an exit code, and what keeps those alive that have nothing to do.
    * @param {string} ending of the run
-   * @param {import("./source-names.mjs").SourceNames} sourceNames
+   * @param {import("./words/source-names.mjs").SourceNames} sourceNames
    * @returns {string[]} a line each
    */
   standstill(ending, sourceNames) {
@@ -164,7 +161,7 @@ export class ProgramState {
   /**
    * @param {string} detail
    * @param {boolean} _isFound
-   * @param {import("./source-names.mjs").SourceNames} names
+   * @param {import("./words/source-names.mjs").SourceNames} names
    * @returns {string} with the place of an await that never settles, if it is about that
    */
   named(detail, _isFound, names) {
@@ -175,7 +172,7 @@ export class ProgramState {
 
   /**
    * @param {(text: string) => string} withNames names the places in a text
-   * @returns {import("./program-names.mjs").ProgramNames} what the threads and the blocks of the run are called
+   * @returns {import("./words/program-names.mjs").ProgramNames} what the threads and the blocks of the run are called
    */
   names(withNames) {
     const { more, count } = this.blocks;

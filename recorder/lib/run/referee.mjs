@@ -7,14 +7,14 @@ import { Log } from "../memory/log.mjs";
 import { onceMore } from "../processes/garbage.mjs";
 import { firstDifferent } from "./differing-events.mjs";
 import { FirstFailing } from "./order.mjs";
-import { PILOTS, Pilots } from "./pilots.mjs";
-import { namedText } from "./program-names.mjs";
-import { forRacing } from "./races.mjs";
+import { PILOTS, Pilots } from "./pilots/pilots.mjs";
+import { namedText } from "./words/program-names.mjs";
+import { forRacing } from "./races/races.mjs";
 import { LINES, RunMaker } from "./run-maker.mjs";
 import { RunReporter } from "./run-reporter.mjs";
 import { areSame } from "./same.mjs";
-import { SourceNames } from "./source-names.mjs";
-import { OTHER_INPUT } from "./summary-words.mjs";
+import { SourceNames } from "./words/source-names.mjs";
+import { OTHER_INPUT } from "./words/summary-words.mjs";
 
 /** @typedef {import("./outcome.mjs").One} One */
 /** @typedef {import("./outcome.mjs").Outcome} Outcome */

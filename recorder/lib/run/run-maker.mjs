@@ -10,10 +10,11 @@ import { Notes } from "../memory/notes.mjs";
 import { Stores } from "../memory/stores.mjs";
 import { agentsState } from "./agents-state.mjs";
 import { initialStores } from "./initial.mjs";
-import { isRacy } from "./races.mjs";
-import { unseenText } from "./unseen-text.mjs";
+import { isRacy } from "./races/races.mjs";
+import { unseenText } from "./words/unseen-text.mjs";
 
 /** @typedef {import("./outcome.mjs").WantedRun} WantedRun */
+/** @typedef {import("./words/unseen-text.mjs").AgentsNote} AgentsNote */
 
 /**
  * @typedef {object} RunResult how a run ended
@@ -28,13 +29,13 @@ import { unseenText } from "./unseen-text.mjs";
  * that ended by a deadlock or at a limit
  * @property {number[]} asking agents that asked for a call when a run met a limit
  * @property {import("../board/end.mjs").Met} [met] who met it
- * @property {import("./unseen-text.mjs").AgentsNote[]} unseen what agents did that nobody saw
+ * @property {AgentsNote[]} unseen what agents did that nobody saw
  * @property {boolean} [isUnseen] whether it fails for that
- * @property {import("./unseen-text.mjs").AgentsNote[]} [real] what agents of a program used that the machine answers
+ * @property {AgentsNote[]} [real] what agents of a program used that the machine answers
  * @property {import("../board/drawn-schedule.mjs").Divergence} [divergence] how it has diverged from the row that it
  * was to go by
- * @property {import("./program-names.mjs").ProgramNames} [names] of a program's threads and blocks
- * @property {import("./final-state.mjs").MoreBytes} [more] of a program, in blocks that no script can have
+ * @property {import("./words/program-names.mjs").ProgramNames} [names] of a program's threads and blocks
+ * @property {import("./ending/final-state.mjs").MoreBytes} [more] of a program, in blocks that no script can have
  */
 
 /**
@@ -79,7 +80,7 @@ export const LINES = Object.freeze({ NONE: -1, OF_RACES: 0, OF_FIRST: 4_096, ALL
 export class RunMaker {
   /**
    * @param {RefereeWorkerData} given
-   * @param {import("./source-names.mjs").SourceNames} sourceNames
+   * @param {import("./words/source-names.mjs").SourceNames} sourceNames
    * @param {typeof import("./program-state.mjs").ProgramState} [State] of the runs; that of agents if it isn't given
    */
   constructor({ port, memory, plan, rules, options }, sourceNames, State) {

@@ -7,21 +7,21 @@ import { Records } from "../memory/records.mjs";
 import { Sources } from "../memory/sources.mjs";
 import { Names } from "../options/names.mjs";
 import { preloads } from "../processes/preloads.mjs";
-import { accessesIn } from "./array-accesses.mjs";
-import { standstillOf, thrownIn } from "./failure.mjs";
-import { raceReports } from "./race-reports.mjs";
-import { FinalStates } from "./final-state.mjs";
-import { scriptWithinLimits } from "./script-within-limits.mjs";
+import { accessesIn } from "./script/array-accesses.mjs";
+import { standstillOf, thrownIn } from "./ending/failure.mjs";
+import { raceReports } from "./races/race-reports.mjs";
+import { FinalStates } from "./ending/final-state.mjs";
+import { scriptWithinLimits } from "./script/script-within-limits.mjs";
 import { addAnswers, addTexts } from "./script-texts.mjs";
-import { askingLines, standingsOf, waitText, waitsOf } from "./standing.mjs";
-import { earlyText, onlyByTimeOf, servedOf } from "./timed-ends.mjs";
-import { UNSEEN_LINE, placesIn, traceText, unseenLine } from "./trace.mjs";
-import { transcriptOf } from "./transcript.mjs";
-import { NO_SCRIPT, realIn, unrecordedIn } from "./unseen-text.mjs";
+import { askingLines, standingsOf, waitText, waitsOf } from "./ending/standing.mjs";
+import { earlyText, onlyByTimeOf, servedOf } from "./ending/timed-ends.mjs";
+import { UNSEEN_LINE, placesIn, traceText, unseenLine } from "./script/trace.mjs";
+import { transcriptOf } from "./script/transcript.mjs";
+import { NO_SCRIPT, realIn, unrecordedIn } from "./words/unseen-text.mjs";
 
 /** @typedef {import("./outcome.mjs").Outcome} Outcome */
 /** @typedef {import("./run-maker.mjs").RunResult} RunResult */
-/** @typedef {import("./in-windows.mjs").Written} Written */
+/** @typedef {import("./windows/in-windows.mjs").Written} Written */
 
 export class RunReporter {
   /** @param {import("./run-maker.mjs").RefereeWorkerData} given @param {import("./run-maker.mjs").RunMaker} maker */

@@ -5,8 +5,8 @@ import { CopiedRuns } from "../memory/copied-runs.mjs";
 import { Log } from "../memory/log.mjs";
 import { CopiedStores } from "../memory/stores.mjs";
 import { Names } from "../options/names.mjs";
-import { scriptWithinLimits } from "./script-within-limits.mjs";
-import { KnownCalls } from "./known-calls.mjs";
+import { scriptWithinLimits } from "./script/script-within-limits.mjs";
+import { KnownCalls } from "./script/known-calls.mjs";
 import { addAnswers, addTexts } from "./script-texts.mjs";
 
 /** @typedef {import("./outcome.mjs").Outcome} Outcome */

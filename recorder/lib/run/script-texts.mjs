@@ -3,7 +3,7 @@
 import { reportText } from "../../script/report.mjs";
 
 /** @typedef {import("./outcome.mjs").Outcome} Outcome */
-/** @typedef {import("./script-within-limits.mjs").ScriptWithinLimits} ScriptWithinLimits */
+/** @typedef {import("./script/script-within-limits.mjs").ScriptWithinLimits} ScriptWithinLimits */
 
 /**
  * Adds the bytes at the end and the answers to an outcome.

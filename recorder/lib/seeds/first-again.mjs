@@ -2,7 +2,7 @@
 // module keeps something from run to run. A program's first failing run is made once more at once, in fresh threads.
 
 import { endingsText, hasThrown } from "../../page/endings.mjs";
-import { OTHER_INPUT } from "../run/summary-words.mjs";
+import { OTHER_INPUT } from "../run/words/summary-words.mjs";
 
 /** @typedef {import("./job.mjs").CheckedOutcome} CheckedOutcome */
 

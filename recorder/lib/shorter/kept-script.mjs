@@ -64,7 +64,7 @@ function need(holds, why) {
 const isCount = (value) => Number.isInteger(value) && Number(value) >= 0;
 
 /** @typedef {import("../memory/spelling.mjs").ViewRange} ViewRange */
-/** @typedef {import("../run/windows.mjs").Windows} Windows */
+/** @typedef {import("../run/windows/windows.mjs").Windows} Windows */
 
 /**
  * @typedef {Map<string, import("../../script/text.mjs").View>} AsSpelled views as the script has them, by their names

@@ -4,8 +4,8 @@
 // stretches, with two stretches of an agent joined, or with one made shorter.
 
 import { areSame, firstOtherMove } from "../run/same.mjs";
-import { NO_SCRIPT } from "../run/unseen-text.mjs";
-import { OTHER_INPUT, TIMES_TRIED } from "../run/summary-words.mjs";
+import { NO_SCRIPT } from "../run/words/unseen-text.mjs";
+import { OTHER_INPUT, TIMES_TRIED } from "../run/words/summary-words.mjs";
 import { failsAlike } from "./alike.mjs";
 import { groupedByAgent } from "./grouped-by-agent.mjs";
 import { keptScript } from "./kept-script.mjs";

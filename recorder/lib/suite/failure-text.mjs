@@ -1,7 +1,7 @@
 // What a test says about a run that failed: the seed and how it ended, how it came to that, and where its files are.
 
 import { endingText } from "../../page/endings.mjs";
-import { digits } from "../run/summary-words.mjs";
+import { digits } from "../run/words/summary-words.mjs";
 import { lastActs } from "./last-acts.mjs";
 
 /**

@@ -9,7 +9,7 @@ import { runsOf } from "../library/explore.mjs";
 import { checkedOwn } from "../library/library-options.mjs";
 import { needFittingAll } from "../options/of-all.mjs";
 import { comesBefore } from "../run/order.mjs";
-import { countText, digits } from "../run/summary-words.mjs";
+import { countText, digits } from "../run/words/summary-words.mjs";
 import { rememberingText } from "../seeds/first-again.mjs";
 import { simulatorAt } from "../simulator/chosen.mjs";
 import { failureText } from "./failure-text.mjs";

@@ -1,7 +1,7 @@
 // What the recorder's own detector says about the events of a trace, and what it must say. Each access has a line of
 // code of its own, so the detector reports every race.
 
-import { isRacy, racesOf } from "../../lib/run/races.mjs";
+import { isRacy, racesOf } from "../../lib/run/races/races.mjs";
 import { logOf } from "./logs.mjs";
 
 /** @typedef {{ isRacy: boolean, pairs: [number, number][] }} Detected by later events, and then by earlier ones */

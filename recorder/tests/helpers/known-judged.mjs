@@ -3,7 +3,7 @@
 
 import assert from "node:assert/strict";
 import { Log } from "../../lib/memory/log.mjs";
-import { traceText } from "../../lib/run/trace.mjs";
+import { traceText } from "../../lib/run/script/trace.mjs";
 import { simulatorAt } from "../../lib/simulator/chosen.mjs";
 import { SABSIM } from "./needs.mjs";
 import { eventsOfTrace, slowJudge } from "./slow-judge.mjs";

@@ -56,7 +56,7 @@ export const EVENTS = [
 
 /**
  * By which array the events 1, 2 and 6 were made, and what 6 has read.
- * @type {import("../../lib/run/array-accesses.mjs").ArrayAccesses}
+ * @type {import("../../lib/run/script/array-accesses.mjs").ArrayAccesses}
  */
 export const ACCESSES = {
   arrays: [{ name: "Uint8_b1", kind: "Uint8", block: 1, offset: 0, length: 2 }],

@@ -8,7 +8,7 @@ import { after, describe, it } from "node:test";
 import { pathToFileURL } from "node:url";
 import { REAL_ANSWER } from "../../lib/board/drawn-schedule.mjs";
 import { areSame } from "../../lib/run/same.mjs";
-import { TIMES_TRIED } from "../../lib/run/summary-words.mjs";
+import { TIMES_TRIED } from "../../lib/run/words/summary-words.mjs";
 import { programDivergenceText } from "../../lib/shorter/differing.mjs";
 import { CLOSED, LISTENS, ONE_THREAD, RACE } from "../helpers/real-programs.mjs";
 import { temporaryFolder } from "../helpers/common.mjs";

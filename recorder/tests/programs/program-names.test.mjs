@@ -2,7 +2,7 @@
 
 import assert from "node:assert/strict";
 import { describe, it } from "node:test";
-import { blockNames, namedText } from "../../lib/run/program-names.mjs";
+import { blockNames, namedText } from "../../lib/run/words/program-names.mjs";
 import { runsOf } from "../helpers/whole-programs.mjs";
 
 describe("names of a program's threads and blocks", () => {

@@ -9,7 +9,7 @@ import { programWaysOf } from "../../lib/board/strategy/ways.mjs";
 import { KnownPlaces, PLACES } from "../../lib/memory/known-places.mjs";
 import { FLAG } from "../../lib/memory/log.mjs";
 import { NamedPlaces } from "../../lib/memory/named-places.mjs";
-import { Pilots } from "../../lib/run/pilots.mjs";
+import { Pilots } from "../../lib/run/pilots/pilots.mjs";
 import { RECORD, nodeNow, temporaryFolder } from "../helpers/common.mjs";
 import { logOf } from "../helpers/logs.mjs";
 import { TableRuns } from "../helpers/program-findings.mjs";

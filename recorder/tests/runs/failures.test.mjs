@@ -2,9 +2,9 @@
 
 import assert from "node:assert/strict";
 import { test } from "node:test";
-import { FinalStates } from "../../lib/run/final-state.mjs";
-import { standstillOf, thrownIn } from "../../lib/run/failure.mjs";
-import { SourceNames } from "../../lib/run/source-names.mjs";
+import { FinalStates } from "../../lib/run/ending/final-state.mjs";
+import { standstillOf, thrownIn } from "../../lib/run/ending/failure.mjs";
+import { SourceNames } from "../../lib/run/words/source-names.mjs";
 import { checkedNames } from "../../lib/options/names.mjs";
 import { record } from "../../recorder.mjs";
 import { agentsIn, temporaryFolder } from "../helpers/common.mjs";

@@ -8,7 +8,7 @@ import { test } from "node:test";
 import { fileURLToPath, pathToFileURL } from "node:url";
 import { RunStore } from "../../lib/keeping/run-store.mjs";
 import { Refused } from "../../lib/options/refused.mjs";
-import { loadProblem } from "../../lib/run/load-problem.mjs";
+import { loadProblem } from "../../lib/run/words/load-problem.mjs";
 import { record } from "../../recorder.mjs";
 import { commandHere } from "../helpers/command-here.mjs";
 import { RECORD, fileIn, nodeNow, temporaryFolder } from "../helpers/common.mjs";

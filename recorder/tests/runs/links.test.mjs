@@ -6,7 +6,7 @@ import { join } from "node:path";
 import { test } from "node:test";
 import { pathToFileURL } from "node:url";
 import { realUrl } from "../../lib/processes/real-url.mjs";
-import { SourceNames } from "../../lib/run/source-names.mjs";
+import { SourceNames } from "../../lib/run/words/source-names.mjs";
 import { record } from "../../recorder.mjs";
 import { RECORD, nodeNow, temporaryFolder } from "../helpers/common.mjs";
 import { withLinks } from "../helpers/needs.mjs";

@@ -4,7 +4,7 @@
 import assert from "node:assert/strict";
 import { fileURLToPath } from "node:url";
 import { before, describe, it } from "node:test";
-import { UNSEEN } from "../../lib/run/transcript.mjs";
+import { UNSEEN } from "../../lib/run/script/transcript.mjs";
 import { PROGRAMS } from "../agents/modes.mjs";
 import { agentsPath } from "../helpers/common.mjs";
 import { different, hexOf, placesOfText, recorded, seedsTo, summaryLines } from "../helpers/recorded.mjs";

@@ -21,7 +21,7 @@ import { POSIX, WINDOWS } from "../../lib/processes/platform.cjs";
 import { readAll } from "../../lib/processes/read-all.mjs";
 import { GRAPH_FLAGS } from "../../lib/program/node/graph-flags.cjs";
 import { ignoringCase } from "../../lib/program/workers/process-env.mjs";
-import { SourceNames } from "../../lib/run/source-names.mjs";
+import { SourceNames } from "../../lib/run/words/source-names.mjs";
 import { startJob } from "../../lib/seeds/start-job.cjs";
 import { keptFolder } from "../../lib/suite/kept-folder.mjs";
 import { Browser, withBrowser } from "../helpers/browser.mjs";

@@ -5,8 +5,8 @@ import { mkdirSync, writeFileSync } from "node:fs";
 import { join } from "node:path";
 import { pathToFileURL } from "node:url";
 import { test } from "node:test";
-import { SourceMaps } from "../../lib/run/source-maps.mjs";
-import { SourceNames } from "../../lib/run/source-names.mjs";
+import { SourceMaps } from "../../lib/run/words/source-maps.mjs";
+import { SourceNames } from "../../lib/run/words/source-names.mjs";
 import { temporaryFolder } from "../helpers/common.mjs";
 import { recorded } from "../helpers/recorded.mjs";
 

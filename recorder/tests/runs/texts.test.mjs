@@ -5,7 +5,7 @@ import { readFileSync, readdirSync } from "node:fs";
 import { test } from "node:test";
 import { fileURLToPath } from "node:url";
 import { namedCallText, textRoom, viewKey, viewName } from "../../lib/memory/spelling.mjs";
-import { traceText } from "../../lib/run/trace.mjs";
+import { traceText } from "../../lib/run/script/trace.mjs";
 import { KINDS } from "../../script/kinds.mjs";
 import { firstDifference, reportText } from "../../script/report.mjs";
 import { scheduleText, scriptText } from "../../script/text.mjs";

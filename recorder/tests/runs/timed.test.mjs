@@ -7,7 +7,7 @@ import { join } from "node:path";
 import { describe, it } from "node:test";
 import { Summary } from "../../lib/command/summary.mjs";
 import { defaultsOf } from "../../lib/options/table.mjs";
-import { durationText, earlyText } from "../../lib/run/timed-ends.mjs";
+import { durationText, earlyText } from "../../lib/run/ending/timed-ends.mjs";
 import { FirstFailing, comesBefore } from "../../lib/run/order.mjs";
 import { shorten } from "../../lib/shorter/shorten.mjs";
 import { explore, record } from "../../recorder.mjs";

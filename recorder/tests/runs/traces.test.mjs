@@ -5,7 +5,7 @@ import { readFileSync } from "node:fs";
 import { join } from "node:path";
 import { fileURLToPath } from "node:url";
 import { describe, it } from "node:test";
-import { UNSEEN_LINE } from "../../lib/run/trace.mjs";
+import { UNSEEN_LINE } from "../../lib/run/script/trace.mjs";
 import { FEW_WORKERS, agentsPath, commandThere, temporaryFolder } from "../helpers/common.mjs";
 import { groupOf } from "../helpers/groups.mjs";
 import { CHECKING } from "../helpers/needs.mjs";

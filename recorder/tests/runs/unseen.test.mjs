@@ -7,7 +7,7 @@ import { readFileSync, writeFileSync } from "node:fs";
 import { join } from "node:path";
 import { describe, it } from "node:test";
 import { fileURLToPath } from "node:url";
-import { UNSEEN_LINE } from "../../lib/run/trace.mjs";
+import { UNSEEN_LINE } from "../../lib/run/script/trace.mjs";
 import { SCRIPT_LIMITS } from "../../script/limits.mjs";
 import { RECORD, agentsPath, nodeNow, temporaryFolder } from "../helpers/common.mjs";
 import { CHECKING, withSabsim } from "../helpers/needs.mjs";

@@ -3,7 +3,7 @@
 import assert from "node:assert/strict";
 import { createHash } from "node:crypto";
 import { test } from "node:test";
-import { FinalStates } from "../../lib/run/final-state.mjs";
+import { FinalStates } from "../../lib/run/ending/final-state.mjs";
 
 const ZEROS = "0".repeat(20_000);
 

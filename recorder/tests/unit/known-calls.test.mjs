@@ -6,8 +6,8 @@ import { Log } from "../../lib/memory/log.mjs";
 import { Records } from "../../lib/memory/records.mjs";
 import { namedCallText, viewName } from "../../lib/memory/spelling.mjs";
 import { Names } from "../../lib/options/names.mjs";
-import { KnownCalls } from "../../lib/run/known-calls.mjs";
-import { transcriptOf } from "../../lib/run/transcript.mjs";
+import { KnownCalls } from "../../lib/run/script/known-calls.mjs";
+import { transcriptOf } from "../../lib/run/script/transcript.mjs";
 import { KINDS } from "../../script/kinds.mjs";
 import { reportText } from "../../script/report.mjs";
 import { scriptText } from "../../script/text.mjs";
@@ -72,7 +72,7 @@ function runOf(made, names = []) {
   return { log, records: [records], lengths: LENGTHS, canBlock: [true], names: new Names(names) };
 }
 
-/** @param {import("../../lib/run/transcript.mjs").TranscriptSource} run */
+/** @param {import("../../lib/run/script/transcript.mjs").TranscriptSource} run */
 function textsOf(run) {
   const transcript = transcriptOf(run, []);
   return [scriptText(transcript), reportText(transcript, ["00", "00"])];

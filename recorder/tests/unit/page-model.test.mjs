@@ -8,7 +8,7 @@ import { join } from "node:path";
 import { fileURLToPath } from "node:url";
 import { test } from "node:test";
 import { pageData, pageOf } from "../../lib/keeping/kept-page.mjs";
-import { UNSEEN_LINE } from "../../lib/run/trace.mjs";
+import { UNSEEN_LINE } from "../../lib/run/script/trace.mjs";
 import { valueAt } from "../../page/elements.mjs";
 import { entryText, standingText } from "../../page/words.mjs";
 import { KINDS, SIZES } from "../../script/kinds.mjs";

@@ -4,9 +4,9 @@
 import assert from "node:assert/strict";
 import { test } from "node:test";
 import { FLAG, Log, NO_CALL, READ, WRITE } from "../../lib/memory/log.mjs";
-import { raceReports } from "../../lib/run/race-reports.mjs";
-import { isRacy, racesOf } from "../../lib/run/races.mjs";
-import { SourceNames } from "../../lib/run/source-names.mjs";
+import { raceReports } from "../../lib/run/races/race-reports.mjs";
+import { isRacy, racesOf } from "../../lib/run/races/races.mjs";
+import { SourceNames } from "../../lib/run/words/source-names.mjs";
 import { randomEvents } from "../helpers/events.mjs";
 import { logOf } from "../helpers/logs.mjs";
 import { slowRaces } from "../helpers/slow-judge.mjs";

@@ -10,7 +10,7 @@ import { KnownPlaces, placeNumber } from "../../lib/memory/known-places.mjs";
 import { PHASE } from "../../lib/memory/layout.mjs";
 import { FLAG } from "../../lib/memory/log.mjs";
 import { OPTIONS } from "../../lib/options/table.mjs";
-import { Pilots } from "../../lib/run/pilots.mjs";
+import { Pilots } from "../../lib/run/pilots/pilots.mjs";
 import { emptyMemory } from "../helpers/boards.mjs";
 import { logOf } from "../helpers/logs.mjs";
 

@@ -7,7 +7,7 @@ import { whyNoSummary } from "../../lib/command/summary-form.mjs";
 import { summaryText } from "../../lib/command/summary-text.mjs";
 import { Summary } from "../../lib/command/summary.mjs";
 import { MOST_KEYS, Tally } from "../../lib/command/tally.mjs";
-import { countText, digits } from "../../lib/run/summary-words.mjs";
+import { countText, digits } from "../../lib/run/words/summary-words.mjs";
 
 const SEEN = { ordinary: "watch", races: "fail", checkedBy: "module 123" };
 /** What it says about the runs that the module has checked; one alone is no repeat. */

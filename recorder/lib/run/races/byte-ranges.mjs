@@ -2,9 +2,9 @@
 // event is about all bytes of a range or none of them. The ranges have numbers without gaps, however large the blocks
 // are. The ranges of an event have numbers that follow each other.
 
-import { FLAG } from "../memory/log.mjs";
+import { FLAG } from "../../memory/log.mjs";
 
-/** @typedef {import("../memory/log.mjs").Log} Log */
+/** @typedef {import("../../memory/log.mjs").Log} Log */
 
 const EFFECTS = FLAG.READS | FLAG.WRITES | FLAG.WAITERS;
 

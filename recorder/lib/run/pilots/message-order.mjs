@@ -1,7 +1,7 @@
 // Which places agents use only in an order that their messages give. What one does before it sends a message comes
 // before all that another does after it has received that. There no draw decides which is first.
 
-import { PLACES } from "../memory/known-places.mjs";
+import { PLACES } from "../../memory/known-places.mjs";
 
 export class MessageOrder {
   /** @param {number} agents how many */

@@ -1,12 +1,12 @@
 // Calls as scripts and reports have them, remembered from run to run: the same call with the same result has the same
 // texts. Most programs make few different ones.
 
-import { flat } from "../../script/flat.mjs";
-import { viewText } from "../../script/text.mjs";
-import { FINGERPRINT } from "../memory/records.mjs";
+import { flat } from "../../../script/flat.mjs";
+import { viewText } from "../../../script/text.mjs";
+import { FINGERPRINT } from "../../memory/records.mjs";
 
-/** @typedef {import("../../script/text.mjs").Done} Done */
-/** @typedef {import("../../script/text.mjs").SpelledView} SpelledView */
+/** @typedef {import("../../../script/text.mjs").Done} Done */
+/** @typedef {import("../../../script/text.mjs").SpelledView} SpelledView */
 
 /**
  * @typedef {object} KnownCall

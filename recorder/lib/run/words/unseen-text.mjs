@@ -2,7 +2,7 @@
 
 import { countText } from "./summary-words.mjs";
 
-/** @typedef {import("../memory/notes.mjs").Note & { agent: number }} AgentsNote */
+/** @typedef {import("../../memory/notes.mjs").Note & { agent: number }} AgentsNote */
 /** @typedef {(place: string | undefined) => string} Naming the name of a place in the code, as people read it */
 
 const ALLOW = "--unrecorded allow lets it pass";
@@ -11,7 +11,7 @@ const SYNCHRONOUS = "an agent must be synchronous, and talk to others through it
 /** Why a run that fails for these has no script. */
 export const NO_SCRIPT = "agents did what nobody saw";
 
-/** @param {import("../memory/notes.mjs").Note} note of memory @param {Naming} nameOf */
+/** @param {import("../../memory/notes.mjs").Note} note of memory @param {Naming} nameOf */
 function usesText({ calls = 0, accesses = 0, first }, nameOf) {
   const both = [];
   if (calls > 0) both.push(countText(calls, "call of Atomics", "calls of Atomics"));
@@ -32,9 +32,9 @@ function memoryText(note, nameOf) {
     + `hand the class \`buffers[0]\` in place of it; ${ALLOW}`;
 }
 
-/**
- * @type {Record<Exclude<import("../memory/notes.mjs").NoteKind, "real">, (note: AgentsNote, nameOf: Naming) => string>}
- */
+/** @typedef {Exclude<import("../../memory/notes.mjs").NoteKind, "real">} UnseenKind */
+
+/** @type {Record<UnseenKind, (note: AgentsNote, nameOf: Naming) => string>} */
 const TEXTS = {
   memory: memoryText,
   wasm: ({ agent, what, place }, nameOf) =>

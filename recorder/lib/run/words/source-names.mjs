@@ -2,8 +2,8 @@
 
 import { readFileSync } from "node:fs";
 import { fileURLToPath, pathToFileURL } from "node:url";
-import { HERE } from "../processes/platform.cjs";
-import { realUrl } from "../processes/real-url.mjs";
+import { HERE } from "../../processes/platform.cjs";
+import { realUrl } from "../../processes/real-url.mjs";
 import { SourceMaps } from "./source-maps.mjs";
 
 /** @typedef {{ file: string, text: string | null }} SourceText a file's name and its code; null: it can't be read */
@@ -14,7 +14,7 @@ const MOST_TEXT = 2 ** 20;
 export class SourceNames {
   /**
    * @param {string} module the URL of the agents' module
-   * @param {import("../processes/platform.cjs").Platform} [platform]
+   * @param {import("../../processes/platform.cjs").Platform} [platform]
    */
   constructor(module, platform = HERE) {
     this.module = realUrl(module);

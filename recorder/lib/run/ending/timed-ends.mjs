@@ -1,10 +1,10 @@
 // What is reported about the ends of timed waits: that a run fails only after an early one; and which waits of a run
 // ended only because their time was up, as a wait does whose wake-up is lost.
 
-import { CALL_NUMBERS } from "../../script/kinds.mjs";
-import { FLAG } from "../memory/log.mjs";
+import { CALL_NUMBERS } from "../../../script/kinds.mjs";
+import { FLAG } from "../../memory/log.mjs";
 
-/** @typedef {import("../memory/log.mjs").Log} Log */
+/** @typedef {import("../../memory/log.mjs").Log} Log */
 /** @typedef {{ block: number, byte: number }} WaitPlace at which agents wait: a byte, at which an element begins */
 
 /**
@@ -27,7 +27,7 @@ export function durationText(milliseconds) {
   return `${Number(count.toPrecision(3))} ${unit}`;
 }
 
-/** @param {import("../board/deadlines.mjs").Early} early @returns {string} what a run needs, in words */
+/** @param {import("../../board/deadlines.mjs").Early} early @returns {string} what a run needs, in words */
 export function earlyText({ milliseconds, other, before, more }) {
   const duration = durationText(milliseconds);
   const pass = /^1 /.test(duration) ? "passes" : "pass";
@@ -42,7 +42,7 @@ export const waitPlaceKey = ({ block, byte }) => `${block} ${byte}`;
 /**
  * The waits of a run that ended only because their time was up, those of one line once.
  * @param {Log} log
- * @param {import("../memory/records.mjs").Records[]} records of each agent
+ * @param {import("../../memory/records.mjs").Records[]} records of each agent
  * @param {(agent: number, source: number) => string | null} lineOf an agent's line of code, by its number
  * @returns {OnlyByTime[]}
  */

@@ -1,21 +1,21 @@
 // A run whose memory is shown in windows: its log, calls, stores and bytes are about the blocks of the script in place
 // of the program's buffers. All code that makes scripts and traces takes it as any other run.
 
-import { KINDS, SCRIPT_KINDS, SIZES } from "../../script/kinds.mjs";
-import { HELD, MESSAGES } from "../memory/blocks.mjs";
-import { FLAG, NO_CALL } from "../memory/log.mjs";
-import { byteOf } from "../memory/recorded-memory.mjs";
-import { FIRST_MORE } from "../memory/more-blocks.mjs";
-import { Names } from "../options/names.mjs";
+import { KINDS, SCRIPT_KINDS, SIZES } from "../../../script/kinds.mjs";
+import { HELD, MESSAGES } from "../../memory/blocks.mjs";
+import { FLAG, NO_CALL } from "../../memory/log.mjs";
+import { byteOf } from "../../memory/recorded-memory.mjs";
+import { FIRST_MORE } from "../../memory/more-blocks.mjs";
+import { Names } from "../../options/names.mjs";
 import { windowNames } from "./window-names.mjs";
 import { TouchedPages, Windows } from "./windows.mjs";
 
-/** @typedef {import("../memory/blocks.mjs").Blocks} Blocks */
-/** @typedef {import("../memory/log.mjs").LogEvent} LogEvent */
-/** @typedef {import("../memory/records.mjs").Call} Call */
-/** @typedef {import("../memory/stores.mjs").Store} Store */
-/** @typedef {import("../options/names.mjs").NamedView} NamedView */
-/** @typedef {import("./transcript.mjs").TranscriptSource} TranscriptSource */
+/** @typedef {import("../../memory/blocks.mjs").Blocks} Blocks */
+/** @typedef {import("../../memory/log.mjs").LogEvent} LogEvent */
+/** @typedef {import("../../memory/records.mjs").Call} Call */
+/** @typedef {import("../../memory/stores.mjs").Store} Store */
+/** @typedef {import("../../options/names.mjs").NamedView} NamedView */
+/** @typedef {import("../script/transcript.mjs").TranscriptSource} TranscriptSource */
 /** @typedef {import("./windows.mjs").Window} Window */
 
 /** @typedef {Window & { name: string }} NamedWindow with the name of its buffer; empty: it isn't known */
@@ -25,7 +25,7 @@ import { TouchedPages, Windows } from "./windows.mjs";
 /**
  * @typedef {object} Written a run as its script and its trace have it
  * @property {TranscriptSource} run
- * @property {Pick<import("../memory/stores.mjs").Stores, "list" | "isWhole" | "isLost">} stores
+ * @property {Pick<import("../../memory/stores.mjs").Stores, "list" | "isWhole" | "isLost">} stores
  * @property {string[]} bytes of each block at the end, in hexadecimal digits
  * @property {NamedWindow[]} [windows] if its blocks aren't the program's
  */
@@ -190,7 +190,7 @@ function runIn(windows, run, names) {
  * it.
  * @param {Window} window
  * @param {number} kind of the elements that are stored; what isn't a whole one is stored as bytes
- * @param {import("../memory/more-blocks.mjs").BlockStart} start of its buffer
+ * @param {import("../../memory/more-blocks.mjs").BlockStart} start of its buffer
  * @returns {Store[]} none if all is zero
  */
 function startOf({ from, to, block, byte }, kind, { bytes, agent, position }) {

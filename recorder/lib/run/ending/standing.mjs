@@ -1,8 +1,8 @@
 // Where agents are that haven't ended when their run is over: which wait, and which ask for a call.
 
-import { ownCalls } from "./transcript.mjs";
+import { ownCalls } from "../script/transcript.mjs";
 
-/** @typedef {import("../../script/text.mjs").Transcript} Transcript */
+/** @typedef {import("../../../script/text.mjs").Transcript} Transcript */
 
 /**
  * @typedef {object} Wait
@@ -76,7 +76,7 @@ function lineOf(source) {
 
 /**
  * What each agent is at when nobody can go on, or a limit is met.
- * @param {{ met?: import("../board/end.mjs").Met, waits: Wait[], asking: number[] }} found
+ * @param {{ met?: import("../../board/end.mjs").Met, waits: Wait[], asking: number[] }} found
  * @param {Transcript} transcript
  * @param {(agent: number) => string} sourceOf as above
  * @returns {Standing[]} the one that has met the limit first, then those that wait, in order of arrival

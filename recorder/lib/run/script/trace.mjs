@@ -1,13 +1,13 @@
 // The trace of a run: each of its events as an object of JSON, a line each. It is what another program needs to judge
 // anew whether the run has unordered accesses.
 
-import { flat } from "../../script/flat.mjs";
-import { CALLS } from "../../script/kinds.mjs";
-import { SCRIPT_LIMITS } from "../../script/limits.mjs";
-import { LEAVE, TIME_UP } from "../board/journal.mjs";
-import { FLAG, NO_CALL, WRITE } from "../memory/log.mjs";
+import { flat } from "../../../script/flat.mjs";
+import { CALLS } from "../../../script/kinds.mjs";
+import { SCRIPT_LIMITS } from "../../../script/limits.mjs";
+import { LEAVE, TIME_UP } from "../../board/journal.mjs";
+import { FLAG, NO_CALL, WRITE } from "../../memory/log.mjs";
 
-/** @param {import("../memory/log.mjs").LogEvent} event @returns {string} what an event is called */
+/** @param {import("../../memory/log.mjs").LogEvent} event @returns {string} what an event is called */
 function nameOf({ what, method }) {
   if (what === LEAVE) return "leave";
   if (what === TIME_UP) return "time-up";
@@ -24,7 +24,7 @@ const AGENTS = Array.from({ length: SCRIPT_LIMITS.agents }, (_, agent) => flat(`
 const FLAGS = FLAG.READS | FLAG.WRITES | FLAG.ATOMIC | FLAG.WAITERS;
 
 /**
- * @param {import("../memory/log.mjs").LogEvent} event
+ * @param {import("../../memory/log.mjs").LogEvent} event
  * @returns {string} from what it is called to the place in the code
  */
 function deedText(event) {
@@ -42,7 +42,7 @@ class KnownDeeds {
   #texts = Array.from({ length: KnownDeeds.SLOTS }, () => "");
   #words = new Int32Array(KnownDeeds.SLOTS * KnownDeeds.WORDS);
 
-  /** @param {import("../memory/log.mjs").Log} log @param {number} position @returns {string} the same of an event */
+  /** @param {import("../../memory/log.mjs").Log} log @param {number} position @returns {string} the same of an event */
   at(log, position) {
     const deed = log.whatAt(position) | (log.methodAt(position) << 4) | ((log.flagsAt(position) & FLAGS) << 8);
     const block = log.blockAt(position);
@@ -80,7 +80,7 @@ const JOINED = 1_024;
 
 /**
  * The events of a run, a line each.
- * @param {import("../memory/log.mjs").Log} log
+ * @param {import("../../memory/log.mjs").Log} log
  * @param {string[][]} [sources] the positions of each agent's code, by their numbers; without, none is reported
  * @returns {string}
  */
@@ -97,7 +97,7 @@ const NO_SOURCE = "null}\n";
 
 /**
  * The lines of some events: what JSON.stringify makes of each as an object, faster. A trace may have a million lines.
- * @param {import("../memory/log.mjs").Log} log
+ * @param {import("../../memory/log.mjs").Log} log
  * @param {number} first
  * @param {string[][]} ends the positions of each agent's code in JSON, to the ends of their lines
  */
@@ -114,7 +114,7 @@ function linesFrom(log, first, ends) {
 
 /**
  * The places of the agents' code that a trace names.
- * @param {import("../memory/log.mjs").Log} log
+ * @param {import("../../memory/log.mjs").Log} log
  * @param {string[][]} sources the positions of each agent's code, by their numbers
  * @returns {Set<string>}
  */

@@ -1,17 +1,17 @@
 // Which ordinary writes a run's script has: all of them as they were written, if they fit; else as the largest whole
 // aligned elements; else only those of bytes that some call touches, since the answers depend on these.
 
-import { KINDS, SIZES } from "../../script/kinds.mjs";
-import { SCRIPT_LIMITS } from "../../script/limits.mjs";
-import { scriptText } from "../../script/text.mjs";
-import { LEAVE, MAKE, MOVES, TIME_UP } from "../board/journal.mjs";
-import { FLAG, READ } from "../memory/log.mjs";
-import { NO_NAMES } from "../options/names.mjs";
+import { KINDS, SIZES } from "../../../script/kinds.mjs";
+import { SCRIPT_LIMITS } from "../../../script/limits.mjs";
+import { scriptText } from "../../../script/text.mjs";
+import { LEAVE, MAKE, MOVES, TIME_UP } from "../../board/journal.mjs";
+import { FLAG, READ } from "../../memory/log.mjs";
+import { NO_NAMES } from "../../options/names.mjs";
 import { Helpers, isAsync } from "./wait-helpers.mjs";
 import { UNSEEN, transcriptOf } from "./transcript.mjs";
 
-/** @typedef {import("../memory/stores.mjs").Store} Store */
-/** @typedef {import("../../script/text.mjs").Transcript} Transcript */
+/** @typedef {import("../../memory/stores.mjs").Store} Store */
+/** @typedef {import("../../../script/text.mjs").Transcript} Transcript */
 
 /**
  * @typedef {object} ScriptWithinLimits
@@ -42,7 +42,7 @@ const endOf = (store) => store.byte + SIZES[store.kind];
 
 /**
  * The bytes that some call reads or writes, of each block.
- * @param {import("../memory/log.mjs").Log} log
+ * @param {import("../../memory/log.mjs").Log} log
  * @param {number[]} lengths
  * @returns {Uint8Array[]} 1 for each such byte
  */
@@ -135,7 +135,7 @@ function placesOf(stores) {
 
 /**
  * How many calls each agent makes by itself, helpers too, and how many moves are made.
- * @param {import("../memory/log.mjs").Log} log
+ * @param {import("../../memory/log.mjs").Log} log
  * @param {number} agents how many, without helpers
  */
 function countsOf(log, agents) {
@@ -234,7 +234,7 @@ function bytesLeft(final, touched, stores) {
 /**
  * The script of a run, with as much of the ordinary writes as fits.
  * @param {import("./transcript.mjs").TranscriptSource} run
- * @param {Pick<import("../memory/stores.mjs").Stores, "list" | "isWhole" | "isLost">} stores
+ * @param {Pick<import("../../memory/stores.mjs").Stores, "list" | "isWhole" | "isLost">} stores
  * @param {Store[]} initial what fills the buffers before the run, by an agent of its own
  * @param {string[]} final the bytes of each block at the end, in hexadecimal digits
  * @returns {ScriptWithinLimits}

@@ -1,12 +1,12 @@
 // What a trace doesn't say about ordinary accesses: by which array the code made each, and what it read. The page of
 // a run shows it.
 
-import { KINDS, SIZES } from "../../script/kinds.mjs";
-import { elementText } from "../../script/values.mjs";
-import { READ } from "../memory/log.mjs";
-import { viewKey, viewName } from "../memory/spelling.mjs";
+import { KINDS, SIZES } from "../../../script/kinds.mjs";
+import { elementText } from "../../../script/values.mjs";
+import { READ } from "../../memory/log.mjs";
+import { viewKey, viewName } from "../../memory/spelling.mjs";
 
-/** @typedef {import("../../script/text.mjs").View} View */
+/** @typedef {import("../../../script/text.mjs").View} View */
 
 /**
  * @typedef {object} ArrayAccesses
@@ -18,7 +18,7 @@ import { viewKey, viewName } from "../memory/spelling.mjs";
 
 /**
  * The ordinary accesses by typed arrays of a run whose accesses have noted what they read.
- * @param {import("../memory/log.mjs").Log} log
+ * @param {import("../../memory/log.mjs").Log} log
  * @param {number[]} lengths of the blocks
  * @returns {ArrayAccesses}
  */

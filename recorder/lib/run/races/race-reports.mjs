@@ -1,10 +1,10 @@
 // The unordered accesses of a run, as they are reported.
 
-import { FLAG } from "../memory/log.mjs";
-import { NO_NAMES } from "../options/names.mjs";
-import { deedOf, elementName, whenOf } from "./access-words.mjs";
+import { FLAG } from "../../memory/log.mjs";
+import { NO_NAMES } from "../../options/names.mjs";
+import { deedOf, elementName, whenOf } from "../words/access-words.mjs";
 import { racesOf } from "./races.mjs";
-import { ownCalls } from "./transcript.mjs";
+import { ownCalls } from "../script/transcript.mjs";
 
 /**
  * @typedef {object} Side one of the two accesses
@@ -37,10 +37,10 @@ function accessOf(flags) {
 
 /**
  * @typedef {object} RaceContext what is needed to report races
- * @property {import("./transcript.mjs").TranscriptSource} run
- * @property {import("../../script/text.mjs").Transcript} transcript
+ * @property {import("../script/transcript.mjs").TranscriptSource} run
+ * @property {import("../../../script/text.mjs").Transcript} transcript
  * @property {string[][]} sources the positions of each agent's code by their numbers; empty if none were taken
- * @property {import("./source-names.mjs").SourceNames} sourceNames
+ * @property {import("../words/source-names.mjs").SourceNames} sourceNames
  */
 
 // More of one run aren't listed, but counted.
@@ -71,7 +71,7 @@ class RaceTexts {
     return `agent ${agent}'s ${accessOf(log.flagsAt(event))} of ${this.#element(log.at(event), byte)}`;
   }
 
-  /** @param {import("../memory/log.mjs").LogEvent} event @param {number} byte on which the two meet */
+  /** @param {import("../../memory/log.mjs").LogEvent} event @param {number} byte on which the two meet */
   #element(event, byte) {
     return elementName(event, byte, this.run.lengths, this.run.names ?? NO_NAMES);
   }

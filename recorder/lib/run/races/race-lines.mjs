@@ -1,8 +1,8 @@
 // Which unordered accesses are alike, so that one pair of each kind is reported.
 
-import { FLAG } from "../memory/log.mjs";
+import { FLAG } from "../../memory/log.mjs";
 
-/** @typedef {import("../memory/log.mjs").Log} Log */
+/** @typedef {import("../../memory/log.mjs").Log} Log */
 
 // A line's number: which agent, what it does, and its place in the code or, in odd numbers, the view.
 const AGENT_BITS = 4;

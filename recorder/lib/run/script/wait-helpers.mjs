@@ -1,12 +1,12 @@
 // Which helper of a script makes each wait of Atomics.waitAsync. A helper serves one thread, and makes one wait at a
 // time. So a thread has as many helpers as such waits that are pending at once.
 
-import { ENDS, helpersView } from "../../script/helpers.mjs";
-import { KINDS, SIZES } from "../../script/kinds.mjs";
-import { FEW_MESSAGES, MESSAGES } from "../memory/blocks.mjs";
-import { FLAG } from "../memory/log.mjs";
+import { ENDS, helpersView } from "../../../script/helpers.mjs";
+import { KINDS, SIZES } from "../../../script/kinds.mjs";
+import { FEW_MESSAGES, MESSAGES } from "../../memory/blocks.mjs";
+import { FLAG } from "../../memory/log.mjs";
 
-/** @typedef {import("../../script/text.mjs").Done} Done */
+/** @typedef {import("../../../script/text.mjs").Done} Done */
 
 const INT32 = KINDS.indexOf("Int32");
 
@@ -15,7 +15,7 @@ const PLACES = ENDS + 1;
 const VIEW_BYTES = PLACES * SIZES[INT32];
 
 /**
- * @param {import("../memory/log.mjs").Log} log
+ * @param {import("../../memory/log.mjs").Log} log
  * @param {number} event
  * @returns {boolean} whether it is one of such a wait
  */

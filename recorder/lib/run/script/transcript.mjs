@@ -3,36 +3,36 @@
 // Ordinary reads aren't among the calls. So a view without an element says that the run has ordinary accesses, or may
 // have some. A wait of Atomics.waitAsync is one of a helper, an agent of its own, to which its thread hands it over.
 
-import { BEGINS, ENDS } from "../../script/helpers.mjs";
-import { KINDS, SCRIPT_CONSTRUCTORS, SIZES } from "../../script/kinds.mjs";
-import { answerText } from "../../script/report.mjs";
-import { JOIN, LEAVE, MAKE, MOVES, TIME_UP } from "../board/journal.mjs";
-import { READ } from "../memory/log.mjs";
-import { namedCallText, viewName } from "../memory/spelling.mjs";
-import { STORED } from "../memory/stores.mjs";
-import { NO_NAMES, nameText } from "../options/names.mjs";
+import { BEGINS, ENDS } from "../../../script/helpers.mjs";
+import { KINDS, SCRIPT_CONSTRUCTORS, SIZES } from "../../../script/kinds.mjs";
+import { answerText } from "../../../script/report.mjs";
+import { JOIN, LEAVE, MAKE, MOVES, TIME_UP } from "../../board/journal.mjs";
+import { READ } from "../../memory/log.mjs";
+import { namedCallText, viewName } from "../../memory/spelling.mjs";
+import { STORED } from "../../memory/stores.mjs";
+import { NO_NAMES, nameText } from "../../options/names.mjs";
 import { Helpers, isAsync } from "./wait-helpers.mjs";
 import { KnownCalls } from "./known-calls.mjs";
 
-/** @typedef {import("../memory/records.mjs").Records} Records */
-/** @typedef {import("../memory/stores.mjs").Store} Store */
-/** @typedef {import("../../script/text.mjs").Done} Done */
-/** @typedef {import("../../script/text.mjs").Move} Move */
-/** @typedef {import("../../script/text.mjs").Transcript} Transcript */
-/** @typedef {import("../../script/text.mjs").SpelledView} SpelledView */
+/** @typedef {import("../../memory/records.mjs").Records} Records */
+/** @typedef {import("../../memory/stores.mjs").Store} Store */
+/** @typedef {import("../../../script/text.mjs").Done} Done */
+/** @typedef {import("../../../script/text.mjs").Move} Move */
+/** @typedef {import("../../../script/text.mjs").Transcript} Transcript */
+/** @typedef {import("../../../script/text.mjs").SpelledView} SpelledView */
 
 /**
  * @typedef {object} TranscriptSource what a transcript is made from
- * @property {import("../memory/log.mjs").Log} log
+ * @property {import("../../memory/log.mjs").Log} log
  * @property {Pick<Records, "callAt" | "doneAt" | "takeFingerprint">[]} records of each agent
  * @property {number[]} lengths of the blocks
  * @property {boolean[]} canBlock of each agent
- * @property {import("../options/names.mjs").Names} [names] of words and of whole arrays
+ * @property {import("../../options/names.mjs").Names} [names] of words and of whole arrays
  * @property {boolean} [isOrdinary] whether ordinary accesses were made, or may have been made unseen
  * @property {KnownCalls} [known] calls of other runs with the same names and lengths
  */
 
-/** @typedef {import("../memory/spelling.mjs").ViewRange} ViewRange of a view */
+/** @typedef {import("../../memory/spelling.mjs").ViewRange} ViewRange of a view */
 
 /** The view that says so in a script. */
 export const UNSEEN = "ordinary_unseen";

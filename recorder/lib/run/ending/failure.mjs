@@ -23,7 +23,7 @@ const shortened = (lines) => lines.slice(0, MOST_LINES).map((line) => line.slice
 /**
  * What was thrown: the message, and the innermost line of code that isn't node's own.
  * @param {string} detail
- * @param {import("./source-names.mjs").SourceNames} sourceNames
+ * @param {import("../words/source-names.mjs").SourceNames} sourceNames
  * @returns {Failure}
  */
 export function thrownIn(detail, sourceNames) {

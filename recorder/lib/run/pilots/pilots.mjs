@@ -2,14 +2,14 @@
 // access to such a byte. There it matters who moves first. Pilots are runs of fixed seeds, so that each group learns
 // the same, whatever runs it makes afterwards.
 
-import { MAKE } from "../board/journal.mjs";
-import { MESSAGES } from "../memory/blocks.mjs";
-import { PLACES } from "../memory/known-places.mjs";
-import { FLAG, READ } from "../memory/log.mjs";
+import { MAKE } from "../../board/journal.mjs";
+import { MESSAGES } from "../../memory/blocks.mjs";
+import { PLACES } from "../../memory/known-places.mjs";
+import { FLAG, READ } from "../../memory/log.mjs";
 import { MessageOrder } from "./message-order.mjs";
 
-/** @typedef {import("../memory/log.mjs").Log} Log */
-/** @typedef {import("../memory/known-places.mjs").KnownPlaces} KnownPlaces */
+/** @typedef {import("../../memory/log.mjs").Log} Log */
+/** @typedef {import("../../memory/known-places.mjs").KnownPlaces} KnownPlaces */
 
 /** How many pilots there are. */
 export const PILOTS = 8;

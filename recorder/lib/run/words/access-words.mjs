@@ -1,11 +1,11 @@
 // What was accessed, and when, in words.
 
-import { CALLS, KINDS, SIZES } from "../../script/kinds.mjs";
-import { FLAG, NO_CALL } from "../memory/log.mjs";
-import { viewName } from "../memory/spelling.mjs";
-import { nameText } from "../options/names.mjs";
+import { CALLS, KINDS, SIZES } from "../../../script/kinds.mjs";
+import { FLAG, NO_CALL } from "../../memory/log.mjs";
+import { viewName } from "../../memory/spelling.mjs";
+import { nameText } from "../../options/names.mjs";
 
-/** @typedef {import("../memory/log.mjs").LogEvent} LogEvent */
+/** @typedef {import("../../memory/log.mjs").LogEvent} LogEvent */
 
 /**
  * The element of an access that has a byte, by its own name or by its view's name and index. A DataView's has a name
@@ -13,7 +13,7 @@ import { nameText } from "../options/names.mjs";
  * @param {LogEvent} event
  * @param {number} byte
  * @param {number[]} lengths of the blocks
- * @param {import("../options/names.mjs").Names} names
+ * @param {import("../../options/names.mjs").Names} names
  * @returns {string}
  */
 export function elementName({ kind, block, from, to, offset, length }, byte, lengths, names) {

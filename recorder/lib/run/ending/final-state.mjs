@@ -1,10 +1,10 @@
 // The bytes at the end of a run: their hash, their beginnings in hexadecimal digits, and what has a name by its name.
 
 import { createHash } from "node:crypto";
-import { KINDS, SIZES } from "../../script/kinds.mjs";
-import { elementText } from "../../script/values.mjs";
+import { KINDS, SIZES } from "../../../script/kinds.mjs";
+import { elementText } from "../../../script/values.mjs";
 
-/** @typedef {import("../options/names.mjs").NamedView} NamedView */
+/** @typedef {import("../../options/names.mjs").NamedView} NamedView */
 
 /** @typedef {{ digest: string, shown: string[] }} MoreBytes those of blocks that no script can have */
 

@@ -3,7 +3,7 @@
 // one after another. If no block has room for all of these pages, they are cut between two that no access crosses. Two
 // bytes of the program never get the same byte there.
 
-import { MESSAGES, MOST_BLOCKS, MOST_BYTES } from "../memory/blocks.mjs";
+import { MESSAGES, MOST_BLOCKS, MOST_BYTES } from "../../memory/blocks.mjs";
 
 /** How many bytes a page has: a multiple of each element's, so that elements stay aligned. */
 export const PAGE_BYTES = 64;

@@ -1,13 +1,13 @@
 // The names of the views by which a script shows windows. They say where the buffer was made, and at which of its bytes
 // the window begins: `ring_mjs_12`, `ring_mjs_12_n2_at4096`. A buffer for which that isn't known goes by its number.
 
-import { SIZES } from "../../script/kinds.mjs";
-import { MOST_CHARACTERS } from "../options/names.mjs";
+import { SIZES } from "../../../script/kinds.mjs";
+import { MOST_CHARACTERS } from "../../options/names.mjs";
 
 /** What the names of other views begin with, and what is left of a word that was cut. */
 const OF_OTHERS = /^(?:_|ordinary_|init_|waitAsync_)+/;
 
-/** @typedef {import("../options/names.mjs").NamedView} NamedView */
+/** @typedef {import("../../options/names.mjs").NamedView} NamedView */
 /** @typedef {import("./windows.mjs").Window} Window */
 
 /**

@@ -11,15 +11,15 @@
 // An agent's own time goes on when others can learn what it did: with an atomic write, and with the end of a critical
 // section.
 
-import { SCRIPT_LIMITS } from "../../script/limits.mjs";
-import { PLACES } from "../memory/known-places.mjs";
-import { FLAG } from "../memory/log.mjs";
-import { FIRST_MORE } from "../memory/more-blocks.mjs";
+import { SCRIPT_LIMITS } from "../../../script/limits.mjs";
+import { PLACES } from "../../memory/known-places.mjs";
+import { FLAG } from "../../memory/log.mjs";
+import { FIRST_MORE } from "../../memory/more-blocks.mjs";
 import { ByteRanges } from "./byte-ranges.mjs";
 import { NumberBuffer } from "./number-buffer.mjs";
 import { Lines, Pairs } from "./race-lines.mjs";
 
-/** @typedef {import("../memory/log.mjs").Log} Log */
+/** @typedef {import("../../memory/log.mjs").Log} Log */
 
 /**
  * Gets two accesses that race, with each byte on which they meet.
