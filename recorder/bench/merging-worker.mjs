@@ -4,12 +4,13 @@ import { parentPort, workerData } from "node:worker_threads";
 import { Asker } from "../lib/every/learning/asking.mjs";
 import { loadCode } from "../lib/every/learning/learned-code.mjs";
 import { Learned } from "../lib/every/learning/learned.mjs";
-import { installRealm } from "../lib/every/learning/realm.mjs";
+import { installRealm, installShown } from "../lib/every/learning/realm.mjs";
 import { Kinds, blocksIn } from "../lib/every/search/result.mjs";
 
 const { urls, flaw, limit, isUnmergedToo = true } = workerData;
 const asker = new Asker();
 installRealm(asker);
+installShown();
 
 /** @param {import("../lib/every/learning/learned-code.mjs").LearnedCode} code @param {boolean} isUnmerged */
 function learned(code, isUnmerged) {

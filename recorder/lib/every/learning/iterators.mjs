@@ -2,8 +2,19 @@
 
 import { getPrototypeOf, put } from "../../primordials.mjs";
 
-const ofArrays = /** @type {any} */ (getPrototypeOf([][Symbol.iterator]()));
-const { next } = ofArrays;
+/** @type {any} */
+let ofArrays;
+
+/** @type {Function} */
+let next;
+
+/** Takes what goes through an array now as what has to go through it. */
+export function knowNext() {
+  ofArrays = getPrototypeOf([][Symbol.iterator]());
+  ({ next } = ofArrays);
+}
+
+knowNext();
 
 /** @returns {boolean} whether agents have replaced the `next` of all iterators of arrays; it is put back */
 export function hadOtherNext() {

@@ -9,7 +9,7 @@ import { loadCode } from "./learned-code.mjs";
 import { Learned } from "./learned.mjs";
 import { NotTheSame } from "./learner.mjs";
 import { PROGRESS, showing } from "./learning-progress.mjs";
-import { installRealm } from "./realm.mjs";
+import { installRealm, installShown } from "./realm.mjs";
 import { learningReportOf } from "./learning-report.mjs";
 
 /**
@@ -54,6 +54,7 @@ function reported(given) {
   const words = new Int32Array(given.progress);
   asker.onCall = showing(words);
   installRealm(asker);
+  installShown();
   code = loadCode(given.module, asker, given.flaw);
   const learned = new Learned(code, asker, given);
   const until = now() + 1_000 * given.within;

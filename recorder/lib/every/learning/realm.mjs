@@ -7,7 +7,10 @@ import { recordedAtomics } from "../../agent/atomics.mjs";
 import { blockNumber } from "../../agent/ordinary/context.mjs";
 import { watchOrdinary } from "../../agent/ordinary/watch.mjs";
 import { simulateChance, simulateTime } from "../../agent/time.mjs";
+import { previewEntries } from "../../program/internals.mjs";
 import { watchInstalled } from "../state/installed.mjs";
+import { standForIterators } from "../state/shown-iterators.mjs";
+import { knowNext } from "./iterators.mjs";
 
 const SAYS = /** @type {const} */ (["log", "error", "warn", "info", "debug"]);
 
@@ -47,6 +50,16 @@ export function installRealm(asker) {
   watchInstalled();
   // An async function of an agent that is broken off leaves a promise, and nobody waits for it.
   process.on("unhandledRejection", () => {});
+  syncBuiltinESMExports();
+}
+
+/**
+ * Replaces what agents can hold, so that what it keeps can be shown. It is called once, behind `installRealm`, if the
+ * agents' states are to be shown.
+ */
+export function installShown() {
+  standForIterators(previewEntries);
+  knowNext();
   syncBuiltinESMExports();
 }
 

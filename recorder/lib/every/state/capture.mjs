@@ -2,6 +2,7 @@
 // still read, and all that can be reached from there.
 
 import { framesHere } from "../../agent/frames.mjs";
+import { readingIterators } from "./shown-iterators.mjs";
 import { CantShow, Walk } from "./walk.mjs";
 
 /** @typedef {import("../rewriting/rewrite.mjs").Rewritten} Rewritten */
@@ -58,6 +59,10 @@ export class Capture {
     let first = 0;
     while (first < frames.length && !this.texts.has(frames[first].getFileName() ?? "")) first += 1;
     needsDirect(frames.slice(0, first));
+    for (const one of readingIterators()) {
+      walk.put("|next");
+      walk.value(one);
+    }
     const { stack } = this.runtime;
     const count = stack.length;
     /** @type {Called | undefined} */

@@ -57,6 +57,8 @@ export class NamedBuiltins {
       [Reflect.getPrototypeOf([][Symbol.iterator]()), "arrayIterator"],
       [Reflect.getPrototypeOf(new Map()[Symbol.iterator]()), "mapIterator"],
       [Reflect.getPrototypeOf(new Set()[Symbol.iterator]()), "setIterator"],
+      [Reflect.getPrototypeOf(""[Symbol.iterator]()), "stringIterator"],
+      [Reflect.getPrototypeOf("".matchAll(/a/g)), "textsFound"],
     ];
     for (const [object, name] of others) {
       this.add(object, name);

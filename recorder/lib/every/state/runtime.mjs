@@ -1,10 +1,10 @@
 // What rewritten modules tell about themselves while they run: their frames, the names that these have, and what their
 // functions capture.
 
-import { apply, construct, getPrototypeOf, hasOwn, isArray, proxyOf } from "../../primordials.mjs";
+import { apply, construct, getPrototypeOf, hasOwn, proxyOf } from "../../primordials.mjs";
 import { types } from "node:util";
-import { watchedOf } from "../../agent/ordinary/watched.mjs";
 import { Installed, numberOf } from "./installed.mjs";
+import { shownIteratorOf } from "./shown-iterators.mjs";
 
 /** @typedef {[Environment, number]} CapturedCell a name: what it is among, and its position there */
 
@@ -42,36 +42,8 @@ export class Environment {
  * @property {Record<number, unknown>} t what is kept while something else is evaluated, by its number
  */
 
-/** Stands for the engine's iterator of an array: how far it is can be shown. */
-export class ShownIterator {
-  /** @param {ArrayLike<unknown>} array */
-  constructor(array) {
-    this.array = array;
-    this.at = 0;
-  }
-
-  next() {
-    if (this.at < 0) return { done: true, value: undefined };
-    if (this.at >= this.array.length) return this.return();
-    const value = this.array[this.at];
-    this.at += 1;
-    return { done: false, value };
-  }
-
-  return() {
-    this.at = -1;
-    return { done: true, value: undefined };
-  }
-
-  [Symbol.iterator]() {
-    return this;
-  }
-}
-
 /** What stands in a frame for a value that can't be shown. */
 export const UNKNOWN_VALUE = Object.freeze({ isUnknown: true });
-
-const iteratorOfArrays = Array.prototype[Symbol.iterator];
 
 export class Runtime {
   constructor() {
@@ -244,13 +216,7 @@ const key = (value) => Reflect.ownKeys({ [value]: 0 })[0];
  * @param {any} given
  */
 function iterable(frame, id, given) {
-  frame.t[id] = UNKNOWN_VALUE;
-  const isOwn = isArray(given) && given[Symbol.iterator] === iteratorOfArrays;
-  const isTyped = watchedOf(given) !== undefined || types.isTypedArray(given);
-  let shown;
-  if (isOwn || isTyped) shown = new ShownIterator(given);
-  else if (typeof given === "string") shown = new ShownIterator([...given]);
-  if (shown === undefined) return given;
-  frame.t[id] = shown;
-  return shown;
+  const shown = shownIteratorOf(given);
+  frame.t[id] = shown ?? UNKNOWN_VALUE;
+  return shown ?? given;
 }

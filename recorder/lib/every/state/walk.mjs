@@ -4,7 +4,8 @@ import { types } from "node:util";
 import { anyWatchedOf } from "../../agent/ordinary/watched.mjs";
 import { blockNumber } from "../../agent/ordinary/context.mjs";
 import { hexOf } from "../search/raw-elements.mjs";
-import { ShownIterator, UNKNOWN_VALUE } from "./runtime.mjs";
+import { UNKNOWN_VALUE } from "./runtime.mjs";
+import { iterationOf } from "./shown-iterators.mjs";
 
 /** @typedef {import("./runtime.mjs").CapturedCell} CapturedCell */
 /**
@@ -241,13 +242,20 @@ export class Walk {
     else if (types.isDate(object)) this.out.push("Date", timeOf(object));
     else if (types.isRegExp(object)) {
       this.out.push("RegExp", JSON.stringify(sourceOf(object)), FLAGS.map((flag) => (flag(object) ? 1 : 0)).join(""));
-    } else if (object instanceof ShownIterator) this.out.push("iterator");
+    } else if (iterationOf(object) !== undefined) this.#iteration(object);
     else if (types.isNativeError(object)) this.out.push("Error");
     else if (types.isWeakMap(object) || types.isWeakSet(object)) {
       if (this.hasTags) throw new CantShow("a WeakMap or WeakSet, whose keys may be strings of templates with tags");
       this.out.push("weak");
       this.weak.push({ object, seen: new Set(), hasValues: types.isWeakMap(object) });
     } else needsPlain(object);
+  }
+
+  /** @param {object} object an iterator */
+  #iteration(object) {
+    const { kind, of, at } = /** @type {import("./shown-iterators.mjs").Iteration} */ (iterationOf(object));
+    this.out.push(`iterator ${kind}`, at);
+    this.value(of);
   }
 
   /** @param {string} kind @param {Iterable<any>} entries */
@@ -290,12 +298,12 @@ export class Walk {
 
   /** @param {object} object */
   #prototype(object) {
-    if (object instanceof ShownIterator) return;
     const prototype = Reflect.getPrototypeOf(object);
     const name = prototype === null ? undefined : this.builtins.nameOf(prototype);
     const isTyped = anyWatchedOf(object) !== undefined || ArrayBuffer.isView(object);
     const isOfPlain = this.builtins.plain.has(/** @type {any} */ (prototype));
-    const isPlain = name === undefined || isTyped || isOfPlain || types.isAnyArrayBuffer(object);
+    const isPlain = name === undefined || isTyped || isOfPlain || types.isAnyArrayBuffer(object)
+      || iterationOf(object) !== undefined;
     if (!isPlain && typeof object !== "function") throw new CantShow(`an object of ${name}`);
     this.value(prototype);
   }

@@ -175,6 +175,11 @@ export const packers = Object.values(below("zlib", { Zlib: "function", BrotliEnc
   .filter((each) => typeof each.prototype?.writeSync === "function");
 export const streamOf = asyncHooks.symbols?.owner_symbol;
 
+/** Shows what an iterator of a map or of a set still goes through, and what a promise has come to. */
+export const { previewEntries, getPromiseDetails } = below("util", {
+  previewEntries: "function", getPromiseDetails: "function",
+});
+
 /** The names of what node calls when a target's listeners change, and what gives a class such as `onmessage`. */
 export const { kNewListener, kRemoveListener, defineEventHandler } = inside("event_target", {
   kNewListener: "symbol", kRemoveListener: "symbol", defineEventHandler: "function",
