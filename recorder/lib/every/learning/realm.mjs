@@ -7,7 +7,7 @@ import { recordedAtomics } from "../../agent/atomics.mjs";
 import { blockNumber } from "../../agent/ordinary/context.mjs";
 import { watchOrdinary } from "../../agent/ordinary/watch.mjs";
 import { simulateChance, simulateTime } from "../../agent/time.mjs";
-import { previewEntries } from "../../program/internals.mjs";
+import { previewEntries } from "../../program/node/internals.mjs";
 import { watchInstalled } from "../state/installed.mjs";
 import { standForIterators } from "../state/shown-iterators.mjs";
 import { knowNext } from "./iterators.mjs";
