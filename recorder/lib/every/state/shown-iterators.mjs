@@ -30,8 +30,8 @@ const codePointAt = uncurried(String.prototype.codePointAt);
 const { fromCodePoint } = String;
 const ofArrays = /** @type {any} */ (getPrototypeOf([][iterator]()));
 const ofStrings = /** @type {any} */ (getPrototypeOf(""[iterator]()));
-const ofMaps = /** @type {any} */ (getPrototypeOf(new Map()[iterator]()));
-const ofSets = /** @type {any} */ (getPrototypeOf(new Set()[iterator]()));
+const ofMaps = /** @type {any} */ (getPrototypeOf(new Map().entries()));
+const ofSets = /** @type {any} */ (getPrototypeOf(new Set().values()));
 const { next: nextOfArrays } = ofArrays;
 const { next: nextOfStrings } = ofStrings;
 
@@ -262,6 +262,6 @@ export function standForIterators(previewEntries) {
   }
   put(Set.prototype, "keys", Set.prototype.values);
   for (const owner of [ofMaps, ofSets]) replace(owner, "next", notingEnds);
-  makers.push(getPrototypeOf(ofArrays)[iterator]);
+  makers.push(/** @type {any} */ (getPrototypeOf(ofArrays))[iterator]);
   for (const { prototype } of [Array, TypedArray, String, Map, Set]) makers.push(prototype[iterator]);
 }
