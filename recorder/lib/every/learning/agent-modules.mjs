@@ -8,6 +8,7 @@ import { Script } from "node:vm";
 import { Refused } from "../../options/refused.mjs";
 import { defineProperty } from "../../primordials.mjs";
 import { parseScript, resolveModule } from "../../program/node/internals.mjs";
+import { ModuleText } from "../rewriting/module-text.mjs";
 import { rewritten } from "../rewriting/rewrite.mjs";
 
 /** @typedef {import("../rewriting/rewrite.mjs").Rewritten} Rewritten */
@@ -30,14 +31,8 @@ function exportsOf(name) {
   return { ...exported, default: exported };
 }
 
-/** @param {string} url @param {string} source */
-function parsed(url, source) {
-  try {
-    return parseScript(source, { ecmaVersion: "latest", sourceType: "module" });
-  } catch (error) {
-    throw new Refused(`--all can't read ${basename(url)}: ${/** @type {Error} */ (error).message}`);
-  }
-}
+/** @param {string} source */
+const parsed = (source) => parseScript(source, { ecmaVersion: "latest", sourceType: "module" });
 
 export class AgentModules {
   /** @param {boolean} [isPlain] whether nothing is to show what the modules keep */
@@ -64,16 +59,16 @@ export class AgentModules {
     const name = basename(fileURLToPath(url));
     if (!/\.m?js$/.test(url)) throw new Refused(`--all can't read ${name}: it takes modules in .mjs or .js files`);
     const source = readFileSync(fileURLToPath(url), "utf8").replace(/^\uFEFF/, "");
-    const tree = parsed(url, source);
-    const how = { file: name, isPlain: this.isPlain };
+    const written = new ModuleText(name, source, parsed);
+    const { isPlain } = this;
     if (isEntry) this.entry = url;
-    let text = rewritten(tree, source, { ...how, isAlone: isEntry });
+    let text = rewritten(written, { isPlain, isAlone: isEntry });
     this.texts.set(url, text);
     /** @type {(string | object)[]} */
     const imports = [];
     for (const specifier of text.imports) imports.push(this.#imported(specifier, url));
     if (isEntry && this.isEntryImported) {
-      text = rewritten(tree, source, { ...how, isAlone: false });
+      text = rewritten(written, { isPlain, isAlone: false });
       this.texts.set(url, text);
     }
     this.modules.push({ url, make: new Script(text.code, { filename: url }).runInThisContext(), imports });

@@ -13,10 +13,11 @@ import { VISITS } from "./visits.mjs";
 /** @typedef {{ scope: Scope, within: Info | null }} EnclosingScope where something is */
 
 export class Analysis {
-  /** @param {Tree} tree of the module @param {string} source @param {string} file as messages name it */
-  constructor(tree, source, file) {
+  /** @param {import("./module-text.mjs").ModuleText} text */
+  constructor(text) {
+    const { tree, source } = text;
+    this.text = text;
     this.source = source;
-    this.file = file;
     /** @type {Scope[]} */
     this.scopes = [];
     /** @type {Info[]} */
@@ -59,8 +60,7 @@ export class Analysis {
    * @returns {never}
    */
   refuse(tree, what) {
-    const before = this.source.slice(0, tree.start).split("\n");
-    const place = `${this.file}:${before.length}:${before[before.length - 1].length + 1}`;
+    const place = `${this.text.file}:${this.text.lineOf(tree.start)}`;
     throw new Refused(`--all can't show what an agent keeps at ${place}: ${what}`);
   }
 

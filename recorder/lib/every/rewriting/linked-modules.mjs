@@ -1,5 +1,6 @@
 // A module as a function: what it imports and exports goes by an object, so that the module can be made anew.
 
+import { positionOutsideComments } from "./comments.mjs";
 import { namesIn } from "./tree.mjs";
 
 /** @typedef {import("./tree.mjs").Tree} Tree */
@@ -92,9 +93,11 @@ class Linker {
       return;
     }
     this.exports.push(["default", DEFAULT]);
-    this.edits.replace(start, declaration.start - start, `const ${DEFAULT} = ({ "default": `);
-    this.left.push([start, declaration.start]);
-    this.edits.after(declaration.end, ` })["default"]${declaration.end === end ? ";" : ""}`);
+    const { source } = this.analysis;
+    const behind = positionOutsideComments(source, "default", start) + "default".length;
+    this.edits.replace(start, behind - start, `const ${DEFAULT} = ({ "default": `);
+    const isEnded = source[end - 1] === ";";
+    this.edits.after(isEnded ? end - 1 : end, ` })["default"]${isEnded ? "" : ";"}`);
   }
 
   /** Puts what stands for names that are imported in their places. */

@@ -6,8 +6,6 @@ import { OWN_NAMES } from "./naming.mjs";
 import { CallSites } from "./call-sites.mjs";
 import { CodeWriter } from "./writer.mjs";
 
-/** @typedef {import("./tree.mjs").Tree} Tree */
-
 /**
  * @typedef {object} Rewritten
  * @property {string} code an expression: the function of `$R`, what shows, and `$m`, what is imported and exported
@@ -19,15 +17,15 @@ import { CodeWriter } from "./writer.mjs";
 
 /**
  * Rewrites a module.
- * @param {Tree} tree
- * @param {string} source
- * @param {{ file: string, isAlone: boolean, isPlain?: boolean }} of the module: its name for messages, whether no other
- * imports from it, and whether it only becomes a function, with nothing that shows what it keeps
+ * @param {import("./module-text.mjs").ModuleText} text
+ * @param {{ isAlone: boolean, isPlain?: boolean }} of the module: whether no other imports from it, and whether it only
+ * becomes a function, with nothing that shows what it keeps
  * @returns {Rewritten}
  * @throws {import("../../options/refused.mjs").Refused}
  */
-export function rewritten(tree, source, { file, isAlone, isPlain = false }) {
-  const analysis = new Analysis(tree, source, file);
+export function rewritten(text, { isAlone, isPlain = false }) {
+  const analysis = new Analysis(text);
+  const { tree, source } = text;
   const start = source.search(OWN_NAMES);
   if (start >= 0) analysis.refuse({ start }, "a name that the recorder uses here");
   const writer = new CodeWriter(analysis);
@@ -44,7 +42,7 @@ export function rewritten(tree, source, { file, isAlone, isPlain = false }) {
   const places = new CallSites(analysis);
   return {
     code: `${code}\n})`, imports, hasTags: analysis.hasTags, at: (place) => places.at(original(place)),
-    lineOf: (place) => lineAt(source, original(place)),
+    lineOf: (place) => text.lineOf(original(place)),
   };
 }
 
@@ -59,10 +57,4 @@ function shownModule({ root }, exported) {
   const shown = [...names, ...(exported.has(DEFAULT) ? [{ index: root.names.size, name: DEFAULT }] : [])];
   const read = shown.map(({ index, name }) => `$i === ${index} ? ${name} : `);
   return `$R.module(($i) => ${read.join("")}undefined, [${shown.map(({ index }) => index).join(", ")}]);`;
-}
-
-/** @param {string} source @param {number} place */
-function lineAt(source, place) {
-  const before = source.slice(0, place).split("\n");
-  return `${before.length}:${before[before.length - 1].length + 1}`;
 }

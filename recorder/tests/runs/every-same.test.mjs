@@ -1,0 +1,161 @@
+// A rewritten program is the same program: it says the same as the program that was written.
+
+import assert from "node:assert/strict";
+import { test } from "node:test";
+import { temporaryFolder } from "../helpers/common.mjs";
+import { saidByBoth } from "../helpers/rewritten-module.mjs";
+
+/** Bodies of functions that say something, by what they try. No line has a semicolon that may be left out. */
+const WITHOUT_SEMICOLONS = {
+  "a member that a call's value is assigned to": `
+    let a = [0, 0], n = 0
+    const f = () => (n += 1)
+    n = 5
+    a[0] = f()
+    a.more = f(a[0], f())
+    say(a[0], a.more, n)`,
+  "a change of a member, and an update": `
+    const o = { n: 1, k: "n" }
+    const key = () => o.k
+    let b = o
+    o[key()] += key().length
+    let c = b
+    o[key()]++
+    o
+    ++o[key()]
+    say(o.n, c === o)`,
+  "a call of a member with calls in it": `
+    const o = { m: (x) => x + 1, f: () => 2 }
+    let b = o.f
+    o.m(o.f(b()))
+    say(b(), o.m(b(o.f())))`,
+  "functions, classes and objects at the beginnings of lines": `
+    let b = 1
+    var f = function () { return b }
+    say(f())
+    let g = () => 2
+    class A { m() { return 3 } }
+    say(g(), new A().m())
+    let o = { m() { return 4 } }
+    o = { m() { return 5 } }
+    say(o.m())`,
+  "\`return\` at the end of a line and of a block": `
+    const f = (x) => { if (x) return
+      say("not returned"); return }
+    const g = () => {
+      return
+      say("never")
+    }
+    say(f(1), f(0), g())`,
+  "a line's end after \`break\` and \`continue\`": `
+    let n = 0
+    l: for (;;) { n++
+      if (n < 3) continue
+      l
+      if (n > 4) break
+      l
+    }
+    var l = 3
+    say(n, l)`,
+  "a body without braces": `
+    let n = 0
+    const f = () => (n += 1)
+    const o = {}
+    if (n === 1) o.a = f()
+    else o.b = f(f())
+    while (n < 5) o.c = f()
+    for (let i = 0; i < 2; i++) o[i] = f(o.c)
+    for (const k in o) say(k), o[k] = f(n)
+    for (const k of [1, 2]) o[k] = f(k)
+    do o.d = f(f())
+    while (n < 30) say(n)
+    m: o.e = f(f())
+    say(JSON.stringify(o))`,
+  "a \`try\` on one line": `
+    const f = (x) => { try { return x } finally { say("f") } }
+    const g = (x) => { try { if (x) return; say("g") } finally { say(x) } }
+    const h = () => { try { throw 1 } catch (x) { return say(x) } finally { say(2) } }
+    say(f(1), g(0), g(1), h())`,
+  "fields of classes": `
+    const k = "x"
+    class A {
+      a = [1]
+      [k] = 2
+      static b
+      ["c"]() { return 4 }
+      static
+      d = 5;
+      'e'
+      get
+      *g() { yield 6 }
+    }
+    const o = new A
+    say(JSON.stringify(o), JSON.stringify(Object.keys(A)), o.c(), [...o.g()][0])`,
+  "declarations and directives": `
+    "use strict"
+    let
+      a = 1, b
+    const c = 2
+    var [d] = [3]
+    let { e } = { e: 4 }
+    say(a, b, c, d, e, (function () { "use strict"
+      return this })())`,
+  "regular expressions and templates": `
+    let a = /x;/
+    let b = \`;\`
+    let n = a.test("x;") ? say(b) : 0
+    say(n)
+    let s = ";"
+    say(s)`,
+  "what is said behind comments": `
+    let a = [] // ;
+    a[0] = say(1) /* ; */
+    a.b = say(2) /*
+    */ a.c = say(3)
+    say(a.length) // the end`,
+};
+
+/** Modules without semicolons. */
+const MODULES = {
+  "imports and exports": `import assert from "node:assert"
+import * as util from 'node:util'
+import { isDeepStrictEqual as same, inspect } from "node:util"
+export { same as equal }
+export * from "node:path"
+export * as path from "node:path"
+export const a = 1, b = [2]
+b[1] = same(a, 1)
+export let c = a
+inspect(b)
+export { c as d }
+export default function (say) {
+  assert(same(b, [2, true]))
+  let x = util
+  inspect(x.inspect(b))
+  say(inspect(b), c)
+}`,
+  "an expression as the default": `let f = (say) => say(1)
+export default (f)
+f = null`,
+  "a function without a name as the default": `export default (say) => { say(1) }
+let x = 1`,
+  "all on one line": "let n = 0; const o = {}; export default (say) => { o.n = say(n); { o.m = say(2) } return o.n }",
+};
+
+/** @param {string} body */
+const functionOf = (body) => `export default function (say) {${body}\n}\n`;
+
+const TEXTS = {
+  ...Object.fromEntries(Object.entries(WITHOUT_SEMICOLONS).map(([name, body]) => [name, functionOf(body)])),
+  ...MODULES,
+};
+const SAID = saidByBoth(temporaryFolder(), Object.values(TEXTS));
+
+for (const [at, name] of Object.keys(TEXTS).entries()) {
+  test(`the same program: ${name}`, async () => {
+    const { problem, rewritten, written } = (await SAID)[at];
+    assert.equal(problem, undefined);
+    assert.deepEqual(rewritten, written);
+    assert.ok(written.length > 1, "it says something");
+  });
+}
