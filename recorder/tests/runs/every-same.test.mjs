@@ -115,6 +115,26 @@ const WITHOUT_SEMICOLONS = {
     say(a.length) // the end`,
 };
 
+/** Bodies of functions that go by what a rewritten text could change. */
+const BODIES = {
+  "names of functions that are assigned": `
+    let x = () => 0, y; y = function () {}; var z = async () => 1; const g = function* () {}, c = class {};
+    let q; q ??= () => 0; let r; r ||= (() => 1); const o = {}; o.m = () => 0; x = (0, () => 0);
+    say(x.name, y.name, z.name, g.name, c.name, q.name, r.name, o.m.name, [() => 0][0].name);`,
+  "names of functions in objects": `
+    const k = "kk", s = Symbol("sy"), f = () => 1;
+    const o = { a: () => 0, b: function () {}, "c d": () => 1, [k]: () => 2, [s]: () => 3, 7: () => 4, h: class {},
+      __proto__: () => 6, [k + 1]: class {}, [f()]: () => 7, i: f(), [Symbol()]: () => 8 };
+    for (const key of Reflect.ownKeys(o)) say(key, o[key].name);
+    say(Object.getPrototypeOf(o).name);`,
+  "members with the name of the prototype's property": `
+    const __proto__ = { z: 1 }, f = () => 2, o = { __proto__, a: f() }, p = { __proto__: { z: 1 }, a: f() };
+    say(o.z, Object.keys(o), p.z, Object.keys(p));`,
+  "a call of what an optional chain in parentheses has": `
+    const f = () => 1, o = { n: 3, m(x) { return [this?.n, x]; } };
+    say((o?.m)(f()), (o.m)(f()), o?.m(f()), o.m?.(f()));`,
+};
+
 /** Modules without semicolons. */
 const MODULES = {
   "imports and exports": `import assert from "node:assert"
@@ -146,7 +166,8 @@ let x = 1`,
 const functionOf = (body) => `export default function (say) {${body}\n}\n`;
 
 const TEXTS = {
-  ...Object.fromEntries(Object.entries(WITHOUT_SEMICOLONS).map(([name, body]) => [name, functionOf(body)])),
+  ...Object.fromEntries(Object.entries({ ...WITHOUT_SEMICOLONS, ...BODIES }).map(([name, body]) =>
+    [name, functionOf(body)])),
   ...MODULES,
 };
 const SAID = saidByBoth(temporaryFolder(), Object.values(TEXTS));

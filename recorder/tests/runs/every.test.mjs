@@ -123,6 +123,7 @@ test("what can't be learned is refused, with its line", async (context) => {
     [LOADS("(() => 0).constructor('return 1')();"), /agents\.mjs:5:3: \.constructor$/],
     [LOADS("(() => 0)['constructor']('return 1')();"), /agents\.mjs:5:3: \.constructor$/],
     [LOADS("const { constructor: R } = /a/; R.$1;"), /agents\.mjs:5:11: \.constructor$/],
+    [LOADS("String(agent);"), /it reads the text of a function, at agents\.mjs:5:\d+$/],
     [LOADS("performance.mark('a');"), /agents\.mjs:5:3: `performance` used in this way$/],
     [LOADS("{ using one = null; }"), /agents\.mjs:5:5: `using`$/],
     [LOADS("buffers[0].kept = 1;"), /gives the object of a buffer a property or another prototype$/],

@@ -5,9 +5,12 @@ import { syncBuiltinESMExports } from "node:module";
 import { types } from "node:util";
 import { recordedAtomics } from "../../agent/atomics.mjs";
 import { blockNumber } from "../../agent/ordinary/context.mjs";
+import { replace } from "../../agent/ordinary/patch.mjs";
 import { watchOrdinary } from "../../agent/ordinary/watch.mjs";
 import { simulateChance, simulateTime } from "../../agent/time.mjs";
+import { apply } from "../../primordials.mjs";
 import { previewEntries } from "../../program/node/internals.mjs";
+import { OWN_NAMES } from "../rewriting/naming.mjs";
 import { watchInstalled } from "../state/installed.mjs";
 import { standForIterators } from "../state/shown-iterators.mjs";
 import { knowNext } from "./iterators.mjs";
@@ -48,6 +51,7 @@ export function installRealm(asker) {
   }));
   for (const name of SAYS) /** @type {any} */ (console)[name] = () => {};
   watchInstalled();
+  hideTexts(refuse);
   // An async function of an agent that is broken off leaves a promise, and nobody waits for it.
   process.on("unhandledRejection", () => {});
   syncBuiltinESMExports();
@@ -93,4 +97,17 @@ class Others {
   }
 
   wait() {}
+}
+
+/**
+ * The text of a rewritten function isn't the text that was written.
+ * @param {(what: string) => never} refuse
+ */
+function hideTexts(refuse) {
+  replace(Function.prototype, "toString", (engine) => ({
+    toString() {
+      const text = apply(engine, this, []);
+      return OWN_NAMES.test(text) ? refuse("it reads the text of a function") : text;
+    },
+  }).toString);
 }

@@ -1,8 +1,9 @@
 // How expressions are rewritten: what is evaluated first is kept in the frame while the rest is evaluated.
 
 import { positionOutsideComments } from "./comments.mjs";
-import { engineName } from "./naming.mjs";
-import { isConstant, isMethod, isPattern, runsCode } from "./tree.mjs";
+import { NAME_OF_KEY } from "./function-names.mjs";
+import { engineName, keyOfShorthand } from "./naming.mjs";
+import { isClass, isConstant, isMethod, isPattern, runsCode } from "./tree.mjs";
 
 /** @typedef {import("./tree.mjs").Tree} Tree */
 /** @typedef {import("./scopes.mjs").Info} Info */
@@ -28,7 +29,7 @@ export const EXPRESSIONS = {
     const last = expressions.map(runsCode).lastIndexOf(true);
     for (const one of expressions.slice(0, Math.max(last, 0))) {
       if (isConstant(one)) continue;
-      writer.keep(info, one, end, "`${(", ")}`");
+      writer.keep(info, one, end, ["`${(", ")}`"]);
     }
     writer.writeAll(expressions, info);
   },
@@ -88,14 +89,14 @@ function writeObject(writer, tree, info) {
   const shorthand = new Set(properties.flatMap((/** @type {Tree} */ one) => (one.shorthand ? [one.value] : [])));
   values.forEach((/** @type {Tree} */ one, /** @type {number} */ at) => {
     if (at >= last || !(keys.has(one) ? !isConstant(one) : writer.isKept(one))) return;
-    if (one.type === "SpreadElement") {
+    if (one.type === "SpreadElement" || (isClass(one) && writer.names.get(one) === NAME_OF_KEY)) {
       hide(writer, tree.start, tree.end);
       return;
     }
     const isImported = writer.analysis.bindingOf(one)?.kind === "import";
-    if (shorthand.has(one) && !isImported) writer.edits.before(one.start, `${one.name}: `);
+    if (shorthand.has(one) && !isImported) writer.edits.before(one.start, `${keyOfShorthand(one.name)}: `);
     // A key is made a text or a symbol at once.
-    if (keys.has(one)) writer.keep(info, one, tree.end, "$R.key(", ")");
+    if (keys.has(one)) writer.keep(info, one, tree.end, ["$R.key(", ")"]);
     else writer.keep(info, one, tree.end);
   });
   for (const one of properties) {
@@ -110,7 +111,8 @@ function writeObject(writer, tree, info) {
 function writeCall(writer, tree, info) {
   const { callee, arguments: given } = tree;
   if (!["Identifier", "MemberExpression", "Super"].includes(callee.type)) hide(writer, tree.start, tree.end);
-  if (!given.some(runsCode)) {
+  // What stands in parentheses passes its object on to the call.
+  if (!given.some(runsCode) || callee.type === "ChainExpression") {
     writer.writeAll([callee, ...given], info);
     return;
   }

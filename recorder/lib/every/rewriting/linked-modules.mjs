@@ -1,6 +1,7 @@
 // A module as a function: what it imports and exports goes by an object, so that the module can be made anew.
 
 import { positionOutsideComments } from "./comments.mjs";
+import { keyOfShorthand } from "./naming.mjs";
 import { namesIn } from "./tree.mjs";
 
 /** @typedef {import("./tree.mjs").Tree} Tree */
@@ -105,7 +106,7 @@ class Linker {
     const { analysis, edits, imported, left } = this;
     for (const { binding, start, end } of new Set(analysis.byPlace.values())) {
       if (binding?.kind !== "import" || left.some(([from, to]) => from <= start && start < to)) continue;
-      if (analysis.shorthand.has(start)) edits.before(start, `${binding.name}: `);
+      if (analysis.shorthand.has(start)) edits.before(start, `${keyOfShorthand(binding.name)}: `);
       edits.replace(start, end - start, `(0, ${imported.get(binding.name)})`);
     }
   }

@@ -37,3 +37,9 @@ const NAMES = {
 export function engineName(callee) {
   return NAMES[callee.type]?.(callee) ?? NOT_KNOWN;
 }
+
+/**
+ * @param {string} name of a member of an object's literal that has but a name
+ * @returns {string} its key if it has a value besides; `__proto__: value` isn't a member, but sets the prototype
+ */
+export const keyOfShorthand = (name) => (name === "__proto__" ? "[\"__proto__\"]" : name);

@@ -5,6 +5,7 @@
 import { positionOutsideComments } from "./comments.mjs";
 import { Edits } from "./source-edits.mjs";
 import { EXPRESSIONS } from "./expressions.mjs";
+import { NAME_OF_KEY, givingName, namesOfFunctions } from "./function-names.mjs";
 import { newId } from "./scopes.mjs";
 import { STATEMENTS } from "./statements.mjs";
 import { childrenOf, functionIn, isClass, isConstant, isFunction, isMethod, runsCode } from "./tree.mjs";
@@ -23,6 +24,7 @@ export class CodeWriter {
     this.analysis = analysis;
     this.source = analysis.source;
     this.edits = new Edits(analysis.source);
+    this.names = namesOfFunctions(analysis.tree);
     this.temporaries = 0;
   }
 
@@ -33,6 +35,7 @@ export class CodeWriter {
    */
   write(tree, info, isMethodsValue = false) {
     if (tree === null || tree === undefined) return;
+    if (tree.type === "ObjectExpression") this.#noteKeys(tree);
     if (isFunction(tree)) this.#writeFunction(tree, isMethodsValue);
     else if (isClass(tree)) this.#writeClass(tree, info);
     else if (tree.type === "ObjectExpression" && tree.properties.some(isMethod)) this.#writeMethods(tree, info);
@@ -82,15 +85,19 @@ export class CodeWriter {
    * @param {Info} info
    * @param {Tree} tree
    * @param {number} to where it isn't needed any more
-   * @param {string} [before] what makes of it what is kept, up to it
-   * @param {string} [after] and behind it
+   * @param {[string, string]} [around] what makes of it what is kept, before it and behind it
    * @returns {string} what it is kept in
    */
-  keep(info, tree, to, before = "(", after = ")") {
+  keep(info, tree, to, [before, after] = this.#kept(tree)) {
     const room = this.room(info, tree.end, to);
     this.edits.before(tree.start, `(${room} = ${before}`);
     this.edits.after(tree.end, `${after})`);
     return room;
+  }
+
+  /** @param {Tree} tree @returns {[string, string]} what stands around it */
+  #kept(tree) {
+    return givingName(isClass(tree) ? this.names.get(tree) : undefined);
   }
 
   /**
@@ -183,8 +190,10 @@ export class CodeWriter {
     const info = this.infoOf(tree);
     const isStatement = tree.type === "FunctionDeclaration" && tree.id;
     if (!isStatement && !isMethodsValue) {
-      edits.before(tree.start, `$R.fn(${info.id}, ${this.cells(info)}, (`);
-      edits.after(tree.end, info.usesSuper ? "), true)" : "))");
+      const name = this.names.get(tree);
+      const [before, after] = givingName(name);
+      edits.before(tree.start, `$R.fn(${info.id}, ${this.cells(info)}, ${before}`);
+      edits.after(tree.end, `${after}, ${info.usesSuper}${name === NAME_OF_KEY ? ", true" : ""})`);
     }
     if (info.isHidden) {
       childrenOf(tree).forEach((child) => this.needsNoFunction(child));
@@ -248,6 +257,15 @@ export class CodeWriter {
       return [`{ kind: "${kind}", key: ${name}, cells: ${this.cells(info)}, usesSuper: ${info.usesSuper}${more} }`];
     });
     return `[${rows.join(", ")}]`;
+  }
+
+  /** @param {Tree} tree an object of whose keys functions get their names */
+  #noteKeys({ properties }) {
+    for (const { key, value } of properties) {
+      if (this.names.get(value) !== NAME_OF_KEY || isClass(value)) continue;
+      this.edits.before(key.start, "$R.named(");
+      this.edits.after(key.end, ")");
+    }
   }
 
   /** @param {Tree} tree an object with methods @param {Info | null} info */

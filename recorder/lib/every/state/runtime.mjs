@@ -1,7 +1,7 @@
 // What rewritten modules tell about themselves while they run: their frames, the names that these have, and what their
 // functions capture.
 
-import { apply, construct, getPrototypeOf, hasOwn, proxyOf } from "../../primordials.mjs";
+import { apply, construct, defineProperty, getPrototypeOf, hasOwn, proxyOf } from "../../primordials.mjs";
 import { types } from "node:util";
 import { Installed, numberOf } from "./installed.mjs";
 import { shownIteratorOf } from "./shown-iterators.mjs";
@@ -61,6 +61,8 @@ export class Runtime {
     this.installed = new Installed();
     /** How many of these are of the modules themselves. */
     this.lasting = 0;
+    /** @type {string | symbol} of which a function gets its name */
+    this.key = "";
     /** What the rewritten code calls. */
     this.calls = this.#calls();
   }
@@ -137,10 +139,22 @@ export class Runtime {
   /** What is called where functions, classes and objects are made. */
   #makers() {
     return {
-      /** @param {number} id @param {CapturedCell[] | null} cells @param {Function} fn @param {boolean} [isHidden] */
-      fn: (id, cells, fn, isHidden) => {
+      /**
+       * @param {number} id
+       * @param {CapturedCell[] | null} cells
+       * @param {Function} fn
+       * @param {boolean} [isHidden]
+       * @param {boolean} [isNamed] whether it gets its name of the key that `named` was given last
+       */
+      fn: (id, cells, fn, isHidden, isNamed) => {
         this.#register(fn, { id: `f${id}`, cells, isHidden });
+        if (isNamed) defineProperty(fn, "name", { value: nameOfKey(this.key), configurable: true });
         return fn;
+      },
+      /** @param {unknown} value @returns {string | symbol} the key that it is */
+      named: (value) => {
+        this.key = key(value);
+        return this.key;
       },
       /**
        * @param {number} id
@@ -204,6 +218,12 @@ function method(value, name) {
   const fn = callable(value, name);
   if (!types.isProxy(fn) && !hasOwn(fn, "call") && getPrototypeOf(fn) === Function.prototype) return fn;
   return { call: (/** @type {unknown} */ self, /** @type {unknown[]} */ ...given) => apply(fn, self, given) };
+}
+
+/** @param {string | symbol} given a key @returns {string} what a function is called that gets its name of it */
+function nameOfKey(given) {
+  if (typeof given === "string") return given;
+  return given.description === undefined ? "" : `[${given.description}]`;
 }
 
 /** @param {any} value @returns {string | symbol} the key that it is among an object's members */
