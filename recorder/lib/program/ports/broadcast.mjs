@@ -5,6 +5,7 @@ import threads from "node:worker_threads";
 import { apply, uncurried } from "../../primordials.mjs";
 import { defineEventHandler, kNewListener } from "../node/internals.mjs";
 import { TO_CHANNELS } from "../moves/moves.mjs";
+import { PartInRun } from "../moves/part-in-run.mjs";
 import { nodeError } from "../node/node-error.mjs";
 import { KIND } from "./ports.mjs";
 import { UNREAD } from "../moves/unread.mjs";
@@ -63,7 +64,7 @@ const gotOf = (found) => (UNREAD in found ? { value: found[UNREAD], isUnread: tr
  * @param {Function} called
  */
 function cast({ ports, moves, control, buffers }, from, value, called) {
-  const { table, agent } = ports.world;
+  const { table, agent } = ports.context;
   const bare = sent(value, buffers);
   post(closed, bare);
   const first = moves.send(called, TO_CHANNELS);
@@ -76,7 +77,7 @@ function cast({ ports, moves, control, buffers }, from, value, called) {
     const number = count === 0 ? first : moves.sendNow();
     count += 1;
     const envelope = { kind: KIND.MESSAGE, number, ports: [], ids: [] };
-    ports.world.noted(number, envelope.kind, bare);
+    ports.context.noted(number, envelope.kind, bare);
     if (owner === agent) ports.queueOf(id).push({ ...envelope, ...clonedHere(bare) });
     else control.handWith(owner, { kind: "broadcast", id, envelope }, bare);
     table.addWaiting(id, 1);
@@ -88,14 +89,8 @@ function cast({ ports, moves, control, buffers }, from, value, called) {
 const missing = (name) =>
   nodeError("ERR_MISSING_ARGS", `The "${name}" argument must be specified`, {}, TypeError);
 
-/** @type {Casting | undefined} a thread has one part in a run */
-let casting;
-
-/** @returns {Casting} */
-function world() {
-  if (casting === undefined) throw new Error("the thread has no part in a run yet");
-  return casting;
-}
+/** @type {PartInRun<Casting>} */
+const part = new PartInRun();
 
 /** The BroadcastChannel that the program finds. */
 class BroadcastChannel extends EngineTarget {
@@ -106,8 +101,8 @@ class BroadcastChannel extends EngineTarget {
   constructor(name) {
     if (arguments.length === 0) throw missing("name");
     super();
-    const { ports, moves } = world();
-    const { table, hereLater } = ports.world;
+    const { ports, moves } = part.needed;
+    const { table, hereLater } = ports.context;
     moves.yield();
     this.#name = `${name}`;
     this.#known = ports.queued(this, (envelope) => this[DELIVER](envelope));
@@ -130,7 +125,7 @@ class BroadcastChannel extends EngineTarget {
   /** @param {any[]} given by node when there is another listener: how many of its type, the type, and more */
   [kNewListener](...given) {
     apply(engineNew, this, given);
-    if (given[1] === "message") this.#known.listened = world().ports.world.hereLater();
+    if (given[1] === "message") this.#known.listened = part.needed.ports.context.hereLater();
   }
 
   /** @param {unknown} value */
@@ -138,15 +133,15 @@ class BroadcastChannel extends EngineTarget {
     BroadcastChannel.#needs(this);
     if (arguments.length === 0) throw missing("message");
     if (this.#known.closed) throw new EngineException("BroadcastChannel is closed.", "InvalidStateError");
-    cast(world(), this.#known.id, value, this.postMessage);
+    cast(part.needed, this.#known.id, value, this.postMessage);
   }
 
   close() {
     BroadcastChannel.#needs(this);
     if (this.#known.closed) return;
     this.#known.closed = true;
-    const { ports } = world();
-    ports.world.table.close(this.#known.id);
+    const { ports } = part.needed;
+    ports.context.table.close(this.#known.id);
     ports.mine.delete(this.#known.id);
   }
 
@@ -172,7 +167,7 @@ for (const type of ["message", "messageerror"]) defineEventHandler(BroadcastChan
 
 /** @param {Casting} given @returns {Function} the class by which the program makes such channels */
 export function broadcastClass(given) {
-  casting = given;
+  part.begin(given);
   const { control, ports } = given;
   control.onItem("broadcast", ({ id, envelope }, ahead = {}) =>
     void ports.queueOf(id).push({ ...envelope, ...gotOf(ahead) }));

@@ -162,7 +162,7 @@ export function clonedValue(value, options, ports, moved) {
   const met = [];
   const given = bare(value, (memory) => met.push(memory));
   if (met.length + moved.length === 0) return engineClone(value, options);
-  const { buffers } = ports.world;
+  const { buffers } = ports.context;
   const { clone, clones, others } = engineClone({ clone: given, clones: met, others: moved }, options);
   clones.forEach((/** @type {any} */ each, /** @type {number} */ at) =>
     buffers.cloned(bufferOfAny(each), bufferOfAny(met[at])));

@@ -41,7 +41,7 @@ export class NodePorts extends Ports {
   /** @param {any} port that another object stands for from now on: node closes this one */
   leave(port) {
     super.leave(port);
-    if (apply(listenerCount, port, ["close"]) > 0) this.world.later("has closed a port", () => this.giveClose(port));
+    if (apply(listenerCount, port, ["close"]) > 0) this.context.later("has closed a port", () => this.giveClose(port));
   }
 
   /** @param {any} port that the program's code closes. Node looks for messages there once more if it has given one */
@@ -51,14 +51,14 @@ export class NodePorts extends Ports {
     known.closed = true;
     known.isClosing = true;
     known.left = this.latest === known ? Math.max(this.waiting(port), AT_ONCE - 1) : 0;
-    this.world.later("has closed a port", () => this.closeNow(port));
+    this.context.later("has closed a port", () => this.closeNow(port));
   }
 
   /** @param {any} port that has its first listener of messages, or has lost its last one @param {boolean} listens */
   listens(port, listens) {
     const known = this.known(port);
     known.refed = listens && !known.isGone;
-    if (listens) known.listened = this.world.hereLater();
+    if (listens) known.listened = this.context.hereLater();
     this[listens ? "start" : "stop"](port);
   }
 }
@@ -78,7 +78,7 @@ const methodsOf = (ports) => ({
   ref() {
     const known = ports.known(this);
     known.refed = !known.isGone;
-    known.where ??= ports.world.hereLater();
+    known.where ??= ports.context.hereLater();
   },
   unref() { ports.known(this).refed = false; },
   hasRef() { return ports.known(this).refed; },

@@ -73,9 +73,9 @@ export class Ports {
   /** @type {KnownPort | undefined} of which the thread's code has got a message last, while its loop begins no more */
   latest = undefined;
 
-  /** @param {PortContext} world */
-  constructor(world) {
-    this.world = world;
+  /** @param {PortContext} context */
+  constructor(context) {
+    this.context = context;
   }
 
   /** Nothing of an earlier run is left. */
@@ -98,7 +98,7 @@ export class Ports {
 
   /** @param {any} [made] a channel of node's @returns {{ port1: any, port2: any }} it, whose ports this thread has */
   channel(made = new EngineChannel()) {
-    const { table, agent, refuse } = this.world;
+    const { table, agent, refuse } = this.context;
     if (!table.hasRoom()) refuse("made more ports than a run of a program can have");
     const first = table.addPair(agent);
     this.adopt(made.port1, first);
@@ -119,7 +119,7 @@ export class Ports {
    * @returns {QueuedPort}
    */
   queued(port, taker) {
-    const { table, agent } = this.world;
+    const { table, agent } = this.context;
     const queued = new QueuedPort(port, table.addPair(agent), taker);
     this.#have(queued);
     return queued;
@@ -129,7 +129,7 @@ export class Ports {
   #have(known) {
     weakSet(this.#known, known.port, known);
     this.mine.set(known.id, known.port);
-    this.world.table.give(known.id, this.world.agent);
+    this.context.table.give(known.id, this.context.agent);
   }
 
   /**
@@ -147,8 +147,8 @@ export class Ports {
     const { id } = this.known(port);
     this.mine.delete(id);
     this.#known.delete(port);
-    this.world.table.give(id, NOBODYS);
-    this.world.table.stop(id);
+    this.context.table.give(id, NOBODYS);
+    this.context.table.stop(id);
   }
 
   /** @param {any} port that stays in this thread @param {any} clone what stands for it from now on */
@@ -180,10 +180,10 @@ export class Ports {
    * @returns {boolean | undefined} whether the other side is there; undefined if this one is closed
    */
   send(port, value, transfer, called, kind = KIND.MESSAGE) {
-    const { table, moves, buffers } = this.world;
+    const { table, moves, buffers } = this.context;
     const { id, closed } = this.known(port);
     const list = transferredOf(transfer);
-    demandTransferable(list, this.world.refuse);
+    demandTransferable(list, this.context.refuse);
     const ports = this.among(list, port);
     const walked = { objects: Infinity };
     const bare = sent(value, buffers, walked);
@@ -199,7 +199,7 @@ export class Ports {
     const number = called === undefined ? moves.sendNow()
       : moves.send(called, owner === NOBODYS ? toPort(peer) : toThread(owner));
     const ids = ports.map((each) => this.known(each).id);
-    this.world.noted(number, kind, bare);
+    this.context.noted(number, kind, bare);
     if (walked.objects <= FEW_OBJECTS) post(port, { value: bare, kind, number, ports, ids }, list);
     else {
       // The other side may be unable to read the value. What is known about the message comes by one of its own.
@@ -223,7 +223,7 @@ export class Ports {
    * @returns {Envelope | undefined} its next message, if one waits
    */
   take(port) {
-    const { table, moves, buffers, control, note } = this.world;
+    const { table, moves, buffers, control, note } = this.context;
     const known = this.known(port);
     const { id } = known;
     if (table.waiting(id) === 0) return undefined;
@@ -242,7 +242,7 @@ export class Ports {
 
   /** @param {number} id of a port that was transferred in a message that couldn't be read: node has closed it */
   #lose(id) {
-    const { table } = this.world;
+    const { table } = this.context;
     table.close(id);
     if (table.isClosed(id ^ 1)) return;
     table.closeFrom(id ^ 1);
@@ -258,12 +258,12 @@ export class Ports {
   /** @param {any} port whose messages are delivered from now on, unless it is closed */
   start(port) {
     const { id, closed } = this.known(port);
-    if (!closed) this.world.table.start(id);
+    if (!closed) this.context.table.start(id);
   }
 
   /** @param {any} port whose messages wait from now on */
   stop(port) {
-    this.world.table.stop(this.known(port).id);
+    this.context.table.stop(this.known(port).id);
   }
 
   /** @param {any} port that has a message: what takes it, or its listeners, get it */
@@ -296,7 +296,7 @@ export class Ports {
   close(port) {
     const known = this.known(port);
     if (known.isGone) return;
-    const { table } = this.world;
+    const { table } = this.context;
     known.closed = true;
     known.isClosing = false;
     known.refed = false;
@@ -306,7 +306,7 @@ export class Ports {
 
   /** @returns {any[]} the ports of this thread that have a message to be delivered, in the order of their numbers */
   ready() {
-    const { table } = this.world;
+    const { table } = this.context;
     /** @type {number[]} */
     const ready = [];
     mapForEach(this.mine, (/** @type {any} */ port, /** @type {number} */ id) => {
@@ -326,7 +326,7 @@ export class Ports {
 
   /** @param {any} port of this thread @returns {number} how many messages wait there */
   waiting(port) {
-    return this.world.table.waiting(this.known(port).id);
+    return this.context.table.waiting(this.known(port).id);
   }
 
   /** @returns {KnownPort[]} what is known of the ports that keep this thread alive */
@@ -342,7 +342,7 @@ export class Ports {
 
   /** @param {number} id of a port that has got a message */
   rouse(id) {
-    const { table, moves, agent } = this.world;
+    const { table, moves, agent } = this.context;
     const owner = table.owner(id);
     if (owner !== NOBODYS && owner !== agent && table.isReady(id)) moves.wake(owner);
   }
@@ -363,7 +363,7 @@ export function channelClass(ports) {
  */
 export const receiverOf = (ports) => (/** @type {any} */ given) => {
   if (!ports.has(given)) return receive(given);
-  ports.world.moves.yield();
+  ports.context.moves.yield();
   const envelope = ports.take(given);
   if (envelope?.kind === KIND.CLOSE) ports.close(given);
   if (envelope === undefined || envelope.kind === KIND.CLOSE) return undefined;

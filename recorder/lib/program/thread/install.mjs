@@ -30,7 +30,7 @@ export function installCloning(ports) {
   replaceNeeded(globalThis, "structuredClone", (engine) => (/** @type {any[]} */ ...given) => {
     if (given.length === 0) return apply(engine, undefined, given);
     const list = isArray(given[1]?.transfer) ? copied(given[1].transfer) : [];
-    demandTransferable(list, ports.world.refuse);
+    demandTransferable(list, ports.context.refuse);
     return clonedValue(given[0], given[1], ports, ports.among(list));
   });
 }

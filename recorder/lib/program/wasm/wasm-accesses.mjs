@@ -54,9 +54,9 @@ export class WasmAccesses {
   /** @type {any} */
   memory = undefined;
 
-  /** @param {WasmAccessContext} world */
-  constructor(world) {
-    this.world = world;
+  /** @param {WasmAccessContext} context */
+  constructor(context) {
+    this.context = context;
     /** What the recorder gives to the module between. */
     this.functions = { ...this.#plain(), ...this.#waiting(), ...atomicFunctions(this) };
   }
@@ -68,14 +68,14 @@ export class WasmAccesses {
   }
 
   /** Takes the memory's buffer as it is now. @param {SharedArrayBuffer} [buffer] */
-  renew(buffer = this.world.buffers.bufferOf(this.memory)) {
+  renew(buffer = this.context.buffers.bufferOf(this.memory)) {
     this.length = sharedLengthOf(buffer);
     this.views = {
       1: new Uint8Array(buffer), 2: new Uint16Array(buffer), 4: new Uint32Array(buffer), 8: new BigUint64Array(buffer),
     };
     this.words = new Int32Array(buffer);
     this.longs = new BigInt64Array(buffer);
-    const block = this.world.buffers.numberOf(buffer);
+    const block = this.context.buffers.numberOf(buffer);
     this.places = { 0: { block, kind: DATA_VIEW, offset: 0, length: this.length } };
     for (const [size, named] of Object.entries(KIND_NAMES)) {
       const kind = KINDS.indexOf(named);
@@ -124,23 +124,23 @@ export class WasmAccesses {
    */
   note(at, size, writes) {
     const place = this.places[at % size === 0 ? size : 0] ?? this.places[0];
-    if (size > 0) this.world.seen(place, at, at + size, writes);
+    if (size > 0) this.context.seen(place, at, at + size, writes);
   }
 
   /** @param {number} end of an access: another thread may have made the memory longer */
   #reach(end) {
-    this.renew(this.world.ask(this.memory));
+    this.renew(this.context.ask(this.memory));
     if (end > this.length) throw new EngineTrap("memory access out of bounds");
   }
 
   /** @param {number} at @param {number} size @returns {boolean} whether a plain access is a relaxed one */
   #isRelaxed(at, size) {
-    return this.world.isRelaxed && size <= 8 && at % size === 0;
+    return this.context.isRelaxed && size <= 8 && at % size === 0;
   }
 
   /** @param {number} at @param {number} size */
   #read(at, size) {
-    if (this.#isRelaxed(at, size)) this.world.atomics.load(this.views[size], at / size);
+    if (this.#isRelaxed(at, size)) this.context.atomics.load(this.views[size], at / size);
     else this.note(at, size, false);
   }
 
@@ -148,12 +148,12 @@ export class WasmAccesses {
   #store(at, size, bits) {
     if (!this.#isRelaxed(at, size)) return this.note(at, size, true);
     const value = asUintN(8 * size, bits);
-    this.world.atomics.store(this.views[size], at / size, size === 8 ? value : EngineNumber(value));
+    this.context.atomics.store(this.views[size], at / size, size === 8 ? value : EngineNumber(value));
   }
 
   /** @returns {Record<string, (...given: any[]) => unknown>} */
   #plain() {
-    const { grow, ask } = this.world;
+    const { grow, ask } = this.context;
     return {
       read: (address, offset, size, where) => {
         this.#read(this.at(address, offset, size, where), size);
@@ -180,7 +180,7 @@ export class WasmAccesses {
 
   /** @returns {Record<string, (...given: any[]) => unknown>} */
   #waiting() {
-    const { atomics } = this.world;
+    const { atomics } = this.context;
     return {
       // The count has no sign: -1 wakes all.
       notify: (address, count, offset, where) =>
@@ -201,7 +201,7 @@ export class WasmAccesses {
   #wait(view, index, value, nanoseconds) {
     try {
       const time = nanoseconds < 0n ? Infinity : EngineNumber(nanoseconds) / 1e6;
-      return WORDS[this.world.atomics.wait(view, index, value, time)];
+      return WORDS[this.context.atomics.wait(view, index, value, time)];
     } catch (problem) {
       // A page can't sleep. Then the engine traps.
       throw problem instanceof EngineTypeError ? new EngineTrap(problem.message) : problem;

@@ -32,7 +32,7 @@ function conversionsOf(variant) {
  * @returns {(...given: any[]) => unknown}
  */
 function atomicFunction(access, name, variant) {
-  const { atomics } = access.world;
+  const { atomics } = access.context;
   const { size, element, value } = conversionsOf(variant);
   const view = () => access.views[size];
   if (name === "load") {

@@ -87,7 +87,7 @@ class Translating {
     this.thread = thread;
     const { atomics, seen, buffers, isRelaxed } = thread;
     /** @type {import("./wasm-accesses.mjs").WasmAccessContext} */
-    this.world = {
+    this.context = {
       atomics, seen, buffers, isRelaxed,
       grow: (memory, pages) => this.tryToGrow(memory, pages),
       ask: (memory) => this.ask(memory),
@@ -192,7 +192,7 @@ class Translating {
   #accessesTo(memory) {
     const known = weakGet(this.#accesses, memory);
     if (known !== undefined) return known;
-    this.#all[this.#used] ??= new WasmAccesses(this.world);
+    this.#all[this.#used] ??= new WasmAccesses(this.context);
     const next = this.#all[this.#used];
     this.#used += 1;
     next.begin(memory);

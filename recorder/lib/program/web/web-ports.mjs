@@ -30,9 +30,9 @@ export const eventOfMessage = ({ value, ports, isUnread }) => (isUnread
 
 export class WebPorts extends Ports {
   targets = new Targets({
-    uncaught: (thrown) => this.world.late.ends?.uncaught(thrown),
-    drain: () => this.world.late.loop?.drain(),
-    now: () => this.world.moves.board.clock.now(),
+    uncaught: (thrown) => this.context.late.ends?.uncaught(thrown),
+    drain: () => this.context.late.loop?.drain(),
+    now: () => this.context.moves.board.clock.now(),
   });
 
   /**
@@ -44,7 +44,7 @@ export class WebPorts extends Ports {
     const isChannel = (/** @type {any} */ port) => this.known(port) instanceof QueuedPort;
     const channels = ready.filter(isChannel);
     if (channels.length < 2) return ready;
-    this.world.control.take();
+    this.context.control.take();
     const numberOf = (/** @type {any} */ channel) => this.queueOf(this.known(channel).id)[0]?.number ?? Infinity;
     const first = channels.reduce((one, other) => (numberOf(other) < numberOf(one) ? other : one));
     return ready.filter((port) => port === first || !isChannel(port));

@@ -3,6 +3,7 @@
 // the Worker is made, also if the URL is revoked meanwhile.
 
 import { put } from "../../primordials.mjs";
+import { PartInRun } from "../moves/part-in-run.mjs";
 import { KIND } from "../ports/ports.mjs";
 import { startThread } from "../workers/thread-start.mjs";
 import { eventOfMessage } from "./web-ports.mjs";
@@ -33,18 +34,12 @@ const TYPES = Object.freeze(["classic", "module"]);
 
 /** @typedef {import("../workers/thread-start.mjs").StartContext & WebWorkerContext} WebStarting */
 
-/** @type {WebStarting | undefined} a thread has one part in a run */
-let starting;
-
-/** @returns {WebStarting} */
-function world() {
-  if (starting === undefined) throw new Error("the thread has no part in a run yet");
-  return starting;
-}
+/** @type {PartInRun<WebStarting>} */
+const part = new PartInRun();
 
 /** @param {unknown} given @returns {string} the URL of a script, as the thread's script takes it */
 function urlOf(given) {
-  const { base, refuse } = world();
+  const { base, refuse } = part.needed;
   let href;
   try {
     ({ href } = new EngineURL(`${given}`, base));
@@ -69,10 +64,10 @@ class Worker extends EngineTarget {
     if (!TYPES.includes(type)) {
       throw new EngineTypeError(`Failed to construct 'Worker': '${type}' is no valid enum value of type WorkerType.`);
     }
-    const { ports, blobs } = world();
+    const { ports, blobs } = part.needed;
     const href = urlOf(url);
     const start = { url: href, type, name: `${name}`, content: blobs.at(href) };
-    const { agent, port } = startThread(world(), start, [], new.target);
+    const { agent, port } = startThread(part.needed, start, [], new.target);
     blobs.handTo(agent);
     this.#agent = agent;
     this.#port = port;
@@ -81,11 +76,11 @@ class Worker extends EngineTarget {
 
   /** @param {unknown} value @param {unknown} [transfer] */
   postMessage(value, transfer) {
-    if (this.#isAlive) world().ports.send(this.#port, value, transfer, this.postMessage);
+    if (this.#isAlive) part.needed.ports.send(this.#port, value, transfer, this.postMessage);
   }
 
   terminate() {
-    const { moves, threads, ports } = world();
+    const { moves, threads, ports } = part.needed;
     // One that has just been started is ended before it begins.
     if (threads.hasBegun(this.#agent)) moves.yield();
     if (!this.#isAlive) return;
@@ -97,14 +92,14 @@ class Worker extends EngineTarget {
   /** @param {import("../ports/ports.mjs").Envelope} envelope */
   #take(envelope) {
     if (!this.#isAlive) return;
-    if (envelope.kind === KIND.MESSAGE) world().targets.dispatch(this, eventOfMessage(envelope));
+    if (envelope.kind === KIND.MESSAGE) part.needed.targets.dispatch(this, eventOfMessage(envelope));
     else if (envelope.kind === KIND.ERROR) this.#fails(envelope.value);
     else if (envelope.kind === KIND.EXIT) this.#isAlive = false;
   }
 
   /** @param {import("./web-ends.mjs").Problem} problem that nobody has caught in the thread */
   #fails(problem) {
-    const { targets, ends } = world();
+    const { targets, ends } = part.needed;
     const isListenedTo = problem.isListenedTo || targets.isListenedTo(this, "error");
     if (problem.isOfLoading) {
       targets.dispatch(this, new EngineEvent("error"));
@@ -119,7 +114,7 @@ put(Worker.prototype, Symbol.toStringTag, "Worker");
 
 /** @param {WebStarting} given @returns {Function} the class by which the program starts workers */
 export function webWorkerClass(given) {
-  starting = given;
+  part.begin(given);
   return Worker;
 }
 

@@ -58,7 +58,7 @@ export function startThread(starting, given, transferList, called) {
  * @returns {{ start: ThreadStart, parentPort: any }}
  */
 export function takenStart({ control, ports, moves }) {
-  ports.world.table.begins(moves.agent);
+  ports.context.table.begins(moves.agent);
   /** @type {StartMessage[]} */
   const handed = [];
   control.onItem("start", (item) => void handed.push(item));

@@ -10,13 +10,14 @@ import { pathToFileURL } from "node:url";
 import { isCalledByAgents } from "../../agent/frames.mjs";
 import { defineProperty, isArray } from "../../primordials.mjs";
 import { deserializeError } from "../node/internals.mjs";
+import { PartInRun } from "../moves/part-in-run.mjs";
 import { nodeError } from "../node/node-error.mjs";
+import { sent } from "../ports/message-values.mjs";
 import { KIND } from "../ports/ports.mjs";
+import { demandTransferable, itemsOf } from "../ports/transfer-list.mjs";
 import { sharedEnv } from "./process-env.mjs";
 import { WorkersStdio, isAnyPiped, pipedOf } from "./stdio.mjs";
 import { startThread } from "./thread-start.mjs";
-import { demandTransferable, itemsOf } from "../ports/transfer-list.mjs";
-import { sent } from "../ports/message-values.mjs";
 
 const { SHARE_ENV } = /** @type {any} */ (threads);
 const { nextTick } = /** @type {any} */ (process);
@@ -162,14 +163,8 @@ function started(starting, file, options, called) {
 
 const NO_PORTS = Object.freeze({ port1: undefined, port2: undefined });
 
-/** @type {WorkerContext | undefined} a thread has one part in a run */
-let starting;
-
-/** @returns {WorkerContext} */
-function world() {
-  if (starting === undefined) throw new Error("the thread has no part in a run yet");
-  return starting;
-}
+/** @type {PartInRun<WorkerContext>} */
+const part = new PartInRun();
 
 /** The Worker that the program finds. */
 class Worker extends EventEmitter {
@@ -186,7 +181,7 @@ class Worker extends EventEmitter {
   /** @param {unknown} file @param {any} [options] */
   constructor(file, options = {}) {
     super();
-    const { agent, port, where, stdio } = started(world(), file, options ?? {}, new.target);
+    const { agent, port, where, stdio } = started(part.needed, file, options ?? {}, new.target);
     this.#agent = agent;
     this.#port = port;
     this.#own = { refed: true, listens: false, where };
@@ -196,7 +191,7 @@ class Worker extends EventEmitter {
     this.#stdio = stdio;
     // As in node before a thread's loop begins.
     this.performance = { eventLoopUtilization: () => ({ idle: 0, active: 0, utilization: 0 }) };
-    const { ports, children } = world();
+    const { ports, children } = part.needed;
     children.add(this.#own);
     ports.serve(port, (envelope) => this.#take(envelope));
     const isFirst = (/** @type {unknown} */ name) => name === "message" && this.listenerCount("message") === 0;
@@ -211,7 +206,7 @@ class Worker extends EventEmitter {
    */
   #listens(isListening) {
     if (!this.#isAlive) return;
-    const { ports } = world();
+    const { ports } = part.needed;
     if (isListening) ports.start(this.#port);
     else ports.stop(this.#port);
     this.#own.listens = isListening;
@@ -219,7 +214,7 @@ class Worker extends EventEmitter {
 
   /** @param {unknown} value @param {unknown} [transfer] */
   postMessage(value, transfer) {
-    if (this.#isAlive) world().ports.send(this.#port, value, transfer, this.postMessage);
+    if (this.#isAlive) part.needed.ports.send(this.#port, value, transfer, this.postMessage);
   }
 
   get stdin() {
@@ -227,11 +222,11 @@ class Worker extends EventEmitter {
   }
 
   get stdout() {
-    return this.#stdio.printed("stdout", world().refuse);
+    return this.#stdio.printed("stdout", part.needed.refuse);
   }
 
   get stderr() {
-    return this.#stdio.printed("stderr", world().refuse);
+    return this.#stdio.printed("stderr", part.needed.refuse);
   }
 
   get resourceLimits() {
@@ -248,7 +243,7 @@ class Worker extends EventEmitter {
 
   /** @returns {Promise<number | undefined>} its exit code */
   terminate() {
-    const { moves, threads: all, later } = world();
+    const { moves, threads: all, later } = part.needed;
     // In node, too, one that has just been started is ended before it begins.
     if (all.hasBegun(this.#agent)) moves.yield();
     if (!this.#isAlive) return Promise.resolve(undefined);
@@ -267,7 +262,7 @@ class Worker extends EventEmitter {
 
   /** @param {number} code of its end: what was sent before comes before that */
   #leave(code) {
-    const { ports } = world();
+    const { ports } = part.needed;
     for (let left = ports.take(this.#port); left !== undefined; left = ports.take(this.#port)) {
       if (left.kind !== KIND.CLOSE) this.#take(left);
     }
@@ -288,8 +283,8 @@ class Worker extends EventEmitter {
     if (!this.#isAlive) return;
     this.#isAlive = false;
     this.threadId = -1;
-    world().children.delete(this.#own);
-    world().ports.known(this.#port).closed = true;
+    part.needed.children.delete(this.#own);
+    part.needed.ports.known(this.#port).closed = true;
     this.#stdio.end();
     this.emit("exit", code);
     this.#awaiting.forEach((done) => done(code));
@@ -303,7 +298,8 @@ const NOT_SIMULATED = Object.freeze([
 
 for (const name of NOT_SIMULATED.filter((each) => each in engine)) {
   // Node itself, and what lists its members, gets none.
-  const get = () => (isCalledByAgents(get) ? world().refuse(`read Worker.${name}, which isn't simulated`) : undefined);
+  const refuse = () => part.needed.refuse(`read Worker.${name}, which isn't simulated`);
+  const get = () => (isCalledByAgents(get) ? refuse() : undefined);
   defineProperty(Worker.prototype, name, { configurable: true, get });
 }
 
@@ -324,6 +320,6 @@ if (DISPOSE !== undefined && DISPOSE in engine) {
 
 /** @param {WorkerContext} given @returns {Function} the class by which the program starts workers */
 export function workerClass(given) {
-  starting = given;
+  part.begin(given);
   return Worker;
 }
