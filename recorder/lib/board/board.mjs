@@ -225,7 +225,7 @@ export class Board {
   }
 
   /** An agent's event loop begins something: that is a move, though none of a script. */
-  turned() {
+  countTask() {
     this.words[WORD.MOVES] += MOST_MOVES;
     this.clock.advance(MOST_MOVES);
   }
@@ -241,7 +241,7 @@ export class Board {
     answers.goesOn(agent);
     this.vain?.news();
     strategy.moves(agent, agent + REAL_ANSWER);
-    if (answers.came(agent)) this.turned();
+    if (answers.came(agent)) this.countTask();
     return true;
   }
 

@@ -236,7 +236,7 @@ export class Moves {
     if (row.isForced()) return false;
     strategy.moves(agent, agent);
     answers.goesOn(agent);
-    board.turned();
+    board.countTask();
     return true;
   }
 
@@ -343,7 +343,7 @@ export class Moves {
     const { board, agent } = this;
     if (milliseconds !== undefined) board.deadlines.end(agent, milliseconds);
     board.answers.goesOn(agent);
-    board.turned();
+    board.countTask();
     this.#goesOn();
   }
 
