@@ -14,7 +14,7 @@
  * @property {number[]} lengths of the buffers
  * @property {boolean} canBlock
  * @property {"watch" | "store" | "refuse"} ordinary
- * @property {boolean} [goesBeyond] whether its run may have more calls, views and text than a script can have
+ * @property {boolean} [mayLackScript] whether its run may have more calls, views and text than a script can have
  * @property {() => never} [leave] breaks off the code of a program's thread when its part in a run is over
  */
 

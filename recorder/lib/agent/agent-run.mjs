@@ -91,9 +91,13 @@ export class AgentRun {
    * @param {Call} call
    */
   stayWithin(call) {
-    const { views, text } = SCRIPT_LIMITS;
-    const { board, lengths } = this.context;
-    if (this.goesBeyond()) return;
+    const { calls, views, text } = SCRIPT_LIMITS;
+    const { board, lengths, mayLackScript } = this.context;
+    if (mayLackScript) {
+      this.#stopSpinning();
+      return;
+    }
+    if (this.made >= calls) this.meetsMostCalls();
     const key = viewKey(call);
     if (!mapHas(this.views, key)) {
       if (!board.journal.registers(key)) this.meetsLimit(`more than ${views} different typed arrays were used`);
@@ -119,20 +123,11 @@ export class AgentRun {
     if (this.isOver || this.context.board.end.hasEnded()) this.over();
   }
 
-  /**
-   * Whether the run may go beyond what a script can have. Then it has no script, and only a spin ends it.
-   * @returns {boolean}
-   */
-  goesBeyond() {
-    const { calls } = SCRIPT_LIMITS;
-    if (this.context.goesBeyond !== true) {
-      if (this.made >= calls) this.meetsMostCalls();
-      return false;
-    }
-    if (this.made > 0 && this.made % calls === 0 && this.#spinsForGood()) {
-      this.spins(`it has made ${this.made} calls, and goes on`);
-    }
-    return true;
+  /** Ends a run that may have more calls than a script can have, if the agent spins for good. */
+  #stopSpinning() {
+    const { made } = this;
+    if (made === 0 || made % SCRIPT_LIMITS.calls !== 0 || !this.#spinsForGood()) return;
+    this.spins(`it has made ${made} calls, and goes on`);
   }
 
   /** @returns {boolean} whether its last calls are the same again and again, and no other agent does anything else */

@@ -74,7 +74,7 @@ export class Blocks {
   }
 
   /** @returns {boolean} whether there are blocks that no script can have */
-  get goBeyond() {
+  get haveMore() {
     return this.more.count > 0;
   }
 

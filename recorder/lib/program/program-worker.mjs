@@ -179,7 +179,7 @@ function playerOf(agent) {
     lengths: plan.buffers,
     canBlock: plan.canBlock[agent],
     ordinary: "watch",
-    goesBeyond: true,
+    mayLackScript: true,
   });
   return { player, blocks: new Blocks(shared.blocks, shared.copies, memory, plan.buffers) };
 }

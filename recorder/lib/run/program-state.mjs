@@ -99,7 +99,7 @@ export class ProgramState {
    * @returns {Written | undefined} undefined: there is no room for all that it touches
    */
   inWindows(made, withNames, list) {
-    if (!this.blocks.goBeyond) return made;
+    if (!this.blocks.haveMore) return made;
     const windows = list === undefined ? windowsOf(made.run) : new Windows(list);
     return windows && inWindows(windows, made, this.blocks, this.names(withNames).blocks);
   }
