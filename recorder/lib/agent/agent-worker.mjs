@@ -26,7 +26,7 @@ import { isCalledByAgents, sourceHere } from "./frames.mjs";
 import { PendingWork } from "./pending-work.mjs";
 import { Messages } from "./messages.mjs";
 import { blockNumber } from "./ordinary/context.mjs";
-import { watchOrdinary, watchOthers } from "./ordinary/watch.mjs";
+import { watchOrdinary, watchWaysOut } from "./ordinary/watch.mjs";
 import { isWatchable, watchMaking } from "./other-memory.mjs";
 import { Player } from "./player.mjs";
 import { Chance, simulateChance, simulateTime } from "./time.mjs";
@@ -167,7 +167,7 @@ function installReplacements() {
   if (clock === "run") simulateTime(() => (isRecording() ? playing().look() : 0));
   simulateChance(chance);
   if (ordinary === "watch") watchOrdinary(watching);
-  else watchOthers(watching);
+  else watchWaysOut(watching);
   watchMaking(unseen);
   const messages = new Messages(unseen, { isPlaying: isRecording, end: endUnseen }, threads);
   globalThis.Atomics = recordedAtomics(Atomics, asking);

@@ -43,7 +43,7 @@ export function watchRealm(watching) {
  * Patches what gives recorded memory to other threads, in a realm whose arrays are the engine's own.
  * @param {import("./context.mjs").Watching} watching
  */
-export function watchOthers(watching) {
+export function watchWaysOut(watching) {
   begin(watching);
   learnClones();
   watchThreads(threads);
