@@ -176,18 +176,18 @@ class Writer {
       const helper = helpers.begin(owner, call);
       if (helper === this.calls.length) this.#addHelper(helper);
       const wait = this.#next(records, owner);
-      const handOver = helpers.handOver(helper, BEGINS);
-      this.#add(owner, { ...handOver, isOwn: true, standsFor: wait });
-      this.#add(helper, handOver);
+      const handing = helpers.handingOver(helper, BEGINS);
+      this.#add(owner, { ...handing, isOwn: true, standsFor: wait });
+      this.#add(helper, handing);
       this.calls[helper].push(wait);
       this.addMoves(helper, MOVES[event], false);
       return;
     }
     const helper = helpers.end(owner, call);
     this.addMoves(helper, MOVES[event], event === TIME_UP);
-    const handOver = helpers.handOver(helper, ENDS);
-    this.#add(helper, handOver);
-    this.#add(owner, handOver);
+    const handing = helpers.handingOver(helper, ENDS);
+    this.#add(helper, handing);
+    this.#add(owner, handing);
   }
 
   /** @param {number} helper that makes its first wait */

@@ -70,12 +70,12 @@ export class Helpers {
   }
 
   /**
-   * The notify by which one of the two hands a wait over, and the other one takes it. It wakes nobody.
+   * The call by which one of the two hands a wait over, and the other one takes it: a notify that wakes nobody.
    * @param {number} helper
    * @param {number} place `BEGINS` or `ENDS`
    * @returns {Done}
    */
-  handOver(helper, place) {
+  handingOver(helper, place) {
     return { text: `["notify", "${this.nameOf(helper)}", ${place}, 0]`, joined: false, answer: "0", isOwn: false };
   }
 }
