@@ -83,7 +83,7 @@ function countBefore(events, event) {
  * @param {string} module the URL of the agents' module
  * @returns {RunData}
  */
-export function pageData(outcome, facts, module) {
+export function runDataOf(outcome, facts, module) {
   const { seed, ending, windows, script = "{}", trace = "", sources = [], scriptHolds: holds = "all" } = outcome;
   const detail = [outcome.detail, outcome.onlyIf ?? ""].filter((text) => text !== "").join("\n");
   const { blocks, views } = JSON.parse(script);
@@ -126,7 +126,7 @@ export function pageData(outcome, facts, module) {
  * @param {import("./document.mjs").SimulatorParts} [simulator] undefined: the page can't change the schedule
  * @returns {string} the page
  */
-export function pageOf(data, simulator) {
+export function pageOfData(data, simulator) {
   const { script, ...rest } = data;
   const shown = simulator === undefined ? rest : data;
   const title = `seed ${data.seed} of ${data.module}: ${endingText(data.ending, data.detail)}`;
@@ -141,6 +141,6 @@ export function pageOf(data, simulator) {
  * @param {Pick<RunData, "about" | "command">} made how the run was made
  * @throws {SyntaxError} if the facts are no JSON
  */
-export function pageText(outcome, facts, module, made) {
-  return pageOf({ ...pageData(outcome, facts, module), ...made }, builtSimulator());
+export function pageOfRun(outcome, facts, module, made) {
+  return pageOfData({ ...runDataOf(outcome, facts, module), ...made }, builtSimulator());
 }

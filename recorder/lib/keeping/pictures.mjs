@@ -5,7 +5,7 @@ import { join } from "node:path";
 import { hasFloats } from "../../script/written.mjs";
 import { aboutOf } from "./about-run.mjs";
 import { PROGRAM_ENDING } from "./run-store.mjs";
-import { pageText } from "./kept-page.mjs";
+import { pageOfRun } from "./kept-page.mjs";
 import { wordsText } from "./program-words.mjs";
 
 /** @typedef {import("../run/outcome.mjs").Outcome} Outcome */
@@ -43,7 +43,7 @@ const PICTURES = Object.freeze([
 /** @param {string} facts @param {Outcome} outcome @param {string} module @param {AboutRun} about */
 function pageMade(facts, outcome, module, about) {
   try {
-    return pageText(outcome, facts, module, about);
+    return pageOfRun(outcome, facts, module, about);
   } catch (problem) {
     if (problem instanceof SyntaxError) throw new NotMade("what sabsim prints about the run is no JSON");
     throw problem;

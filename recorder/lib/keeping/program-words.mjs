@@ -4,7 +4,7 @@
 import { Views } from "../../page/elements.mjs";
 import { endingText } from "../../page/endings.mjs";
 import { Stepper } from "../../page/steps.mjs";
-import { pageData } from "./kept-page.mjs";
+import { runDataOf } from "./kept-page.mjs";
 
 /** In place of the number of a move, if a step isn't in the script. */
 const NO_MOVE = "-";
@@ -16,7 +16,7 @@ const NO_MOVE = "-";
  * @returns {string} lines
  */
 export function wordsText(facts, outcome, module) {
-  const data = pageData(outcome, facts, module);
+  const data = runDataOf(outcome, facts, module);
   const { seed, ending, detail, threads = [], windows = [], places } = data;
   const names = threads.map((name, agent) => `agent ${agent}: ${name === "" ? data.module : name}`);
   const steps = new Stepper(data, new Views(data)).all();

@@ -3,7 +3,7 @@
 
 import { Views } from "../../page/elements.mjs";
 import { Stepper } from "../../page/steps.mjs";
-import { pageData } from "../keeping/kept-page.mjs";
+import { runDataOf } from "../keeping/kept-page.mjs";
 
 /** @typedef {import("../library/record-runs.mjs").RecordedOutcome} RecordedOutcome */
 /** @typedef {import("../simulator/chosen.mjs").ChosenSimulator} ChosenSimulator */
@@ -33,7 +33,7 @@ export function lastActs(outcome, { simulator, module }) {
   if (explained === undefined || facts === undefined) return [];
   const lines = explained.trimEnd().split("\n");
   const end = lines.findIndex((line) => line.startsWith("block "));
-  const acts = actsOf(lines.slice(0, end), pageData(outcome, facts, module));
+  const acts = actsOf(lines.slice(0, end), runDataOf(outcome, facts, module));
   const isRace = acts.some(({ isMarked }) => isMarked);
   const [mark, none] = isRace ? ["> ", "  "] : ["", ""];
   const shown = shownOf(acts).map(({ text, isMarked }) => `${isMarked ? mark : none}${text}`);

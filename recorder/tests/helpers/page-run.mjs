@@ -1,6 +1,6 @@
 // What the tests of pages share: a run by hand.
 
-import { pageData } from "../../lib/keeping/kept-page.mjs";
+import { runDataOf } from "../../lib/keeping/kept-page.mjs";
 import { Run } from "../../page/model.mjs";
 
 /** @typedef {import("../../lib/run/outcome.mjs").Outcome} Outcome */
@@ -86,4 +86,4 @@ export const FILE = "file:///somewhere/agents.mjs";
  * @param {Partial<Outcome>} [parts]
  * @param {object[]} [facts]
  */
-export const runOf = (parts = {}, facts = FACTS) => new Run(pageData({ ...OUTCOME, ...parts }, lines(facts), FILE));
+export const runOf = (parts = {}, facts = FACTS) => new Run(runDataOf({ ...OUTCOME, ...parts }, lines(facts), FILE));

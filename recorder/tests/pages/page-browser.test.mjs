@@ -7,7 +7,7 @@ import { join } from "node:path";
 import { pathToFileURL } from "node:url";
 import { after, before, describe, it } from "node:test";
 import { setTimeout } from "node:timers/promises";
-import { pageData, pageOf, pageText } from "../../lib/keeping/kept-page.mjs";
+import { pageOfData, pageOfRun, runDataOf } from "../../lib/keeping/kept-page.mjs";
 import { Browser, withBrowser } from "../helpers/browser.mjs";
 import { fileIn, temporaryFolder } from "../helpers/common.mjs";
 import { EVENTS, FACTS, FILE, OUTCOME, lines, view } from "../helpers/page-run.mjs";
@@ -55,7 +55,7 @@ describe("the page of a run, in a browser", { timeout: 600_000 }, () => {
   /** Writes the page of the run by hand, and opens it. */
   async function opened(context, { parts = {}, data = {}, ...window } = {}) {
     const path = join(temporaryFolder(context), "seed-5.html");
-    writeFileSync(path, pageOf({ ...pageData({ ...OUTCOME, ...parts }, lines(FACTS), FILE), ...data }));
+    writeFileSync(path, pageOfData({ ...runDataOf({ ...OUTCOME, ...parts }, lines(FACTS), FILE), ...data }));
     return browser.open(pathToFileURL(path).href, window);
   }
 
@@ -71,7 +71,7 @@ describe("the page of a run, in a browser", { timeout: 600_000 }, () => {
   });
 
   it("shows the chosen step and its line when it has opened, in a low window too", withBrowser, async (context) => {
-    const path = fileIn(temporaryFolder(context), "seed-5.html", pageText(OUTCOME, lines(FACTS), FILE, {}));
+    const path = fileIn(temporaryFolder(context), "seed-5.html", pageOfRun(OUTCOME, lines(FACTS), FILE, {}));
     const page = await browser.open(pathToFileURL(path).href, { height: 640 });
     // The pane of the schedule takes room from the others when the simulator is there.
     const isHidden = "document.getElementById('schedule').hidden";

@@ -7,7 +7,7 @@ import { setTimeout as sleep } from "node:timers/promises";
 import { pathToFileURL } from "node:url";
 import { after, before, describe, it } from "node:test";
 import { builtSimulator } from "../../lib/keeping/document.mjs";
-import { pageData, pageOf } from "../../lib/keeping/kept-page.mjs";
+import { pageOfData, runDataOf } from "../../lib/keeping/kept-page.mjs";
 import { tryPageOf } from "../../lib/keeping/try-page.mjs";
 import { changedData } from "../../page/changed.mjs";
 import { Run } from "../../page/model.mjs";
@@ -43,7 +43,7 @@ const factsOf = (text) => written(["replay", "--format", "json"], text);
 function handedData() {
   const outcome = { seed: 3, ending: "finished", detail: "", races: [], progress: [{}, {}], script: SCRIPT,
     scriptHolds: "all", sources: [] };
-  return { ...pageData(outcome, factsOf(SCRIPT), "file:///hand.mjs"), command: COMMAND };
+  return { ...runDataOf(outcome, factsOf(SCRIPT), "file:///hand.mjs"), command: COMMAND };
 }
 
 /** The rows of a timeline. */
@@ -107,7 +107,7 @@ for (const [name, { isThere, begin }] of Object.entries(BROWSERS)) {
 
     it("a step of a run is moved, and the page shows what the program writes of it", withBrowser, async (context) => {
       const data = handedData();
-      const page = await opened(context, pageOf(data, SIMULATOR));
+      const page = await opened(context, pageOfData(data, SIMULATOR));
       assert.deepEqual(await page.value(ROWS), rowsOf(new Run(data)));
       await choose(page, "step-1");
       await page.press("l");
@@ -126,7 +126,7 @@ for (const [name, { isThere, begin }] of Object.entries(BROWSERS)) {
     });
 
     it("a command is shown if the code can be run so, and else the reason why not", withBrowser, async (context) => {
-      const page = await opened(context, pageOf(handedData(), SIMULATOR));
+      const page = await opened(context, pageOfData(handedData(), SIMULATOR));
       const note = "[...document.querySelectorAll('#schedule .note, #schedule .command')].at(-1).textContent";
       await choose(page, "step-1");
       await page.click("#later");
@@ -137,7 +137,7 @@ for (const [name, { isThere, begin }] of Object.entries(BROWSERS)) {
     });
 
     it("an impossible change is refused with a message, and changes nothing", withBrowser, async (context) => {
-      const page = await opened(context, pageOf(handedData(), SIMULATOR));
+      const page = await opened(context, pageOfData(handedData(), SIMULATOR));
       const rows = await page.value(ROWS);
       await choose(page, "step-2");
       await page.press("t");
@@ -147,7 +147,7 @@ for (const [name, { isThere, begin }] of Object.entries(BROWSERS)) {
     });
 
     it("without the simulator a page of a run shows what it knows", withBrowser, async (context) => {
-      const path = fileIn(temporaryFolder(context), "page.html", pageOf(handedData()));
+      const path = fileIn(temporaryFolder(context), "page.html", pageOfData(handedData()));
       const page = await browser.open(pathToFileURL(path).href);
       assert.equal(await page.value("document.getElementById('schedule').hidden"), true);
       assert.deepEqual(await page.complaints(), []);
@@ -155,7 +155,7 @@ for (const [name, { isThere, begin }] of Object.entries(BROWSERS)) {
 
     for (const [width, background] of [[1280, "light"], [1280, "dark"], [400, "light"], [400, "dark"]]) {
       it(`both pages can be read ${width} pixels wide, on a ${background} background`, withBrowser, async (context) => {
-        for (const text of [pageOf(handedData(), SIMULATOR), tryPageOf(EXAMPLES, SIMULATOR)]) {
+        for (const text of [pageOfData(handedData(), SIMULATOR), tryPageOf(EXAMPLES, SIMULATOR)]) {
           const page = await opened(context, text, { width, background });
           await choose(page, "step-1");
           await page.press("l", "l", "l");

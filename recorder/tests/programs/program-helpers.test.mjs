@@ -5,7 +5,7 @@ import assert from "node:assert/strict";
 import { readFileSync } from "node:fs";
 import { after, before, describe, it } from "node:test";
 import { sendersIn } from "../../lib/keeping/message-senders.mjs";
-import { pageData } from "../../lib/keeping/kept-page.mjs";
+import { runDataOf } from "../../lib/keeping/kept-page.mjs";
 import { wordsText } from "../../lib/keeping/program-words.mjs";
 import { keptScript } from "../../lib/shorter/kept-script.mjs";
 import { changedData } from "../../page/changed.mjs";
@@ -313,14 +313,14 @@ throw new Error("mine");`,
       "0 writes Int32_b0[2], without Atomics: changes Int32_b0[2] from 5 to 6, at main.mjs:8",
       "0 store(Int32_b0, 3, 1) changes Int32_b0[3] from 0 to 1, at main.mjs:9",
     ]);
-    const data = pageData(outcome, output, "file:///main.mjs");
+    const data = runDataOf(outcome, output, "file:///main.mjs");
     assert.deepEqual([data.agents, data.threads?.length, data.senders?.[0]], [4, 4, 0]);
   });
 
   it("shows them on the page, where each agent's steps stay in their order in another schedule", async (context) => {
     const [outcome] = await runsOf(context, FILES);
     const { output } = simulated(["replay", "--format", "json"], outcome.script ?? "");
-    const data = pageData(outcome, output, "file:///main.mjs");
+    const data = runDataOf(outcome, output, "file:///main.mjs");
     const run = new Run(data);
     assert.ok(run.steps.some(({ place }) => place >= 0));
     const report = readReport(output);
@@ -347,7 +347,7 @@ it("a deadlock's step on the page is the wait of a thread", async (context) => {
     "worker.mjs": `${WORKER}Atomics.wait(words, 0, 0);`,
   }, { options: { timeouts: 0 } });
   assert.deepEqual([outcome.ending, outcome.checked], ["deadlock", true]);
-  const { steps, failing } = new Run(pageData(outcome,
+  const { steps, failing } = new Run(runDataOf(outcome,
     simulated(["replay", "--format", "json"], outcome.script ?? "").output, "file:///main.mjs"));
   assert.deepEqual(failing.map((at) => [steps[at].agent, steps[at].text]), [[1, "wait(Int32_b0, 0, 0)"]]);
   assert.ok(steps.slice(failing[0]).some(({ text }) => text === "wait(Int32_b0, 1, 0)"));

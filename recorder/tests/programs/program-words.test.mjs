@@ -4,7 +4,7 @@ import assert from "node:assert/strict";
 import { test } from "node:test";
 import { fileURLToPath, pathToFileURL } from "node:url";
 import { sendersIn } from "../../lib/keeping/message-senders.mjs";
-import { pageData } from "../../lib/keeping/kept-page.mjs";
+import { runDataOf } from "../../lib/keeping/kept-page.mjs";
 import { wordsText } from "../../lib/keeping/program-words.mjs";
 import { Views } from "../../page/elements.mjs";
 import { Run } from "../../page/model.mjs";
@@ -47,7 +47,7 @@ test("a program's run in words has its threads, its messages with their lines, a
   assert.equal(acts.filter((line) => /(?:sends|receives) message/.test(line)).length % 2, 0);
   assert.deepEqual(lines.slice(-2), [outcome.detail, ""]);
   assert.ok(!lines.some((line) => line.includes("Int32_b3")));
-  const data = pageData(outcome, output, module);
+  const data = runDataOf(outcome, output, module);
   assert.deepEqual([data.threads, data.senders?.[0]], [["", started], 0]);
   const texts = new Stepper(data, new Views(data)).all().map(({ text, answer }) => `${text}${answer}`);
   assert.ok(texts.includes("sends message 0") && texts.includes("receives message 0"));
@@ -83,7 +83,7 @@ test("tasks are in the words, on the page and beside the trace, but in no script
   const timer = lines.indexOf("- 1 runs a timer of 4 ms, at worker.mjs:2:1");
   const adds = lines.flatMap((line, at) => (/ 1 add\(/.test(line) ? [at] : []));
   assert.deepEqual([adds.length, adds[0] < timer && timer < adds[1]], [2, true]);
-  const run = new Run(pageData(outcome, output, "file:///main.mjs"));
+  const run = new Run(runDataOf(outcome, output, "file:///main.mjs"));
   const shown = run.steps.filter(({ what }) => what === "task");
   assert.deepEqual(shown.map(({ agent, text, place }) => `${agent} ${text}, at ${run.data.places[place]}`), texts);
   assert.deepEqual(run.data.files.map(({ file }) => file), ["main.mjs", "worker.mjs"]);
@@ -98,7 +98,7 @@ test("a task comes before its events, also if some of these aren't shown", () =>
   const tasks = [0, 1, 4, 8].map((before) => ({ event: before, agent: 0, text: `task ${before}`, source: null }));
   const outcome = { seed: 1, ending: "finished", detail: "", races: [], progress: [{ returned: 0, calls: 0 }],
     script: '{"blocks":[4],"views":[]}' };
-  const data = pageData(/** @type {any} */ ({ ...outcome, trace, tasks }), "", "file:///main.mjs");
+  const data = runDataOf(/** @type {any} */ ({ ...outcome, trace, tasks }), "", "file:///main.mjs");
   const what = new Stepper(data, new Views(data)).all().map(({ what: each, text }) => (each === "task" ? text : each));
   assert.deepEqual(what, ["start", "task 0", "ordinary", "task 1", "ordinary", "task 4", "ordinary", "task 8", "end"]);
 });
@@ -107,7 +107,7 @@ test("a thread that sends to itself sends first, and a module of agents has no m
   const program = new URL("../programs/channels/in-order.mjs", import.meta.url);
   const outcome = await record({ program, trace: true, programOutput: "none" });
   const { output } = simulated(["replay", "--format", "json"], outcome.script);
-  const data = pageData(outcome, output, program.href);
+  const data = runDataOf(outcome, output, program.href);
   const steps = new Stepper(data, new Views(data)).all();
   const kinds = new Map();
   for (const { text } of steps) {

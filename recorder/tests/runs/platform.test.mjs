@@ -98,8 +98,8 @@ test("a page made of files with carriage returns has the digests that a browser 
 const inBrowser = { ...withBrowser, timeout: 600_000 };
 
 test("a page made of files with carriage returns shows its run", inBrowser, async (context) => {
-  const { pageData, pageOf } = await withCarriageReturns(context)("lib/keeping/kept-page.mjs");
-  const path = fileIn(temporaryFolder(context), "seed-5.html", pageOf(pageData(OUTCOME, linesOf(FACTS), FILE)));
+  const { pageOfData, runDataOf } = await withCarriageReturns(context)("lib/keeping/kept-page.mjs");
+  const path = fileIn(temporaryFolder(context), "seed-5.html", pageOfData(runDataOf(OUTCOME, linesOf(FACTS), FILE)));
   const browser = new Browser();
   context.after(() => browser.close());
   const page = await browser.open(pathToFileURL(path).href);

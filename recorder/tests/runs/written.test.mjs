@@ -8,7 +8,7 @@ import { join } from "node:path";
 import { test } from "node:test";
 import { pathToFileURL } from "node:url";
 import { modulePath, optionsText, shortPath } from "../../lib/keeping/about-run.mjs";
-import { pageData } from "../../lib/keeping/kept-page.mjs";
+import { runDataOf } from "../../lib/keeping/kept-page.mjs";
 import { Run } from "../../page/model.mjs";
 import { KINDS } from "../../script/kinds.mjs";
 import { elementText, storedBytes } from "../../script/values.mjs";
@@ -137,7 +137,7 @@ async function ringRun(ending, more) {
   const outcome = outcomes.find((each) => each.ending === ending);
   assert.notEqual(outcome, undefined, outcomes.map((each) => each.ending).join());
   const { output } = simulated(["replay", "--format", "json"], outcome.script);
-  return { outcome, run: new Run(pageData(outcome, output, pathToFileURL(RING).href)) };
+  return { outcome, run: new Run(runDataOf(outcome, output, pathToFileURL(RING).href)) };
 }
 
 test("a page has the values of the code: of writes, of reads and in memory", async () => {
@@ -219,7 +219,7 @@ test("an element of each kind, a DataView's too, has the code's kind", async (co
   `);
   const [outcome] = await recorded({ module, agents: 1, trace: true }, [1]);
   const { output } = simulated(["replay", "--format", "json"], outcome.script);
-  const { steps, rows } = new Run(pageData(outcome, output, pathToFileURL(module).href));
+  const { steps, rows } = new Run(runDataOf(outcome, output, pathToFileURL(module).href));
   const lines = steps.map(({ text, answer, changes }) =>
     [`${text} ${answer}`.trim(), ...changes.map(({ name, before, after }) => `${name} ${before} ${after}`)]);
   assert.deepEqual(lines, [
@@ -276,7 +276,7 @@ withFloat16("a Float16Array is watched, and the script has the bits", async (con
     ["ordinary_Float16", 7, 0x3800],
   ]);
   const { output } = simulated(["replay", "--format", "json"], outcome.script);
-  const { steps } = new Run(pageData(outcome, output, pathToFileURL(module).href));
+  const { steps } = new Run(runDataOf(outcome, output, pathToFileURL(module).href));
   assert.deepEqual(steps.map(({ text, answer }) => `${text} ${answer}`.trim()), [
     "the start",
     "writes Float16[1]",

@@ -7,7 +7,7 @@ import { readFileSync, readdirSync } from "node:fs";
 import { join } from "node:path";
 import { fileURLToPath } from "node:url";
 import { test } from "node:test";
-import { pageData, pageOf } from "../../lib/keeping/kept-page.mjs";
+import { pageOfData, runDataOf } from "../../lib/keeping/kept-page.mjs";
 import { UNSEEN_LINE } from "../../lib/run/script/trace.mjs";
 import { valueAt } from "../../page/elements.mjs";
 import { entryText, standingText } from "../../page/words.mjs";
@@ -199,7 +199,7 @@ test("the values that `init` left are there at the start, and are no step", () =
 });
 
 test("a page is one file, whose code and looks are just those that it says", () => {
-  const page = pageOf(pageData(OUTCOME, lines(FACTS), FILE));
+  const page = pageOfData(runDataOf(OUTCOME, lines(FACTS), FILE));
   const [, style] = /<style>([^]*?)<\/style>/.exec(page);
   const [, code] = /<script type="module">([^]*?)<\/script>/.exec(page);
   const [, policy] = /http-equiv="Content-Security-Policy" content="([^"]*)"/.exec(page);
@@ -228,8 +228,8 @@ test("README's pictures of a page are small, and say in words what they show", (
 test("no text of a run breaks its page", () => {
   const evil = "</script><script>alert(1)</script><!-- <style> {{code}} $& \u2028 \" & '";
   const parts = { detail: evil, sources: [{ file: evil, text: evil }], trace: lines(EVENTS).replaceAll("a.mjs", "x") };
-  const data = pageData({ ...OUTCOME, ...parts }, lines(FACTS), `file:///x/${encodeURIComponent("</title><b>")}.mjs`);
-  const page = pageOf({ ...data, module: "</title><script>" });
+  const data = runDataOf({ ...OUTCOME, ...parts }, lines(FACTS), `file:///x/${encodeURIComponent("</title><b>")}.mjs`);
+  const page = pageOfData({ ...data, module: "</title><script>" });
   const [, json] = /<script type="application\/json" id="run">([^]*?)<\/script>/.exec(page);
   assert.equal(page.split("<script").length, 3);
   assert.ok(!json.includes("<"));
