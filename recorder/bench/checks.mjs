@@ -10,6 +10,7 @@ import { setTimeout as pause } from "node:timers/promises";
 import { parseArgs } from "node:util";
 import { fileURLToPath } from "node:url";
 import { checkedOptions } from "../lib/library/library-options.mjs";
+import { digits } from "../lib/run/words/summary-words.mjs";
 import { Runs } from "../lib/seeds/runs.mjs";
 import { BATCH } from "../lib/seeds/seed-queue.mjs";
 import { isMain } from "./is-main.mjs";
@@ -101,7 +102,7 @@ export async function printTable(modules, jobs, amount, print) {
   for (const module of modules) {
     for (const count of jobs) {
       const { unchecked, checked } = await measured(module, count, amount);
-      const runs = [unchecked, checked].map((each) => Math.round(each).toLocaleString("en-US"));
+      const runs = [unchecked, checked].map((each) => digits(Math.round(each)));
       print(`| \`${nameOf(module)}\` | ${count} | ${runs.join(" | ")} | ${(checked / unchecked).toFixed(2)} |`);
     }
   }
