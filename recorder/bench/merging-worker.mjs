@@ -18,7 +18,8 @@ function learned(code, isUnmerged) {
   const search = one.search();
   const kinds = new Kinds(search).find();
   return {
-    isClosed: search.isClosed, states: search.count, nodes: one.learner.nodes.length,
+    isClosed: search.isClosed, states: search.count, acts: search.acts, nodes: one.learner.nodes.length,
+    edges: one.learner.nodes.reduce((sum, { edges }) => sum + edges.size, 0),
     finals: [...kinds.finals.keys()].map((memory) => blocksIn(search.world, memory).join()).sort(),
     failed: [...kinds.failed.keys()].sort(), deadlocks: kinds.deadlock !== undefined,
     hidden: [...one.learner.hidden.keys()],

@@ -21,6 +21,10 @@ function isEnded(tree, outer) {
   return ENDED.has(type);
 }
 
+/** @param {Tree} tree of a module @returns {Tree[]} what ends with a semicolon in it, written or not */
+export const endedIn = (tree) =>
+  childrenOf(tree).flatMap((inner) => (isEnded(inner, tree) ? [inner, ...endedIn(inner)] : endedIn(inner)));
+
 /**
  * @param {Tree} tree of a module
  * @param {string} source
@@ -29,14 +33,7 @@ function isEnded(tree, outer) {
  */
 export function withSemicolons(tree, source) {
   const edits = new Edits(source);
-  /** @param {Tree} outer */
-  const end = (outer) => {
-    for (const inner of childrenOf(outer)) {
-      if (isEnded(inner, outer) && source[inner.end - 1] !== ";") edits.after(inner.end, ";");
-      end(inner);
-    }
-  };
-  end(tree);
+  for (const { end } of endedIn(tree)) if (source[end - 1] !== ";") edits.after(end, ";");
   const { code, original } = edits.made();
   return { source: code, original };
 }
