@@ -173,10 +173,10 @@ export class Group {
       return;
     }
     this.texts ??= new TextMaker(started(this.plan), started(this.memory).runs, this.options.isBrief === true);
-    const events = this.texts.complete(outcome, taken);
+    const { script, events } = this.texts.made(taken);
     // Without a script the run isn't checked.
-    const isChecked = judgement !== undefined && outcome.script !== undefined;
-    onOutcome(outcome, isChecked ? { ...judgement, events } : undefined, aside);
+    const isChecked = judgement !== undefined && script.script !== undefined;
+    onOutcome({ ...outcome, ...script }, isChecked ? { ...judgement, events } : undefined, aside);
     this.texts.free(taken);
   }
 

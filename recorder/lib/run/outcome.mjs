@@ -9,7 +9,7 @@
 /** @typedef {"finished" | "deadlock" | "stuck" | "failed" | "check" | "race" | "limit"} Ending */
 
 /**
- * @typedef {object} Outcome of one run
+ * @typedef {object} BriefOutcome what the outcome of each run has
  * @property {number} seed
  * @property {Ending} ending
  * @property {boolean} fails whether it is a failing run, by its ending and by what is allowed
@@ -20,33 +20,51 @@
  * @property {{ returned: number, calls: number }[]} progress of each agent: calls that returned, and that began
  * @property {import("./ending/final-state.mjs").FinalState} state of the end
  * @property {RaceReport[]} races the unordered accesses, each pair of lines of code once
- * @property {string[]} [bytes] of each buffer as it was left, in hexadecimal digits; runs that fail have this and what
- * follows, and others if it is asked for
+ * @property {number[]} [row] which agent moved with each draw, in order, if that is asked for
+ * @property {string} [noScript] why there is no script
+ * @property {string[]} [unrecorded] which shared memory and which threads agents used that aren't recorded, if any
+ * @property {string[]} [real] what a program has used that the machine answers, by name and line, if anything
+ * @property {string} [onlyIf] of a failing run in which a timed wait has ended early: what time must pass for that
+ * @property {OnlyByTime[]} [onlyByTime] waits that have ended only because their time was up
+ * @property {WaitPlace[]} [served] places at which agents of the run wait, and which other agents have notified or
+ * written; only runs with timed waits have it
+ */
+
+/**
+ * @typedef {object} OutcomeScript what is made of the calls of a run that fails, or is to be checked
+ * @property {NamedWindow[]} [windows] of a program whose memory is more than a script can have: where the bytes of its
+ * buffers are in the script's blocks and in the trace
+ * @property {string} [detail] with where agents wait in a deadlock, or at a limit
+ * @property {import("./ending/standing.mjs").Standing[]} [standing] what each agent is at in a deadlock, or at a limit
+ * @property {import("./ending/failure.mjs").Failure} [failure] what made the run fail, in short; a race is in `races`
+ * @property {string} [noScript] why there is no script
+ * @property {string[]} [bytes] of each buffer as it was left, in hexadecimal digits
  * @property {(string | null)[][]} [answers] of each agent's calls, as a report spells them; null: a wait that goes on
  * @property {string} [script] what `sabsim replay` reads
  * @property {"all" | "touched"} [scriptHolds] which ordinary writes the script has: all, or those of bytes that some
  * call of Atomics touches
- * @property {string} [noScript] why there is no script
- * @property {NamedWindow[]} [windows] of a program whose memory is more than a script can have: where the bytes of its
- * buffers are in the script's blocks and in the trace
- * @property {import("./ending/failure.mjs").Failure} [failure] what made the run fail, in short; a race is in `races`
- * @property {import("./ending/standing.mjs").Standing[]} [standing] what each agent is at in a deadlock, or at a limit
  * @property {string} [report] what sabsim must report
+ */
+
+/**
+ * @typedef {object} OutcomeLines what is known only if accesses have noted their lines of code
+ * @property {RaceReport[]} [races] with their lines
+ * @property {string} [detail] with the line of an await
+ * @property {NamedWindow[]} [windows] those of the trace
  * @property {string} [trace] each event as an object of JSON, a line each
  * @property {ArrayAccesses} [accesses] by which arrays the trace's ordinary accesses were made, and what they read
  * @property {string} [noTrace] why there is no trace, though it was wanted
  * @property {import("./words/source-names.mjs").SourceText[]} [sources] the code of each file that the trace names
  * @property {LoopTask[]} [tasks] of a program that has its trace: what its event loops have begun besides messages
  * @property {[number, string][]} [messages] of the same run: the number of each message, and what is in it, shortened
- * @property {string[]} [threads] of a program: what each thread is, its file and where it was started; empty: the first
- * @property {number[]} [row] which agent moved with each draw, in order, if that is asked for
- * @property {string} [onlyIf] of a failing run in which a timed wait has ended early: what time must pass for that
- * @property {OnlyByTime[]} [onlyByTime] waits that have ended only because their time was up
- * @property {WaitPlace[]} [served] places at which agents of the run wait, and which other agents have notified or
- * written; only runs with timed waits have it
- * @property {string[]} [real] what a program has used that the machine answers, by name and line, if anything
- * @property {string[]} [unrecorded] which shared memory and which threads agents used that aren't recorded, if any
  */
+
+/**
+ * @typedef {object} OutcomeNames
+ * @property {string[]} [threads] of a program: what each thread is, its file and where it was started; empty: the first
+ */
+
+/** @typedef {BriefOutcome & OutcomeScript & OutcomeLines & OutcomeNames} Outcome of one run */
 
 /**
  * @typedef {object} LoopTask a timer, an immediate, or what comes of a function that node does later

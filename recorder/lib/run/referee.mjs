@@ -18,9 +18,16 @@ import { OTHER_INPUT } from "./words/summary-words.mjs";
 
 /** @typedef {import("./outcome.mjs").One} One */
 /** @typedef {import("./outcome.mjs").Outcome} Outcome */
+/** @typedef {import("./outcome.mjs").OutcomeLines} OutcomeLines */
 /** @typedef {import("./outcome.mjs").Sent} Sent */
 /** @typedef {import("./outcome.mjs").WantedRun} WantedRun */
 /** @typedef {import("./run-maker.mjs").RunResult} RunResult */
+
+/**
+ * @typedef {object} KnownLines
+ * @property {number} lines which of the log's accesses have noted their lines, as `LINES` has it
+ * @property {boolean} isFirst whether it may be the first failing run
+ */
 
 const ANOTHER_WAY = "the run went another way when it was made once more to learn its lines of code";
 const BY_AGENTS = "its agents do something else then, as if a module keeps something in its own variables";
@@ -112,37 +119,60 @@ class Referee {
 
   /** @param {WantedRun} wanted @returns {Promise<Sent>} the outcome of a seed */
   async #one(wanted) {
-    const { maker, maker: { log }, reporter } = this;
-    let lines = this.linesNext;
-    let found = await maker.made(wanted, lines);
-    const isCut = lines !== LINES.NONE && !log.hasRoom();
-    if (isCut) {
-      // Not all accesses have noted their lines, so another run is judged, which notes each of them once.
-      await maker.replace(found.gone);
-      lines = LINES.NONE;
-      found = await maker.made(wanted, lines);
-    }
-    found = await maker.judged(found);
-    const outcome = reporter.brief(wanted, found);
-    const taken = wanted.whole ? reporter.taken(outcome, found) : undefined;
-    if (taken === undefined && (wanted.whole || outcome.fails)) reporter.addScript(outcome, found);
-    if (wanted.wantsActs) Object.assign(outcome, { acts: reporter.acts(outcome, found) });
+    const { reporter } = this;
+    const { found, lines, isCut } = await this.#judged(wanted);
+    const brief = reporter.brief(wanted, found);
+    const taken = wanted.whole ? reporter.taken(brief, found) : undefined;
+    const hasScript = taken === undefined && (wanted.whole || brief.fails);
+    const told = { ...brief, ...(hasScript ? reporter.script(brief, found) : {}) };
+    const acts = wanted.wantsActs ? { acts: reporter.acts(told, found) } : {};
     // Here the log has all events. The log of a run that is made once more, with lines of code, may lack some reads.
-    const judgement = reporter.judgement(outcome, found, taken);
-    const isFirst = !found.isUnseen && this.firstFailing.takes(outcome);
+    const judgement = reporter.judgement(told, found, taken);
+    const isFirst = !found.isUnseen && this.firstFailing.takes(brief);
     await this.#replace(found);
-    const isReal = outcome.real !== undefined;
-    // A run in fresh threads may get other input, so its lines aren't those of this one.
-    if (isReal) await this.#addSources(wanted, outcome, found, { lines, isFirst });
-    const again = isFirst && this.#mayRemember(wanted, found)
-      ? await this.#inFreshThreads(wanted, outcome, found) : undefined;
-    learnDetail(outcome, again?.again);
-    if (again !== undefined) lines = maker.log.hasRoom() ? LINES.OF_FIRST : LINES.NONE;
-    if (!isReal) await this.#addSources(wanted, outcome, found, { lines, isFirst });
-    if (outcome.ending === "race") outcome.detail = outcome.races.map(({ text }) => text).join("\n");
-    nameIn(outcome, found);
-    this.linesNext = this.#linesAfter(found.racy && !isCut, isReal && !isCut);
+    const { again, ...known } = await this.#known(wanted, told, found, { lines, isFirst });
+    const outcome = { ...told, ...acts, ...known, ...endOf({ ...told, ...known }, found) };
+    this.linesNext = this.#linesAfter(found.racy && !isCut, brief.real !== undefined && !isCut);
     return { outcome, judgement, taken, aside: { ...asideOf(found), ...(again === undefined ? {} : { again }) } };
+  }
+
+  /**
+   * Makes a run, and judges it.
+   * @param {WantedRun} wanted
+   * @returns {Promise<{ found: RunResult, lines: number, isCut: boolean }>} with which accesses have noted their lines,
+   * and whether another run was made, since the log had no room for the lines
+   */
+  async #judged(wanted) {
+    const { maker, maker: { log }, linesNext: lines } = this;
+    const found = await maker.made(wanted, lines);
+    const isCut = lines !== LINES.NONE && !log.hasRoom();
+    if (!isCut) return { found: await maker.judged(found), lines, isCut };
+    // Not all accesses have noted their lines, so another run is judged, which notes each of them once.
+    await maker.replace(found.gone);
+    const other = await maker.made(wanted, LINES.NONE);
+    return { found: await maker.judged(other), lines: LINES.NONE, isCut };
+  }
+
+  /**
+   * What is known about a run by its lines of code, and by a run in fresh threads.
+   * @param {WantedRun} wanted
+   * @param {Outcome} told
+   * @param {RunResult} found
+   * @param {KnownLines} known
+   * @returns {Promise<OutcomeLines & { again?: import("./outcome.mjs").FirstRunAgain }>}
+   */
+  async #known(wanted, told, found, known) {
+    // A run in fresh threads may get other input, so its lines aren't those of this one.
+    const first = told.real === undefined ? {} : await this.#lines(wanted, told, found, known);
+    if (!known.isFirst || !this.#mayRemember(wanted, found)) {
+      return told.real === undefined ? this.#lines(wanted, told, found, known) : first;
+    }
+    const outcome = { ...told, ...first };
+    const again = await this.#inFreshThreads(wanted, outcome, found);
+    const detail = learnedDetail(outcome, again.again);
+    if (told.real !== undefined) return { ...first, detail, again };
+    const lines = this.maker.log.hasRoom() ? LINES.OF_FIRST : LINES.NONE;
+    return { detail, ...await this.#lines(wanted, { ...told, detail }, found, { ...known, lines }), again };
   }
 
   /** @param {boolean} isRacy @param {boolean} isReal what a run was @returns {number} which lines the next one notes */
@@ -218,39 +248,47 @@ class Referee {
     const { maker, reporter } = this;
     const { wantsLines = false } = wanted;
     const found = await maker.judged(await maker.made(wanted, wantsLines ? LINES.OF_RACES : LINES.NONE));
-    const outcome = reporter.brief(wanted, found);
+    const brief = reporter.brief(wanted, found);
     await this.#replace(found);
     const lines = maker.log.hasRoom() ? LINES.OF_RACES : LINES.NONE;
-    if (wantsLines) await this.#addSources(wanted, outcome, found, { lines, isFirst: false });
-    nameIn(outcome, found);
-    return { outcome, aside: asideOf(found) };
+    const known = wantsLines ? await this.#lines(wanted, brief, found, { lines, isFirst: false }) : {};
+    const told = { ...brief, ...known };
+    return { outcome: { ...told, ...namesOf(told.detail, found) }, aside: asideOf(found) };
   }
 
   /**
-   * Adds lines of code to an outcome. If its accesses haven't noted them, the run is made once more.
+   * What lines of code show of a run. If its accesses haven't noted them, it is made once more.
    * @param {WantedRun} wanted
    * @param {Outcome} outcome
    * @param {RunResult} found
-   * @param {{ lines: number, isFirst: boolean }} known which of the log's accesses have noted their lines; whether it
-   * may be the first failing run
+   * @param {KnownLines} known
+   * @returns {Promise<OutcomeLines>}
    */
-  async #addSources(wanted, outcome, found, { lines, isFirst }) {
-    const { maker, reporter } = this;
-    if (found.isUnseen) return;
+  async #lines(wanted, outcome, found, { lines, isFirst }) {
+    if (found.isUnseen) return {};
     const wantsTrace = this.#isTraceWanted(wanted, isFirst);
-    if (!found.racy && !wantsTrace) return;
+    if (!found.racy && !wantsTrace) return {};
     const areThere = lines >= (wantsTrace ? LINES.OF_FIRST : LINES.OF_RACES);
     if (areThere && (lines !== LINES.OF_RACES || !this.#lacksLines())) {
-      reporter.addSources(outcome, wantsTrace);
-      return;
+      return this.reporter.lines(outcome.windows, wantsTrace);
     }
     // If the second run isn't the same, this is all that is known.
-    outcome.races = found.racy ? reporter.races(false) : [];
+    const races = found.racy ? this.reporter.races(false) : [];
     // An agent that didn't come back made no call for long, and would take as long again. A parked one did come.
-    if (found.endless.length > 0) {
-      if (wantsTrace) outcome.noTrace = goneText(found.endless);
-      return;
-    }
+    if (found.endless.length > 0) return { races, ...(wantsTrace ? { noTrace: goneText(found.endless) } : {}) };
+    return { races, ...await this.#linesOfSecond(wanted, outcome, found, wantsTrace) };
+  }
+
+  /**
+   * Makes a run once more, in which accesses note their lines of code.
+   * @param {WantedRun} wanted
+   * @param {Outcome} outcome
+   * @param {RunResult} found
+   * @param {boolean} wantsTrace
+   * @returns {Promise<OutcomeLines>}
+   */
+  async #linesOfSecond(wanted, outcome, found, wantsTrace) {
+    const { maker, reporter } = this;
     if (wantsTrace) maker.board.noted.clear();
     if (found.racy) this.#noteRaces();
     if (wanted.isFresh) await this.#startAnew();
@@ -259,11 +297,12 @@ class Referee {
     const again = await maker.made({ ...againAs(wanted, outcome), isSilent }, how);
     this.mayLackLines ||= found.racy && this.#lacksLines();
     const brief = reporter.brief(wanted, await maker.judgedAgain(again, found));
-    const same = areSame(brief, outcome) && again.divergence === undefined;
-    learnDetail(outcome, brief);
+    const isSame = areSame(brief, outcome) && again.divergence === undefined;
+    const detail = learnedDetail(outcome, brief);
     await this.#replace(again);
-    if (same) reporter.addSources(outcome, wantsTrace);
-    else if (wantsTrace) outcome.noTrace = `${ANOTHER_WAY}: ${outcome.real === undefined ? BY_AGENTS : OTHER_INPUT}`;
+    if (isSame) return { detail, ...reporter.lines(outcome.windows, wantsTrace) };
+    const noTrace = `${ANOTHER_WAY}: ${outcome.real === undefined ? BY_AGENTS : OTHER_INPUT}`;
+    return { detail, ...(wantsTrace ? { noTrace } : {}) };
   }
 
   /** @param {RunResult} run after which workers that can't run again are started anew, or all if the option says so */
@@ -286,21 +325,33 @@ class Referee {
 const againAs = (wanted, { real, row }) =>
   (real === undefined || row === undefined ? wanted : { ...wanted, row, isExact: true });
 
-/** @param {Outcome} outcome in whose text a program's threads and blocks get their names @param {RunResult} found */
-function nameIn(outcome, { names }) {
-  if (names === undefined) return;
-  outcome.detail = namedText(outcome.detail, names);
-  outcome.threads = names.threads;
+/**
+ * @param {string} detail in which a program's threads and blocks get their names
+ * @param {RunResult} found
+ * @returns {{ detail?: string, threads?: string[] }}
+ */
+const namesOf = (detail, { names }) =>
+  (names === undefined ? {} : { detail: namedText(detail, names), threads: names.threads });
+
+/**
+ * How a run ended, in words, when all is known about it.
+ * @param {Outcome} outcome
+ * @param {RunResult} found
+ * @returns {{ detail: string, threads?: string[] }}
+ */
+function endOf({ ending, races, detail: known }, found) {
+  const detail = ending === "race" ? races.map(({ text }) => text).join("\n") : known;
+  return { detail, ...namesOf(detail, found) };
 }
 
 /**
  * A run that was made once more and noted its lines may know more about how it ended: where an await is.
  * @param {Outcome} outcome
- * @param {{ detail: string }} [again]
+ * @param {{ detail: string }} again
+ * @returns {string} the detail of the outcome
  */
-function learnDetail(outcome, again) {
-  if (outcome.ending === "failed" && again?.detail.startsWith(outcome.detail)) outcome.detail = again.detail;
-}
+const learnedDetail = ({ ending, detail }, again) =>
+  (ending === "failed" && again.detail.startsWith(detail) ? again.detail : detail);
 
 /** @param {RunResult} found @returns {import("./outcome.mjs").Aside} */
 const asideOf = ({ waiting, divergence }) => ({ waiting, divergence });

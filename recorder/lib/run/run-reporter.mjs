@@ -1,5 +1,5 @@
-// Makes the outcome of the run that was made last. Each outcome is brief; to some it adds the script, the report, the
-// unordered accesses and the trace.
+// Makes the parts of the outcome of the run that was made last. Each outcome has the brief part. Some have the script
+// and its report, or what lines of code show: unordered accesses and the trace.
 
 import { createHash } from "node:crypto";
 import { CopiedRuns } from "../memory/copied-runs.mjs";
@@ -12,14 +12,16 @@ import { standstillOf, thrownIn } from "./ending/failure.mjs";
 import { raceReports } from "./races/race-reports.mjs";
 import { FinalStates } from "./ending/final-state.mjs";
 import { scriptWithinLimits } from "./script/script-within-limits.mjs";
-import { addAnswers, addTexts } from "./script-texts.mjs";
+import { answersOf, textsOf } from "./script-texts.mjs";
 import { askingLines, standingsOf, waitText, waitsOf } from "./ending/standing.mjs";
 import { earlyText, onlyByTimeOf, servedOf } from "./ending/timed-ends.mjs";
 import { UNSEEN_LINE, placesIn, traceText, unseenLine } from "./script/trace.mjs";
 import { transcriptOf } from "./script/transcript.mjs";
 import { NO_SCRIPT, realIn, unrecordedIn } from "./words/unseen-text.mjs";
 
-/** @typedef {import("./outcome.mjs").Outcome} Outcome */
+/** @typedef {import("./outcome.mjs").BriefOutcome} BriefOutcome */
+/** @typedef {import("./outcome.mjs").OutcomeScript} OutcomeScript */
+/** @typedef {import("./outcome.mjs").OutcomeLines} OutcomeLines */
 /** @typedef {import("./run-maker.mjs").RunResult} RunResult */
 /** @typedef {import("./windows/in-windows.mjs").Written} Written */
 
@@ -47,7 +49,7 @@ export class RunReporter {
   /**
    * @param {import("./outcome.mjs").WantedRun} wanted
    * @param {RunResult} found
-   * @returns {Outcome} what each outcome has
+   * @returns {BriefOutcome}
    */
   brief({ seed }, found) {
     const { maker, options } = this;
@@ -81,7 +83,7 @@ export class RunReporter {
     };
   }
 
-  /** @param {string} ending of a run that has timed waits @returns {Pick<Outcome, "onlyByTime" | "served">} */
+  /** @param {string} ending of a run that has timed waits @returns {Pick<BriefOutcome, "onlyByTime" | "served">} */
   #timedEnds(ending) {
     const { run: { log, records }, sources, sourceNames } = this;
     const served = servedOf(log);
@@ -94,28 +96,24 @@ export class RunReporter {
   }
 
   /**
-   * Adds the script and its report, for a run that fails or is to be checked.
-   * @param {Outcome} outcome
+   * The script and its report, for a run that fails or is to be checked.
+   * @param {BriefOutcome} brief
    * @param {RunResult} found
+   * @returns {OutcomeScript}
    */
-  addScript(outcome, found) {
-    if (found.isUnseen) {
-      outcome.noScript = NO_SCRIPT;
-      return;
-    }
+  script(brief, found) {
+    if (found.isUnseen) return { noScript: NO_SCRIPT };
     const { maker: { state, agents }, options, run } = this;
     const written = this.#writtenOf(found);
-    if (written?.windows !== undefined) outcome.windows = written.windows;
-    const why = outcome.noScript ?? state.whyNoScript(written);
+    const windows = written?.windows === undefined ? {} : { windows: written.windows };
+    const why = brief.noScript ?? state.whyNoScript(written);
     if (written === undefined || why !== undefined) {
-      this.#addFailure(outcome, found, transcriptOf(run, []));
-      outcome.noScript = why;
-      return;
+      return { ...windows, ...this.#failure(brief, found, transcriptOf(run, [])), noScript: why };
     }
     const fit = scriptWithinLimits(written.run, written.stores, found.initial, written.bytes);
-    this.#addFailure(outcome, found, written.windows === undefined ? fit.transcript : transcriptOf(run, []));
-    if (outcome.fails || !options.isBrief) addAnswers(outcome, fit, written.bytes, agents.length);
-    addTexts(outcome, fit);
+    const failure = this.#failure(brief, found, written.windows === undefined ? fit.transcript : transcriptOf(run, []));
+    const answers = brief.fails || !options.isBrief ? answersOf(fit, written.bytes, agents.length) : {};
+    return { ...windows, ...failure, ...answers, ...textsOf(fit) };
   }
 
   /**
@@ -129,7 +127,7 @@ export class RunReporter {
 
   /**
    * @param {string[]} bytes of each block at the end, in hexadecimal digits
-   * @param {Outcome["windows"]} [windows] those of its script, if it has some
+   * @param {OutcomeScript["windows"]} [windows] those of its script, if it has some
    * @returns {Written | undefined} the run of the log, as its script and its trace have it, if they can
    */
   #written(bytes, windows) {
@@ -141,7 +139,7 @@ export class RunReporter {
   /**
    * Copies of what was written down of a run, if another thread can make its script and report of them. It can if the
    * run has passed by itself: then nothing else in its outcome is made from its calls.
-   * @param {Outcome} outcome
+   * @param {BriefOutcome} brief
    * @param {RunResult} found
    * @returns {import("./run-snapshot.mjs").RunSnapshot | undefined}
    */
@@ -155,14 +153,14 @@ export class RunReporter {
 
   /**
    * A digest of all that was done, for a comparison with another run.
-   * @param {Outcome} outcome
+   * @param {BriefOutcome & OutcomeScript} outcome
    * @param {RunResult} found
    * @returns {string}
    */
   acts(outcome, found) {
-    const copy = { ...outcome };
-    if (copy.script === undefined && copy.noScript === undefined) this.addScript(copy, found);
-    return createHash("sha256").update(`${copy.script} ${copy.report} ${copy.noScript}`).digest("base64");
+    const hasTexts = outcome.script !== undefined || outcome.noScript !== undefined;
+    const { script, report, noScript } = hasTexts ? outcome : this.script(outcome, found);
+    return createHash("sha256").update(`${script} ${report} ${noScript}`).digest("base64");
   }
 
   /**
@@ -186,29 +184,39 @@ export class RunReporter {
   }
 
   /**
-   * Adds the unordered accesses and the trace of a run whose accesses have noted their lines of code.
-   * @param {Outcome} outcome
+   * The unordered accesses and the trace of a run whose accesses have noted their lines of code.
+   * @param {OutcomeScript["windows"]} windows those of its script, if it has some
    * @param {boolean} wantsTrace
+   * @returns {OutcomeLines}
    */
-  addSources(outcome, wantsTrace) {
-    const { run: { log }, sourceNames } = this;
-    outcome.races = this.options.ordinary === "watch" ? this.races(true) : [];
-    if (!wantsTrace) return;
-    const written = this.#written([], outcome.windows);
-    if (written === undefined) {
-      outcome.noTrace = this.maker.state.whyNoScript(written);
-      return;
-    }
-    if (written.windows !== undefined) outcome.windows = written.windows;
+  lines(windows, wantsTrace) {
+    const races = this.options.ordinary === "watch" ? this.races(true) : [];
+    if (!wantsTrace) return { races };
+    const written = this.#written([], windows);
+    if (written === undefined) return { races, noTrace: this.maker.state.whyNoScript(written) };
+    // If some are found, no verdict on the trace says that there are none.
+    const firstLine = races.length === 0 ? this.#firstLine() : "";
+    return {
+      races, ...(written.windows === undefined ? {} : { windows: written.windows }), ...this.#trace(written, firstLine),
+    };
+  }
+
+  /**
+   * @param {Written} written
+   * @param {string} firstLine
+   * @returns {OutcomeLines}
+   */
+  #trace(written, firstLine) {
+    const { run: { log }, sourceNames, maker: { state: { tasks: begun } } } = this;
     const names = this.sources.map((each) => each.list().map((/** @type {string} */ place) =>
       place === "" ? "" : sourceNames.nameOf(place)));
-    // If some are found, no verdict on the trace says that there are none.
-    outcome.trace = (outcome.races.length === 0 ? this.#firstLine() : "") + traceText(written.run.log, names);
-    outcome.accesses = accessesIn(written.run.log, written.run.lengths);
     const tasks = this.#tasks();
-    outcome.sources = sourceNames.textsOf([...placesIn(log, names), ...tasks.flatMap(({ source }) => source ?? [])]);
-    const { tasks: begun } = this.maker.state;
-    if (begun !== undefined) Object.assign(outcome, { tasks, messages: begun.messages() });
+    return {
+      trace: firstLine + traceText(written.run.log, names),
+      accesses: accessesIn(written.run.log, written.run.lengths),
+      sources: sourceNames.textsOf([...placesIn(log, names), ...tasks.flatMap(({ source }) => source ?? [])]),
+      ...(begun === undefined ? {} : { tasks, messages: begun.messages() }),
+    };
   }
 
   /** @returns {string} what a trace begins with if a verdict on its events could be wrong, or else nothing */
@@ -227,7 +235,7 @@ export class RunReporter {
 
   /**
    * Whether unordered accesses were found, if the outcome has the script, so that both can be checked.
-   * @param {Outcome} outcome
+   * @param {OutcomeScript} outcome
    * @param {RunResult} found
    * @param {import("./run-snapshot.mjs").RunSnapshot} [taken] of which the outcome gets its script
    * @returns {import("./outcome.mjs").SentJudgement | undefined}
@@ -248,27 +256,28 @@ export class RunReporter {
   }
 
   /**
-   * Adds what made a run fail. To the detail of a deadlock or a limit it adds where agents wait, or ask for a call.
-   * @param {Outcome} outcome
+   * What made a run fail. The detail of a deadlock or a limit has where agents wait, or ask for a call.
+   * @param {BriefOutcome} brief
    * @param {RunResult} found
    * @param {import("../../script/text.mjs").Transcript} transcript
+   * @returns {Pick<OutcomeScript, "detail" | "standing" | "failure">}
    */
-  #addFailure(outcome, { waiting, asking, met }, transcript) {
+  #failure({ ending, fails, detail }, { waiting, asking, met }, transcript) {
     const { sources, sourceNames } = this;
-    const { ending, fails, detail } = outcome;
     const isAnywhere = waiting.length + asking.length > 0 || met !== undefined;
     const places = isAnywhere ? sources.map((each) => each.marked()) : [];
     /** @param {number} agent */
     const sourceOf = (agent) => (places[agent] === "" ? "" : sourceNames.nameOf(places[agent]));
     const waits = waitsOf(waiting, transcript, sourceOf);
     const stands = [...waits.map(waitText), ...askingLines(asking, transcript, sourceOf)];
-    outcome.detail = [detail, ...stands].filter((line) => line !== "").join("\n");
-    if (ending === "deadlock" || ending === "limit") {
-      outcome.standing = standingsOf({ met, waits, asking }, transcript, sourceOf);
-    }
-    if (!fails || ending === "race") return;
+    const isStill = ending === "deadlock" || ending === "limit";
     const isThrown = ending === "failed" || ending === "check";
-    outcome.failure = isThrown ? thrownIn(detail, sourceNames) : standstillOf(detail, waits);
+    const failure = () => (isThrown ? thrownIn(detail, sourceNames) : standstillOf(detail, waits));
+    return {
+      detail: [detail, ...stands].filter((line) => line !== "").join("\n"),
+      ...(isStill ? { standing: standingsOf({ met, waits, asking }, transcript, sourceOf) } : {}),
+      ...(!fails || ending === "race" ? {} : { failure: failure() }),
+    };
   }
 
   /** @returns {boolean} whether ordinary accesses were made, or may have been made unseen */

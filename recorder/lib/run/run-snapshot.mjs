@@ -7,9 +7,9 @@ import { CopiedStores } from "../memory/stores.mjs";
 import { Names } from "../options/names.mjs";
 import { scriptWithinLimits } from "./script/script-within-limits.mjs";
 import { KnownCalls } from "./script/known-calls.mjs";
-import { addAnswers, addTexts } from "./script-texts.mjs";
+import { answersOf, textsOf } from "./script-texts.mjs";
 
-/** @typedef {import("./outcome.mjs").Outcome} Outcome */
+/** @typedef {import("./outcome.mjs").OutcomeScript} OutcomeScript */
 
 /**
  * @typedef {object} RunSnapshot
@@ -31,19 +31,18 @@ export class TextMaker {
   }
 
   /**
-   * Adds to an outcome what is made from a copy: its script and report, or why it has none, and its answers.
-   * @param {Outcome} outcome
+   * What is made from a copy for its outcome: the script and its report, or why there is none, and the answers.
    * @param {RunSnapshot} taken
-   * @returns {Int32Array} the events of the run; they hold until the copy is freed
+   * @returns {{ script: OutcomeScript, events: Int32Array }} with the events of the run; they hold until the copy is
+   * freed
    */
-  complete(outcome, { copy, bytes, isOrdinary }) {
+  made({ copy, bytes, isOrdinary }) {
     const { fixed, isBrief } = this;
     const { events, records, stores } = this.copies.parts(copy);
     const run = { ...fixed, log: Log.from(events), records, isOrdinary };
     const found = scriptWithinLimits(run, new CopiedStores(stores), [], bytes);
-    if (!isBrief) addAnswers(outcome, found, bytes, run.canBlock.length);
-    addTexts(outcome, found);
-    return events;
+    const answers = isBrief ? {} : answersOf(found, bytes, run.canBlock.length);
+    return { script: { ...answers, ...textsOf(found) }, events };
   }
 
   /** @param {RunSnapshot} taken whose copy nobody reads any more */

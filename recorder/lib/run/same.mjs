@@ -2,9 +2,9 @@
 
 import { isRealAnswer, moverOf } from "../board/drawn-schedule.mjs";
 
-/** @typedef {import("./outcome.mjs").Outcome} Outcome */
-/** @typedef {Pick<Outcome, "seed" | "ending" | "detail" | "moves" | "calls" | "state" | "noScript">} BriefOutcome */
-/** @typedef {BriefOutcome & Pick<Outcome, "real" | "row">} RunSummary with its row if it got real answers */
+/** @typedef {import("./outcome.mjs").BriefOutcome} BriefOutcome */
+/** @typedef {"seed" | "ending" | "detail" | "moves" | "calls" | "state" | "noScript" | "real" | "row"} ComparedName */
+/** @typedef {Pick<BriefOutcome, ComparedName>} RunSummary with its row if it got real answers */
 
 /**
  * Whether two runs of a seed did the same, as far as every run reports. If they got real answers, their rows are

@@ -2,33 +2,27 @@
 
 import { reportText } from "../../script/report.mjs";
 
-/** @typedef {import("./outcome.mjs").Outcome} Outcome */
+/** @typedef {import("./outcome.mjs").OutcomeScript} OutcomeScript */
 /** @typedef {import("./script/script-within-limits.mjs").ScriptWithinLimits} ScriptWithinLimits */
 
 /**
- * Adds the bytes at the end and the answers to an outcome.
- * @param {Outcome} outcome
+ * The bytes at the end and the answers.
  * @param {ScriptWithinLimits} fitted
  * @param {string[]} bytes of each block at the end, in hexadecimal digits
  * @param {number} agents how many make calls of their own
+ * @returns {Pick<OutcomeScript, "bytes" | "answers">}
  */
-export function addAnswers(outcome, { transcript }, bytes, agents) {
-  outcome.bytes = bytes;
+export function answersOf({ transcript }, bytes, agents) {
   const own = Array.from({ length: agents }, (_, agent) => transcript.calls[agent].filter(({ isOwn }) => isOwn));
-  outcome.answers = own.map((calls) => calls.map((call) => (call.standsFor ?? call).answer));
+  return { bytes, answers: own.map((calls) => calls.map((call) => (call.standsFor ?? call).answer)) };
 }
 
 /**
- * Adds the script and its report to an outcome, or why there is none.
- * @param {Outcome} outcome
+ * The script and its report, or why there is none.
  * @param {ScriptWithinLimits} fitted
+ * @returns {Pick<OutcomeScript, "script" | "scriptHolds" | "report" | "noScript">}
  */
-export function addTexts(outcome, { transcript, script, holds, bytes = [], noScript }) {
-  if (script === undefined) {
-    outcome.noScript = noScript;
-    return;
-  }
-  outcome.script = script;
-  outcome.scriptHolds = holds;
-  outcome.report = reportText(transcript, bytes);
+export function textsOf({ transcript, script, holds, bytes = [], noScript }) {
+  if (script === undefined) return { noScript };
+  return { script, scriptHolds: holds, report: reportText(transcript, bytes) };
 }

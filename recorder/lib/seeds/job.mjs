@@ -36,14 +36,25 @@ const NOT_CHECKED = "the process of its job ended before it was checked";
  * @property {import("../shorter/shorten.mjs").Shortened} shortened
  */
 
+/** @typedef {"row" | "bytes" | "answers" | "script" | "report"} LongTextOfCalls */
+/** @typedef {"trace" | "accesses" | "sources" | "tasks" | "messages"} LongTextOfTrace */
+
 /**
- * An outcome without its long texts.
- * @param {CheckedOutcome} outcome
- * @returns {CheckedOutcome}
+ * What a job hands on of a run that can't be the first failing one, if the options say that outcomes are brief.
+ * @typedef {Omit<CheckedOutcome, LongTextOfCalls | LongTextOfTrace>} LightOutcome
  */
-function lightened({ script, report, trace, accesses, sources, tasks, messages, bytes, answers, row, ...rest }) {
-  return rest;
-}
+
+/** @type {Record<keyof LightOutcome, true>} */
+const LIGHT = Object.freeze({
+  seed: true, ending: true, fails: true, detail: true, moves: true, calls: true, ordinary: true, progress: true,
+  state: true, races: true, noScript: true, unrecorded: true, real: true, onlyIf: true, onlyByTime: true, served: true,
+  windows: true, standing: true, failure: true, scriptHolds: true, acts: true, noTrace: true, threads: true,
+  checked: true, unchecked: true, divergence: true,
+});
+
+/** @param {CheckedOutcome} outcome @returns {LightOutcome} what it has without its long texts */
+const lightOf = (outcome) =>
+  /** @type {any} */ (Object.fromEntries(Object.entries(outcome).filter(([name]) => Object.hasOwn(LIGHT, name))));
 
 /**
  * Opens a group. What only whole programs need is loaded only for these.
@@ -104,7 +115,7 @@ export class Job {
   async run(seeds, onOutcome, onFailing = () => {}) {
     const group = await this.#opened();
     /** @param {Outcome} outcome @param {CheckedOutcome} as */
-    const brief = ({ seed }, as) => (!this.#isBrief || seed === this.#first ? as : lightened(as));
+    const brief = ({ seed }, as) => (!this.#isBrief || seed === this.#first ? as : lightOf(as));
     await group.run(seeds, (outcome, judgement, aside) => {
       if (this.#failure !== undefined) return;
       const checked = this.#checked({ outcome, judgement, aside });
@@ -152,8 +163,8 @@ export class Job {
       if (keeps !== undefined) throw keeps;
       const checked = checkedBy(this.#simulator, run, this.#every, this.#repeats);
       const besides = isReal ? otherInputText(outcome, again) : "";
-      if (besides !== "") checked.detail = [checked.detail, besides].filter((text) => text !== "").join("\n");
-      return divergence === undefined ? checked : { ...checked, divergence };
+      const detail = [checked.detail, besides].filter((text) => text !== "").join("\n");
+      return { ...checked, detail, ...(divergence === undefined ? {} : { divergence }) };
     } catch (failure) {
       this.#failure = failure;
       return failure instanceof KeepsGlobals ? undefined : { ...run.outcome, checked: false };
