@@ -60,15 +60,15 @@ export class AgentModules {
     if (!/\.m?js$/.test(url)) throw new Refused(`--all can't read ${name}: it takes modules in .mjs or .js files`);
     const source = readFileSync(fileURLToPath(url), "utf8").replace(/^\uFEFF/, "");
     const written = new ModuleText(name, source, parsed);
-    const { isPlain } = this;
+    const how = { url, isPlain: this.isPlain };
     if (isEntry) this.entry = url;
-    let text = rewritten(written, { isPlain, isAlone: isEntry });
+    let text = rewritten(written, { ...how, isAlone: isEntry });
     this.texts.set(url, text);
     /** @type {(string | object)[]} */
     const imports = [];
     for (const specifier of text.imports) imports.push(this.#imported(specifier, url));
     if (isEntry && this.isEntryImported) {
-      text = rewritten(written, { isPlain, isAlone: false });
+      text = rewritten(written, { ...how, isAlone: false });
       this.texts.set(url, text);
     }
     this.modules.push({ url, make: new Script(text.code, { filename: url }).runInThisContext(), imports });

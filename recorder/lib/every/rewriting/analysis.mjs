@@ -4,7 +4,8 @@
 import { Refused } from "../../options/refused.mjs";
 import { SAFE_GLOBALS, NOT_CALLED, HIDDEN_MEMBERS, isAllowedUse } from "./allowed.mjs";
 import { Info, Scope, newId } from "./scopes.mjs";
-import { childrenOf, functionIn, isClass, isFunction, isLoop, namesIn, runsCode } from "./tree.mjs";
+import { ownNameIn } from "./naming.mjs";
+import { hasExpressions, isMethod, runsCode } from "./tree.mjs";
 import { VISITS } from "./visits.mjs";
 
 /** @typedef {import("./tree.mjs").Tree} Tree */
@@ -44,9 +45,15 @@ export class Analysis {
     this.privateOthers = new Set();
     /** Whether it has templates with tags, each with strings that are always the same object. */
     this.hasTags = false;
+    /** @type {Set<Tree>} classes and objects of the top level in which there is a `super` */
+    this.homes = new Set();
+    /** @type {Tree[]} what stands for `import.meta.url` */
+    this.metaUrls = [];
     /** How many loops at the top level are around what is gone over. */
     this.loops = 0;
     this.tree = tree;
+    const reserved = ownNameIn(tree);
+    if (reserved !== undefined) this.refuse(reserved, "a name that the recorder uses here");
     this.root = this.newScope(tree, null, null, "module");
     this.root.declareLexical(tree.body);
     this.root.declareVariables(tree);
@@ -104,15 +111,12 @@ export class Analysis {
   /** @param {Tree | null | undefined} tree @param {EnclosingScope} here */
   visit(tree, here) {
     if (tree === null || tree === undefined) return;
-    if (isFunction(tree)) this.visitFunction(tree, here);
-    else if (isClass(tree)) this.visitClass(tree, here);
-    else if (isLoop(tree)) this.visitLoop(tree, here);
-    else if (Object.hasOwn(VISITS, tree.type)) VISITS[tree.type](this, tree, here);
-    else this.visitAll(childrenOf(tree), here);
+    if (!Object.hasOwn(VISITS, tree.type)) this.refuse(tree, `a ${tree.type}, which isn't known`);
+    VISITS[tree.type](this, tree, here);
   }
 
   /**
-   * A method with `super` depends on the object to which it belongs. At the top level there is one.
+   * A method with `super` depends on the object to which it belongs. At the top level there is one, which is shown.
    * @param {Tree} tree
    * @param {EnclosingScope} here
    */
@@ -122,79 +126,67 @@ export class Analysis {
     const around = [];
     let at = here.within;
     for (; at !== null && at.tree.type === "ArrowFunctionExpression"; at = at.outer) around.push(at);
-    if (at === null || (at.outer === null && this.loops === 0)) return;
-    for (const info of [...around, at]) info.usesSuper = true;
+    if (at === null || at.holder === undefined) this.refuse(tree, "`super` outside of a method");
+    const isOfClass = this.infos.has(at.holder) && at.outer?.outer === null;
+    if ((at.outer === null || isOfClass) && this.loops === 0) this.homes.add(at.holder);
+    else for (const info of [...around, at]) info.usesSuper = true;
   }
 
-  /** @param {Tree} tree @param {EnclosingScope} here */
-  visitFunction(tree, { scope, within }) {
+  /** @param {Tree} tree @param {EnclosingScope} here @param {Tree} [holder] the class or the object whose method it is */
+  visitFunction(tree, { scope, within }, holder) {
     const info = new Info(newId(), tree, within);
+    info.holder = holder;
     const own = this.newScope(tree, scope, info, "function");
+    own.visibleFrom = tree.body.start;
     this.infos.set(tree, info);
     this.own.set(tree, own);
     this.functions.push(info);
     info.isHidden = tree.generator || tree.async || tree.params.some(runsCode);
     const named = tree.type === "ArrowFunctionExpression" ? [] : ["this", "arguments", "new.target"];
     for (const name of named) own.declare(name, "pseudo");
-    if (tree.type === "FunctionExpression" && tree.id) own.declare(tree.id.name, "self");
     for (const parameter of tree.params) own.declareAll(parameter, "param");
     const here = { scope: own, within: info };
     for (const parameter of tree.params) this.visitPattern(parameter, here, true);
-    if (tree.body.type === "BlockStatement") {
-      own.declareLexical(tree.body.body);
-      own.declareVariables(tree.body);
-      this.visitAll(tree.body.body, here);
-    } else this.visit(tree.body, here);
+    if (tree.body.type === "BlockStatement") this.#visitBody(tree, here);
+    else this.visit(tree.body, here);
+    const { id, type } = tree;
+    if (type === "FunctionExpression" && id && !own.names.has(id.name)) own.declare(id.name, "self");
   }
 
-  /** @param {Tree} tree @param {EnclosingScope} here */
-  visitClass(tree, here) {
-    this.visit(tree.superClass, here);
-    if (tree.type === "ClassExpression" && tree.id) this.refuse(tree, "a class expression with a name of its own");
-    // What its fields begin with is evaluated by a function that nobody wrote.
-    const info = new Info(newId(), tree.body, here.within);
-    info.isHidden = true;
-    this.infos.set(tree, info);
-    this.functions.push(info);
-    const own = this.newScope(tree.body, here.scope, info, "function");
-    own.declare("this", "pseudo");
-    for (const member of tree.body.body) this.#visitMemberOfClass(tree, member, here, { scope: own, within: info });
+  /**
+   * Expressions among the parameters don't see what the braces declare.
+   * @param {Tree} tree a function with braces
+   * @param {EnclosingScope} here
+   */
+  #visitBody({ body, params }, { scope, within }) {
+    let own = scope;
+    if (params.some(hasExpressions)) {
+      own = this.newScope(body, scope, within, "block");
+      this.own.set(body, own);
+    }
+    own.declareLexical(body.body);
+    own.declareVariables(body);
+    this.visitAll(body.body, { scope: own, within });
   }
 
-  /** @param {Tree} tree @param {Tree} member @param {EnclosingScope} here @param {EnclosingScope} inside */
-  #visitMemberOfClass(tree, member, here, inside) {
-    if (member.computed) this.visit(member.key, here);
-    if (member.type === "StaticBlock") this.refuse(member, "a static block");
-    if (member.type === "MethodDefinition") {
-      if (member.key.type === "PrivateIdentifier") this.#namesOf(member).add(member.key.name);
-      this.visitFunction(member.value, here);
-      this.noteAccessor(member);
-      if (member.kind === "constructor") this.#visitConstructor(member.value, tree.superClass !== null);
-    } else if (member.key.type === "PrivateIdentifier") this.#namesOf(member).add(member.key.name);
-    if (member.type !== "MethodDefinition" && member.value) {
-      const inner = functionIn(member.value);
-      if (inner !== undefined) this.refuse(inner, "a function in what a field begins with");
-      this.visit(member.value, inside);
+  /** @param {Tree} tree an object's literal @param {EnclosingScope} here */
+  visitObject(tree, here) {
+    for (const one of tree.properties) {
+      if (one.type !== "Property") {
+        this.visit(one, here);
+        continue;
+      }
+      if (one.shorthand) this.shorthand.add(one.value.start);
+      if (one.computed) this.visit(one.key, here);
+      if (isMethod(one)) this.visitFunction(one.value, here, tree);
+      else this.visit(one.value, here);
+      this.noteAccessor(one);
     }
   }
 
   /** @param {Tree} member of a class or of an object's literal */
   noteAccessor({ kind, value }) {
     if (kind === "get" || kind === "set") /** @type {Info} */ (this.infos.get(value)).isAccessor = true;
-  }
-
-  /** @param {Tree} member that is private @returns {Set<string>} the names among which its own is */
-  #namesOf({ kind }) {
-    return kind === "method" ? this.privateMethods : this.privateOthers;
-  }
-
-  /** @param {Tree} tree @param {boolean} isDerived */
-  #visitConstructor(tree, isDerived) {
-    const info = /** @type {Info} */ (this.infos.get(tree));
-    // What it makes is returned, whether it reads it again or not. That of a derived class may not be there yet.
-    info.made = this.own.get(tree)?.names.get("this");
-    if (info.made !== undefined) info.made.isAlwaysShown = true;
-    if (isDerived) this.hide(info);
   }
 
   /** @param {Tree} tree @param {EnclosingScope} here */
@@ -204,6 +196,7 @@ export class Analysis {
     let inside = here;
     if (head?.type === "VariableDeclaration" && head.kind !== "var") {
       const own = this.newScope(tree, here.scope, here.within, tree.type === "ForStatement" ? "for" : "each");
+      if (tree.type !== "ForStatement") own.visibleFrom = tree.body.start;
       for (const one of head.declarations) own.declareAll(one.id, head.kind);
       this.own.set(tree, own);
       inside = { scope: own, within: here.within };
@@ -224,6 +217,10 @@ export class Analysis {
   /** @param {Tree} tree @param {EnclosingScope} here */
   visitMember(tree, here) {
     const { object, property, computed } = tree;
+    if (isMetaUrl(tree)) {
+      this.metaUrls.push(tree);
+      return;
+    }
     const name = computed ? property.value : property.name;
     if (HIDDEN_MEMBERS.has(name)) this.refuse(tree, `.${name}`);
     this.visit(object, here);
@@ -248,6 +245,7 @@ export class Analysis {
   /** @param {Tree} tree @param {EnclosingScope} here */
   visitCatch(tree, { scope, within }) {
     const own = this.newScope(tree, scope, within, "catch");
+    own.visibleFrom = tree.body.start;
     own.declareAll(tree.param, "catch");
     this.own.set(tree, own);
     const here = { scope: own, within };
@@ -260,14 +258,12 @@ export class Analysis {
 
   /** @param {Tree} tree @param {EnclosingScope} here */
   visitSwitch(tree, here) {
-    for (const { consequent } of tree.cases) {
-      for (const statement of consequent) {
-        const { type, kind } = statement;
-        const isDeclared = (type === "VariableDeclaration" && kind !== "var") || /^(?:Class|Function)Decl/.test(type);
-        if (isDeclared) this.refuse(statement, "a declaration in a case: put braces around the case");
-      }
-    }
-    this.visitAll(childrenOf(tree), here);
+    this.visit(tree.discriminant, here);
+    const own = this.newScope(tree, here.scope, here.within, "switch");
+    own.declareLexical(tree.cases.flatMap((/** @type {Tree} */ { consequent }) => consequent));
+    this.own.set(tree, own);
+    const inside = { scope: own, within: here.within };
+    for (const { test, consequent } of tree.cases) this.visitAll([test, ...consequent], inside);
   }
 
   /** @param {Tree} tree @param {EnclosingScope} here */
@@ -280,8 +276,11 @@ export class Analysis {
   /** @param {Tree} tree @param {EnclosingScope} here */
   visitAssignment(tree, here) {
     const { left, right, operator } = tree;
-    if (left.type === "Identifier") this.refer(left.name, left, here, operator !== "=");
-    else if (left.type === "MemberExpression") this.visit(left, here);
+    this.needsNoMeta(left);
+    if (left.type === "Identifier") {
+      this.refer(left.name, left, here, operator !== "=");
+      if (operator !== "=") this.#noteWrite(left);
+    } else if (left.type === "MemberExpression") this.visit(left, here);
     else {
       this.visitPattern(left, here, false);
       if (runsCode(left)) this.hidden.push([left.start, tree.end]);
@@ -291,9 +290,14 @@ export class Analysis {
 
   /** @param {Tree} tree @param {EnclosingScope} here */
   visitUpdate(tree, here) {
+    this.needsNoMeta(tree.argument);
     this.visit(tree.argument, here);
-    if (tree.argument.type !== "Identifier") return;
-    const reference = this.byPlace.get(`${tree.argument.start}.${tree.argument.end}`);
+    if (tree.argument.type === "Identifier") this.#noteWrite(tree.argument);
+  }
+
+  /** @param {Tree} tree a name that is read, and gets another value */
+  #noteWrite({ start, end }) {
+    const reference = this.byPlace.get(`${start}.${end}`);
     if (reference !== undefined) this.references.push({ ...reference, reads: false });
   }
 
@@ -327,31 +331,45 @@ export class Analysis {
         this.visitPattern(pattern.argument, here, isDeclared);
         return;
       default:
+        this.needsNoMeta(pattern);
         this.visit(pattern, here);
     }
+  }
+
+  /** @param {Tree} tree that gets another value, or is deleted */
+  needsNoMeta(tree) {
+    if (isMetaUrl(tree)) this.refuse(tree, "`import.meta.url` that is changed");
   }
 
   /** Finds what each name means, and what functions capture. */
   #resolve() {
     for (const reference of this.references) {
-      const binding = reference.scope.find(reference.name);
-      if (binding === undefined) {
-        this.#needsAllowed(reference);
-        continue;
-      }
+      reference.binding = reference.scope.find(reference.name);
+      if (reference.binding === undefined) this.#needsAllowed(reference);
+      else if (!reference.reads) reference.binding.isAssigned = true;
+    }
+    for (const reference of this.references) {
+      const { binding: found, within } = reference;
+      if (found === undefined) continue;
+      const binding = found.same?.isAssigned === false ? found.same : found;
       reference.binding = binding;
       binding.references.push(reference);
-      // In a class its name always means the class.
-      const isLost = binding.kind === "class" && !reference.reads;
-      if (isLost) this.refuse(reference, "a class's name that gets another value");
       if (binding.scope.kind === "module") continue;
-      if (binding.scope.within === null && reference.within !== null) {
-        this.refuse(reference.scope.tree, `\`${reference.name}\`, a name of a block at the top level, in a function`);
-      }
       const { within: owner } = binding.scope;
-      for (let at = reference.within; at !== null && at !== owner; at = at.outer) at.captured.add(binding);
+      for (let at = within; at !== null && at !== owner; at = at.outer) at.captured.add(binding);
+      if (within !== owner) binding.isCaptured = true;
     }
-    for (const id of this.#selfs()) this.refuse(id, "a name that is also what a function expression calls itself");
+    for (const info of this.functions) this.#needsCells(info);
+  }
+
+  /** @param {Info} info of a function: what it captures can't be shown if that isn't known where it is made */
+  #needsCells(info) {
+    info.isOpaque = [...info.captured].some((binding) => !binding.isShownAt(info.start));
+    // In its braces such a name may mean something else.
+    const { body } = info.tree;
+    const inner = body.type === "BlockStatement" ? this.own.get(body)?.names : undefined;
+    const isOther = [...info.captured].some(({ name, scope }) => !scope.isVisibleAt(info.start) && inner?.has(name));
+    if (info.isOpaque || isOther) info.isHidden = true;
   }
 
   /** @param {Reference} reference to what the module doesn't bind */
@@ -360,14 +378,9 @@ export class Analysis {
     if (!NOT_CALLED.has(name) || isAllowedUse(this.source, name, start, end)) return;
     this.refuse({ start }, `\`${name}\` used in this way`);
   }
-
-  /** @returns {Tree[]} names of function expressions that something else in them shares */
-  #selfs() {
-    return [...this.own.values()].flatMap((scope) => {
-      const { tree } = scope;
-      if (scope.kind !== "function" || tree.type !== "FunctionExpression" || !tree.id) return [];
-      const isShared = tree.params.some((/** @type {Tree} */ one) => namesIn(one).includes(tree.id.name));
-      return isShared ? [tree.id] : [];
-    });
-  }
 }
+
+/** @param {Tree} tree @returns {boolean} whether it is `import.meta.url` */
+const isMetaUrl = ({ type, object, property, computed }) =>
+  type === "MemberExpression" && object.type === "MetaProperty" && object.meta.name === "import"
+  && (computed ? property.value : property.name) === "url";

@@ -52,7 +52,9 @@ export class CallSites {
     const info = this.#functionAt(offset);
     if (info === undefined) return unknown("code at the top level of a module");
     if (info.isHidden) return unknown("a generator, an async function, a constructor of a derived class or the like");
-    const isHidden = this.analysis.hidden.some(([from, to]) => from <= offset && offset < to);
+    // A place around all of a function is one of the function outside.
+    const isHidden = this.analysis.hidden.some(([from, to]) =>
+      from <= offset && offset < to && !(from <= info.start && info.end <= to));
     if (isHidden) return unknown("a place with values that aren't shown");
     if (info.usesSuper) return unknown("a method of an object in a function, with `super`");
     const { alive, isAccess, isKeyed } = this.#aliveAt(info, offset);

@@ -3,7 +3,7 @@
 import { positionOutsideComments } from "./comments.mjs";
 import { NAME_OF_KEY } from "./function-names.mjs";
 import { engineName, keyOfShorthand } from "./naming.mjs";
-import { isClass, isConstant, isMethod, isPattern, runsCode } from "./tree.mjs";
+import { childrenOf, isClass, isConstant, isMethod, isPattern, runsCode } from "./tree.mjs";
 
 /** @typedef {import("./tree.mjs").Tree} Tree */
 /** @typedef {import("./scopes.mjs").Info} Info */
@@ -20,8 +20,31 @@ const operands = (operandsOf) => (writer, tree, info) => {
 /** @param {CodeWriter} writer @param {number} from @param {number} to a place with values that aren't shown */
 const hide = ({ analysis }, from, to) => void analysis.hidden.push([from, to]);
 
-/** @type {Record<string, Write>} by the types of trees */
+/** @type {Write} */
+const nothing = () => {};
+
+/** @type {Write} what it has is evaluated, and nothing is kept for it meanwhile */
+const inside = (writer, tree, info) => writer.writeAll(childrenOf(tree), info);
+
+/** @type {Write} what such a pattern takes apart isn't shown */
+const asPattern = (writer, tree) => writer.writeAll(childrenOf(tree), null);
+
+/** @type {Record<string, Write>} by the kinds of trees */
 export const EXPRESSIONS = {
+  ArrayPattern: asPattern,
+  AssignmentPattern: asPattern,
+  ConditionalExpression: inside,
+  Identifier: nothing,
+  Literal: nothing,
+  LogicalExpression: inside,
+  MetaProperty: nothing,
+  ObjectPattern: asPattern,
+  PrivateIdentifier: nothing,
+  RestElement: asPattern,
+  SequenceExpression: inside,
+  Super: nothing,
+  ThisExpression: nothing,
+  UnaryExpression: inside,
   BinaryExpression: operands(({ left, right }) => (left.type === "PrivateIdentifier" ? [right] : [left, right])),
   ArrayExpression: operands(({ elements }) => elements),
   TemplateLiteral: (writer, { end, expressions }, info) => {
@@ -59,7 +82,7 @@ export const EXPRESSIONS = {
   CallExpression: writeCall,
   AssignmentExpression: writeAssignment,
   UpdateExpression: writeUpdate,
-  VariableDeclarator: (writer, { init }, info) => writer.write(init, info),
+  VariableDeclarator: (writer, { id, init }, info) => writer.writeAll([id, init], info),
 };
 
 /**
@@ -185,9 +208,8 @@ function writeAssignment(writer, tree, info) {
   if (isPattern(left)) {
     // What is taken apart is nowhere else.
     hide(writer, tree.start, tree.end);
-    writer.write(right, info);
-  }
-  else if (left.type === "Identifier") {
+    writer.writeAll([left, right], info);
+  } else if (left.type === "Identifier") {
     if (binary !== undefined && runsCode(right)) {
       const old = writer.room(info, left.end, tree.end);
       replaceOperator(writer, tree, `= (${old} = ${left.name}) ${binary} (`);

@@ -1,6 +1,6 @@
 // Which names of a function it can still read itself after an expression was evaluated: backward over its tree.
 
-import { childrenOf, isFunction, isMethod, namesIn } from "./tree.mjs";
+import { isFunction, isMethod, namesIn } from "./tree.mjs";
 
 /** @typedef {import("./tree.mjs").Tree} Tree */
 /** @typedef {import("./scopes.mjs").Binding} Binding */
@@ -34,50 +34,94 @@ function without(alive, bindings) {
   return less.size === alive.size ? alive : less;
 }
 
-/**
- * @type {Record<string, (live: Liveness, tree: Tree, out: Alive) => Alive>} what is alive before trees of some types
- */
-const BEFORE = {
-  Identifier: (live, tree, out) => live.read(tree, out),
-  ThisExpression: (live, tree, out) => live.read(tree, out),
-  Super: (live, tree, out) => live.read(tree, out),
-  MetaProperty: (live, tree, out) => live.read(tree, out),
-  MemberExpression: (live, { object, property, computed }, out) =>
-    live.all(computed ? [object, property] : [object], out),
-  Property: (live, { key, value, computed }, out) => live.all(computed ? [key, value] : [value], out),
-  ObjectExpression: (live, { properties }, out) => live.object(properties, out),
+/** @typedef {(live: Liveness, tree: Tree, out: Alive) => Alive} LiveBefore what is alive before a tree */
+
+/** @type {LiveBefore} */
+const nothing = (_live, _tree, out) => out;
+
+/** @type {LiveBefore} */
+const name = (live, tree, out) => live.read(tree, out);
+
+/** @param {(tree: Tree) => (Tree | null)[]} partsOf a tree, in the order of evaluation @returns {LiveBefore} */
+const inOrder = (partsOf) => (live, tree, out) => live.all(partsOf(tree), out);
+
+const ofArgument = inOrder(({ argument }) => [argument]);
+const ofExpression = inOrder(({ expression }) => [expression]);
+const ofSides = inOrder(({ left, right }) => [left, right]);
+const ofCall = inOrder(({ callee, arguments: given }) => [callee, ...given]);
+const ofMember = inOrder(({ computed, key, value }) => (computed ? [key, value] : [value]));
+
+/** @type {LiveBefore} its parts are evaluated in this order, except what its methods and fields do later */
+const ofClass = inOrder(({ superClass, body: { body } }) =>
+  [superClass, ...body.map((/** @type {Tree} */ { computed, key }) => (computed ? key : null))]);
+
+/** @type {LiveBefore} of a pattern that isn't gone over as one */
+const ofPattern = (live, tree, out) => live.pattern(tree, out);
+
+/** @type {Record<string, LiveBefore>} by the kinds of trees; one without a row is never evaluated */
+export const LIVE_BEFORE = {
+  ArrayExpression: inOrder(({ elements }) => elements),
+  ArrayPattern: ofPattern,
+  ArrowFunctionExpression: nothing,
   AssignmentExpression: (live, tree, out) => live.assignment(tree, out),
-  UpdateExpression: (live, { argument }, out) => live.before(argument, out),
-  LogicalExpression: (live, { left, right }, out) => live.before(left, union(out, live.before(right, out))),
-  ConditionalExpression: (live, tree, out) => live.choice(tree, out),
-  IfStatement: (live, tree, out) => live.choice(tree, out),
-  ChainExpression: (live, { expression }, out) => union(out, live.before(expression, out)),
-  VariableDeclaration: (live, { declarations, kind }, out) => live.declarations(declarations, kind, out),
+  AssignmentPattern: ofPattern,
+  AwaitExpression: ofArgument,
+  BinaryExpression: ofSides,
   BlockStatement: (live, tree, out) => live.outside(tree, live.all(tree.body, out)),
-  EmptyStatement: (_live, _tree, out) => out,
-  DebuggerStatement: (_live, _tree, out) => out,
-  ReturnStatement: (live, { argument }) => live.before(argument, live.caught),
-  ThrowStatement: (live, { argument }) => live.before(argument, live.caught),
   BreakStatement: (live, tree) => union(live.targetOf(tree, ["loop", "switch"]).out, live.caught),
+  CallExpression: ofCall,
+  ChainExpression: (live, { expression }, out) => union(out, live.before(expression, out)),
+  ClassDeclaration: ofClass,
+  ClassExpression: ofClass,
+  ConditionalExpression: (live, tree, out) => live.choice(tree, out),
   ContinueStatement: (live, tree) => union(live.targetOf(tree, ["loop"]).again, live.caught),
-  LabeledStatement: (live, tree, out) => live.labeled(tree, out),
-  WhileStatement: (live, { test, body }, out) => live.loop(out, (head, target) => {
-    target.again = head;
-    return live.before(test, union(out, live.before(body, head)));
-  }),
+  DebuggerStatement: nothing,
   DoWhileStatement: (live, { test, body }, out) => live.loop(out, (head, target) => {
     target.again = live.before(test, union(out, head));
     return live.before(body, target.again);
   }),
+  EmptyStatement: nothing,
+  ExpressionStatement: ofExpression,
+  ForInStatement: (live, tree, out) => live.each(tree, out),
+  ForOfStatement: (live, tree, out) => live.each(tree, out),
   ForStatement: (live, tree, out) => live.outside(tree, live.before(tree.init, live.loop(out, (head, target) => {
     target.again = live.before(tree.update, head);
     // A loop without a test is left by a jump, or by what is thrown.
     return live.before(tree.test, union(tree.test ? out : live.caught, live.before(tree.body, target.again)));
   }))),
-  ForOfStatement: (live, tree, out) => live.each(tree, out),
-  ForInStatement: (live, tree, out) => live.each(tree, out),
-  SwitchStatement: (live, tree, out) => live.switched(tree, out),
+  FunctionDeclaration: nothing,
+  FunctionExpression: nothing,
+  Identifier: name,
+  IfStatement: (live, tree, out) => live.choice(tree, out),
+  LabeledStatement: (live, tree, out) => live.labeled(tree, out),
+  Literal: nothing,
+  LogicalExpression: (live, { left, right }, out) => live.before(left, union(out, live.before(right, out))),
+  MemberExpression: inOrder(({ object, property, computed }) => (computed ? [object, property] : [object])),
+  MetaProperty: name,
+  NewExpression: ofCall,
+  ObjectExpression: (live, { properties }, out) => live.object(properties, out),
+  ObjectPattern: ofPattern,
+  PrivateIdentifier: nothing,
+  Property: ofMember,
+  RestElement: ofPattern,
+  ReturnStatement: (live, { argument }) => live.before(argument, live.caught),
+  SequenceExpression: inOrder(({ expressions }) => expressions),
+  SpreadElement: ofArgument,
+  Super: name,
+  SwitchStatement: (live, tree, out) => live.outside(tree, live.switched(tree, out)),
+  TaggedTemplateExpression: inOrder(({ tag, quasi }) => [tag, quasi]),
+  TemplateLiteral: inOrder(({ expressions }) => expressions),
+  ThisExpression: name,
+  ThrowStatement: (live, { argument }) => live.before(argument, live.caught),
   TryStatement: (live, tree, out) => live.tried(tree, out),
+  UnaryExpression: ofArgument,
+  UpdateExpression: ofArgument,
+  VariableDeclaration: (live, { declarations, kind }, out) => live.declarations(declarations, kind, out),
+  WhileStatement: (live, { test, body }, out) => live.loop(out, (head, target) => {
+    target.again = head;
+    return live.before(test, union(out, live.before(body, head)));
+  }),
+  YieldExpression: ofArgument,
 };
 
 class Liveness {
@@ -104,8 +148,9 @@ class Liveness {
     if (tree === null || tree === undefined || tree.type === "FunctionDeclaration") return out;
     if (isFunction(tree)) return union(out, this.#captured(tree));
     this.note(tree, out);
-    const find = BEFORE[tree.type];
-    const found = find === undefined ? this.all(childrenOf(tree), out) : find(this, tree, out);
+    const find = LIVE_BEFORE[tree.type];
+    if (find === undefined) this.analysis.refuse(tree, `a ${tree.type} in such a place`);
+    const found = find(this, tree, out);
     // A class may read what it captures when its objects are made.
     return /^Class/.test(tree.type) ? union(found, this.#captured(tree)) : found;
   }

@@ -1,12 +1,15 @@
 // How the engine names what it was to call, in the message of an error: a name that isn't a function is called only
 // after its arguments were evaluated.
 
+import { childrenOf } from "./tree.mjs";
+
 /** @typedef {import("./tree.mjs").Tree} Tree */
 
 const NAMELESS = () => "(intermediate value)";
 
-/** The names that rewritten code has. Modules that have one of them are refused. */
-export const OWN_NAMES = /\$(?:R|m|f|i|o|x|e\d+|default)\b/;
+/** The names that rewritten code has, in a text. Modules that have such a name are refused. */
+export const OWN_NAMES = /\$(?:R|m|f|i|o|x|[enk]\d+|default)\b/;
+const IS_OWN_NAME = new RegExp(`^${OWN_NAMES.source}$`);
 
 /** If something with this name isn't a function, the agent is refused: its own name isn't known. */
 const NOT_KNOWN = "$R";
@@ -32,6 +35,19 @@ const NAMES = {
   Super: NAMELESS,
   ThisExpression: () => "this",
 };
+
+/** @param {Tree} tree @returns {Tree | undefined} the first name in it that rewritten code has, too */
+export function ownNameIn(tree) {
+  if (tree.type === "Identifier" && IS_OWN_NAME.test(tree.name)) return tree;
+  // The names of members are no names of its own.
+  const isMember = /^(?:Member|Property|Method)/.test(tree.type) && !tree.computed;
+  const inner = childrenOf(tree).filter((one) => !isMember || (one !== tree.property && one !== tree.key));
+  for (const one of isMember && tree.shorthand ? [tree.value] : inner) {
+    const found = ownNameIn(one);
+    if (found !== undefined) return found;
+  }
+  return undefined;
+}
 
 /** @param {Tree} callee @returns {string} */
 export function engineName(callee) {

@@ -2,7 +2,6 @@
 
 import { Analysis } from "./analysis.mjs";
 import { DEFAULT, linked } from "./linked-modules.mjs";
-import { OWN_NAMES } from "./naming.mjs";
 import { CallSites } from "./call-sites.mjs";
 import { CodeWriter } from "./writer.mjs";
 
@@ -15,28 +14,34 @@ import { CodeWriter } from "./writer.mjs";
  * @property {(place: number) => string} lineOf the line and the column, in the module's text, of a place of the code
  */
 
+/** What the text of a rewritten function has before the function's number. */
+const ENTERS = "$R.enter(";
+
 /**
  * Rewrites a module.
  * @param {import("./module-text.mjs").ModuleText} text
- * @param {{ isAlone: boolean, isPlain?: boolean }} of the module: whether no other imports from it, and whether it only
- * becomes a function, with nothing that shows what it keeps
+ * @param {{ url: string, isAlone: boolean, isPlain?: boolean }} of the module: its URL, whether no other imports from it,
+ * and whether it only becomes a function, with nothing that shows what it keeps
  * @returns {Rewritten}
  * @throws {import("../../options/refused.mjs").Refused}
  */
-export function rewritten(text, { isAlone, isPlain = false }) {
+export function rewritten(text, { url, isAlone, isPlain = false }) {
   const analysis = new Analysis(text);
   const { tree, source } = text;
-  const start = source.search(OWN_NAMES);
-  if (start >= 0) analysis.refuse({ start }, "a name that the recorder uses here");
+  const start = source.indexOf(ENTERS);
+  if (start >= 0) analysis.refuse({ start }, `\`${ENTERS}\`, by which the recorder knows functions here`);
   const writer = new CodeWriter(analysis);
   const { edits } = writer;
   if (source.startsWith("#!")) edits.replace(0, 2, "//");
+  for (const one of analysis.metaUrls) edits.replace(one.start, one.end - one.start, JSON.stringify(url));
   const { imports, begins, exported } = linked(analysis, edits);
   const shows = isPlain ? "" : shownModule(analysis, isAlone ? new Set() : exported);
   edits.before(0, `(function ($R, $m) { "use strict"; ${shows} ${begins} `);
   if (!isPlain) {
-    writer.registerDeclared(0, tree.body);
-    writer.writeAll(tree.body, null);
+    writer.declaring(0, () => {
+      writer.registerDeclared(0, tree.body);
+      writer.writeAll(tree.body, null);
+    });
   }
   const { code, original } = edits.made();
   const places = new CallSites(analysis);

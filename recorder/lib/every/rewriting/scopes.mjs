@@ -5,7 +5,7 @@ import { childrenOf, isClass, isFunction, namesIn } from "./tree.mjs";
 /** @typedef {import("./tree.mjs").Tree} Tree */
 
 /**
- * @typedef {"module" | "function" | "block" | "catch" | "for" | "each"} ScopeKind
+ * @typedef {"module" | "function" | "class" | "block" | "catch" | "for" | "each" | "switch"} ScopeKind
  * @typedef {"let" | "const" | "var" | "function" | "class" | "import" | "param" | "catch" | "self" | "pseudo"}
  * BindingKind
  */
@@ -28,6 +28,17 @@ export class Binding {
     /** @type {Reference[]} */
     this.references = [];
     this.isAlwaysShown = false;
+    /** Whether it may get another value than the first. */
+    this.isAssigned = kind === "var";
+    /** Whether a function captures it. */
+    this.isCaptured = false;
+    /** @type {Binding | undefined} of a class's own name: the one outside, if that is the same unless it is assigned */
+    this.same = undefined;
+  }
+
+  /** @param {number} place @returns {boolean} whether a function that is made there can show what it is */
+  isShownAt(place) {
+    return this.scope.isVisibleAt(place) || !this.isAssigned;
   }
 
   /** Whether it is in what a scope shows: `this` and its like only if they are used. */
@@ -64,6 +75,10 @@ export class Info {
     this.isAccessor = false;
     /** Whether what it has can't be shown while it runs. */
     this.isHidden = false;
+    /** Whether what it captures can't be shown. */
+    this.isOpaque = false;
+    /** @type {Tree | undefined} the class or the object whose method it is */
+    this.holder = undefined;
     /** Whether it uses `super`, and there may be many of it, each of an object of its own. */
     this.usesSuper = false;
     /** @type {Map<Tree, Set<Binding>> | undefined} what is alive after each expression, when it was looked for */
@@ -93,6 +108,13 @@ export class Scope {
     this.names = new Map();
     this.start = tree.start;
     this.end = tree.end;
+    /** From which place of the text on there is what shows its names. */
+    this.visibleFrom = tree.start;
+  }
+
+  /** @param {number} place @returns {boolean} whether what shows its names is there */
+  isVisibleAt(place) {
+    return place >= this.visibleFrom;
   }
 
   /** @param {string} name @param {BindingKind} kind */
@@ -100,6 +122,7 @@ export class Scope {
     const known = this.names.get(name);
     if (known === undefined) this.names.set(name, new Binding(name, kind, this, this.names.size));
     else if (kind === "function") known.kind = kind;
+    else if (kind === "var") known.isAssigned = true;
   }
 
   /** @param {Tree | null} pattern @param {BindingKind} kind */

@@ -19,7 +19,9 @@ export class Edits {
 
   /** @param {number} at @param {string} text that goes before what begins there; outside of what is put there later */
   before(at, text) {
-    this.all.push({ at, removed: 0, text, side: BEFORE, order: this.all.length });
+    const edit = { at, removed: 0, text, side: BEFORE, order: this.all.length };
+    this.all.push(edit);
+    return edit;
   }
 
   /** @param {number} at @param {string} text that goes after what ends there; outside of what is put there later */

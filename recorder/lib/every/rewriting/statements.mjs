@@ -1,83 +1,149 @@
 // How statements are rewritten.
 
 import { positionOutsideComments } from "./comments.mjs";
-import { childrenOf, functionIn, isConstant, isFunction, runsCode } from "./tree.mjs";
+import { childrenOf, isConstant, isFunction, runsCode } from "./tree.mjs";
 
 /** @typedef {import("./tree.mjs").Tree} Tree */
 /** @typedef {import("./scopes.mjs").Info} Info */
 /** @typedef {import("./scopes.mjs").Scope} Scope */
 /** @typedef {import("./writer.mjs").CodeWriter} CodeWriter */
 /** @typedef {import("./writer.mjs").Write} Write */
+/** @typedef {import("./writer.mjs").WriteAnywhere} WriteAnywhere */
 
-/** @type {Record<string, Write>} by the types of trees */
-export const STATEMENTS = {
+/** @type {Record<string, WriteAnywhere>} statements with names: these are made visible where there is no frame, too */
+export const WITHOUT_FRAME = {
   BlockStatement: (writer, tree, info) => {
-    showNames(writer, tree, tree.start + 1);
-    writer.registerDeclared(tree.start + 1, tree.body);
-    writer.writeAll(tree.body, info);
+    showNames(writer, tree, info, tree.start + 1);
+    writer.declaring(tree.start + 1, () => {
+      writer.registerDeclared(tree.start + 1, tree.body);
+      writer.writeAll(tree.body, info);
+    });
   },
   CatchClause: (writer, tree, info) => {
-    showNames(writer, tree, tree.body.start + 1);
+    writer.write(tree.param, null);
+    showNames(writer, tree, info, tree.body.start + 1);
     writer.registerDeclared(tree.body.start + 1, tree.body.body);
     writer.writeAll(tree.body.body, info);
   },
-  SwitchStatement: (writer, tree, info) => {
-    const isAsked = tree.cases.some((/** @type {Tree} */ { test }) => test && runsCode(test));
-    if (isAsked && !isConstant(tree.discriminant)) writer.keep(info, tree.discriminant, tree.end);
-    writer.write(tree.discriminant, info);
-    for (const { test, consequent } of tree.cases) writer.writeAll([test, ...consequent], info);
-  },
-  LabeledStatement: (writer, tree, info) => writer.write(tree.body, info),
+  SwitchStatement: writeSwitch,
   ForStatement: writeFor,
   ForOfStatement: (writer, tree, info) => {
-    const room = writer.room(info, tree.right.end, tree.end);
-    writer.edits.before(tree.right.start, `$R.iterable($f, ${room.slice("$f.t[".length, -1)}, (`);
-    writer.edits.after(tree.right.end, "))");
+    if (info !== null) {
+      const room = writer.room(info, tree.right.end, tree.end);
+      writer.edits.before(tree.right.start, `$R.iterable($f, ${room.slice("$f.t[".length, -1)}, (`);
+      writer.edits.after(tree.right.end, "))");
+    }
     writeEach(writer, tree, info);
   },
   ForInStatement: writeEach,
-  TryStatement: writeTry,
 };
 
-/** @param {CodeWriter} writer @param {Tree} tree that has a scope @param {number} at where its names are there */
-function showNames(writer, tree, at) {
+/** @type {Write} */
+const nothing = () => {};
+
+/** @type {Write} what it has is evaluated, and nothing is kept for it meanwhile */
+const inside = (writer, tree, info) => writer.writeAll(childrenOf(tree), info);
+
+/** @type {Record<string, Write>} by the kinds of trees */
+export const STATEMENTS = {
+  ...WITHOUT_FRAME,
+  BreakStatement: nothing,
+  ContinueStatement: nothing,
+  DebuggerStatement: nothing,
+  DoWhileStatement: inside,
+  EmptyStatement: nothing,
+  ExpressionStatement: inside,
+  IfStatement: inside,
+  LabeledStatement: (writer, tree, info) => writer.write(tree.body, info),
+  ReturnStatement: inside,
+  ThrowStatement: inside,
+  TryStatement: writeTry,
+  VariableDeclaration: inside,
+  WhileStatement: inside,
+};
+
+/**
+ * @param {CodeWriter} writer
+ * @param {Tree} tree that has a scope
+ * @param {Info | null} info
+ * @param {number} at where its names are there
+ */
+function showNames(writer, tree, info, at) {
   const own = writer.analysis.own.get(tree);
-  if (own === undefined || own.shown().length === 0) return;
-  writer.edits.before(at, ` const $e${own.id} = ${writer.environment(own)};`);
+  if (own === undefined || !writer.isSeen(own, info)) return;
+  writer.edits.before(at, ` const $e${own.id} = ${writer.environment(own, info)};`);
 }
 
-/** @type {Write} */
+/** @type {WriteAnywhere} */
+function writeSwitch(writer, tree, info) {
+  const { discriminant, cases } = tree;
+  const isAsked = cases.some((/** @type {Tree} */ { test }) => test && runsCode(test));
+  const own = writer.analysis.own.get(tree);
+  if (own !== undefined && writer.isSeen(own, info)) showCases(writer, tree, own, info);
+  if (info !== null && isAsked && !isConstant(discriminant)) writer.keep(info, discriminant, tree.end);
+  writer.write(discriminant, info);
+  for (const { test, consequent } of cases) writer.writeAll([test, ...consequent], info);
+}
+
+/**
+ * All cases are one block. Its names are made visible by the test of a case that comes first, and is never taken.
+ * @param {CodeWriter} writer
+ * @param {Tree} tree a `switch`
+ * @param {Scope} own
+ * @param {Info | null} info
+ */
+function showCases(writer, { start, end, cases }, own, info) {
+  const declared = writer.declaredIn(cases.flatMap((/** @type {Tree} */ { consequent }) => consequent));
+  const shows = [`$e${own.id} = ${writer.environment(own, info)}`, ...declared, "0 / 0"];
+  writer.edits.before(start, `{ let $e${own.id}; `);
+  writer.edits.before(cases[0].start, `case (${shows.join(", ")}): `);
+  writer.edits.after(end, " }");
+}
+
+/** @type {WriteAnywhere} */
 function writeFor(writer, tree, info) {
-  const { analysis, edits, source } = writer;
-  const own = analysis.own.get(tree);
-  if (own !== undefined) {
-    const inner = functionIn(tree.init) ?? functionIn(tree.update) ?? functionIn(tree.test);
-    if (inner !== undefined) analysis.refuse(inner, "a function in the head of a `for`");
-    if (tree.init.kind === "const") analysis.refuse(tree.init, "a `const` in the head of a `for`");
-    edits.after(tree.init.declarations.at(-1).end, `, $e${own.id}`);
-    const shows = `$e${own.id} = ${writer.environment(own)}`;
-    if (tree.test) {
-      edits.before(tree.test.start, `(${shows}, (`);
-      edits.after(tree.test.end, "))");
-    } else edits.before(positionOutsideComments(source, ";", tree.init.end) + 1, ` (${shows}, true)`);
-    if (tree.update) edits.before(tree.update.start, `${shows}, `);
-  }
+  const own = writer.analysis.own.get(tree);
+  if (own !== undefined && writer.isSeen(own, info)) showHead(writer, tree, own, info);
   writer.writeAll([tree.init, tree.test, tree.update, tree.body], info);
 }
 
-/** @type {Write} */
+/**
+ * The names are made anew for each round: first for what they begin with, and then for the first test and for each
+ * update.
+ * @param {CodeWriter} writer
+ * @param {Tree} tree a `for` with names of its own
+ * @param {Scope} own
+ * @param {Info | null} info
+ */
+function showHead({ edits, environment, source }, { init, test, update }, own, info) {
+  const shows = `$e${own.id} = ${environment(own, info)}`;
+  const isFirst = `$n${own.id}`;
+  edits.before(init.declarations[0].start, `${shows}, ${init.kind === "let" && update ? `${isFirst} = true, ` : ""}`);
+  if (init.kind !== "let") return;
+  const begins = update ? `${isFirst} ? (${isFirst} = false, ${shows}) : 0` : shows;
+  if (test) {
+    edits.before(test.start, `(${begins}, (`);
+    edits.after(test.end, "))");
+  } else edits.before(positionOutsideComments(source, ";", init.end) + 1, ` (${begins}, true)`);
+  if (update) edits.before(update.start, `${shows}, `);
+}
+
+/** @type {WriteAnywhere} */
 function writeEach(writer, tree, info) {
   const { analysis, edits } = writer;
   const own = analysis.own.get(tree);
-  const isSimple = tree.left.type === "VariableDeclaration" || !runsCode(tree.left);
-  if (!isSimple) analysis.refuse(tree.left, "a loop into what a call returns");
-  if (own !== undefined && own.shown().length > 0) {
-    if (tree.body.type === "BlockStatement") showNames(writer, tree, tree.body.start + 1);
+  // What an element is put into is evaluated when that is there, which isn't shown.
+  if (tree.left.type !== "VariableDeclaration" && runsCode(tree.left)) {
+    analysis.hidden.push([tree.left.start, tree.left.end]);
+  }
+  if (own !== undefined && writer.isSeen(own, info)) {
+    if (tree.body.type === "BlockStatement") showNames(writer, tree, info, tree.body.start + 1);
     else {
-      edits.before(tree.body.start, `{ const $e${own.id} = ${writer.environment(own)};`);
+      edits.before(tree.body.start, `{ const $e${own.id} = ${writer.environment(own, info)};`);
       edits.after(tree.body.end, "}");
     }
   }
+  writer.write(tree.left, null);
   writer.writeAll([tree.right, tree.body], info);
 }
 

@@ -7,9 +7,6 @@ export const isFunction = ({ type }) =>
   type === "FunctionDeclaration" || type === "FunctionExpression" || type === "ArrowFunctionExpression";
 
 /** @param {Tree} tree @returns {boolean} */
-export const isLoop = ({ type }) => /^(?:For|While|DoWhile)/.test(type);
-
-/** @param {Tree} tree @returns {boolean} */
 export const isClass = ({ type }) => type === "ClassDeclaration" || type === "ClassExpression";
 
 /** @param {Tree} tree @returns {boolean} */
@@ -48,15 +45,11 @@ export function isConstant({ type, argument, expressions }) {
   return type === "Literal" || type === "Super" || (type === "TemplateLiteral" && expressions.length === 0);
 }
 
-/** @param {Tree | null | undefined} tree @returns {Tree | undefined} the first function in it */
-export function functionIn(tree) {
-  if (tree === null || tree === undefined) return undefined;
-  if (isFunction(tree)) return tree;
-  for (const child of childrenOf(tree)) {
-    const found = functionIn(child);
-    if (found !== undefined) return found;
-  }
-  return undefined;
+/** @param {Tree | null} pattern @returns {boolean} whether expressions are evaluated when it gets its values */
+export function hasExpressions(pattern) {
+  if (pattern === null || pattern.type === "Identifier") return false;
+  if (pattern.type === "AssignmentPattern" || pattern.computed) return true;
+  return childrenOf(pattern).some(hasExpressions);
 }
 
 /** @param {Tree | null} pattern @returns {string[]} the names that it declares */

@@ -1,81 +1,134 @@
-// What is done with trees of some types when a module is gone over.
+// What is done with each kind of tree when a module is gone over. A kind without a row here is refused.
+
+import { visitClass } from "./class-visits.mjs";
+import { childrenOf } from "./tree.mjs";
 
 /** @typedef {import("./tree.mjs").Tree} Tree */
-/** @typedef {import("./scopes.mjs").Info} Info */
-/** @typedef {import("./scopes.mjs").Scope} Scope */
+/** @typedef {import("./analysis.mjs").Analysis} Analysis */
+/** @typedef {import("./analysis.mjs").EnclosingScope} EnclosingScope */
 
-/**
- * @typedef {object} Visitor what goes over the module
- * @property {{ (tree: Tree, what: string): never }} refuse
- * @property {{ (name: string, tree: Tree, here: EnclosingScope, reads: boolean): void }} refer
- * @property {{ (within: Info | null): void }} hide
- * @property {{ (member: Tree): void }} noteAccessor
- * @property {{ (tree: Tree | null | undefined, here: EnclosingScope): void }} visit
- * @property {{ (trees: (Tree | null)[], here: EnclosingScope): void }} visitAll
- * @property {{ (tree: Tree, here: EnclosingScope): void }} visitSuper as those below
- * @property {{ (tree: Tree, here: EnclosingScope): void }} visitAssignment
- * @property {{ (tree: Tree, here: EnclosingScope): void }} visitBlock
- * @property {{ (tree: Tree, here: EnclosingScope): void }} visitCatch
- * @property {{ (tree: Tree, here: EnclosingScope): void }} visitDeclarator
- * @property {{ (tree: Tree, here: EnclosingScope): void }} visitExport
- * @property {{ (tree: Tree, here: EnclosingScope): void }} visitMember
- * @property {{ (tree: Tree, here: EnclosingScope): void }} visitSwitch
- * @property {{ (tree: Tree, here: EnclosingScope): void }} visitUpdate
- * @property {boolean} hasTags
- * @property {Tree[]} imports
- * @property {Set<number>} shorthand
- * @property {Set<Tree>} unused
- */
+/** @typedef {(one: Analysis, tree: Tree, here: EnclosingScope) => void} Visit */
 
-/** @typedef {import("./analysis.mjs").EnclosingScope} EnclosingScope where something is */
+/** @type {Record<string, string>} the kinds that are always refused, with what is said of them */
+export const REFUSED_KINDS = {
+  WithStatement: "`with`",
+  ImportExpression: "an import while it runs",
+  ParenthesizedExpression: "parentheses as trees of their own",
+};
 
-/** @type {Record<string, (one: Visitor, tree: Tree, here: EnclosingScope) => void>} by the types */
+/** @type {Visit} */
+const visitInside = (one, tree, here) => one.visitAll(childrenOf(tree), here);
+
+/** @type {Visit} */
+const visitNothing = () => {};
+
+/** @type {Visit} of what is gone over with the tree around it */
+const visitElsewhere = (one, tree) => one.refuse(tree, `a ${tree.type} in such a place`);
+
+/** @type {Visit} */
+const visitFunction = (one, tree, here) => one.visitFunction(tree, here);
+
+/** @type {Visit} */
+const visitLoop = (one, tree, here) => one.visitLoop(tree, here);
+
+/** @type {Visit} */
+const visitPattern = (one, tree, here) => one.visitPattern(tree, here, false);
+
+/** @type {Visit} */
+const visitRefused = (one, tree) => one.refuse(tree, REFUSED_KINDS[tree.type]);
+
+/** @type {Record<string, Visit>} by the kinds */
 export const VISITS = {
-  Identifier: (one, tree, here) => one.refer(tree.name, tree, here, true),
-  ThisExpression: (one, tree, here) => one.refer("this", tree, here, true),
-  Super: (one, tree, here) => one.visitSuper(tree, here),
-  MetaProperty: (one, tree, here) => {
-    if (tree.meta.name !== "new") one.refuse(tree, "`import.meta`");
-    one.refer("new.target", tree, here, true);
-  },
-  TaggedTemplateExpression: (one, tree, here) => {
-    one.hasTags = true;
-    one.visitAll([tree.tag, tree.quasi], here);
-  },
-  VariableDeclaration: (one, tree, here) => {
-    if (!["var", "let", "const"].includes(tree.kind)) one.refuse(tree, `\`${tree.kind}\``);
-    one.visitAll(tree.declarations, here);
-  },
-  WithStatement: (one, tree) => one.refuse(tree, "`with`"),
-  ImportExpression: (one, tree) => one.refuse(tree, "an import while it runs"),
-  AwaitExpression: (one, tree, { within }) => {
-    if (within === null) one.refuse(tree, "`await` at the top level");
-    one.hide(within);
-  },
-  MemberExpression: (one, tree, here) => one.visitMember(tree, here),
-  Property: (one, tree, here) => {
-    if (tree.shorthand) one.shorthand.add(tree.value.start);
-    one.visitAll([tree.computed ? tree.key : null, tree.value], here);
-    one.noteAccessor(tree);
-  },
-  LabeledStatement: (one, tree, here) => one.visit(tree.body, here),
-  BreakStatement: () => {},
-  ContinueStatement: () => {},
-  ImportDeclaration: (one, tree, { scope }) => {
-    one.imports.push(tree);
-    for (const { local } of tree.specifiers) scope.declare(local.name, "import");
-  },
-  ExportAllDeclaration: (one, tree) => void one.imports.push(tree),
-  ExportNamedDeclaration: (one, tree, here) => one.visitExport(tree, here),
-  BlockStatement: (one, tree, here) => one.visitBlock(tree, here),
-  StaticBlock: (one, tree) => one.refuse(tree, "a static block"),
-  CatchClause: (one, tree, here) => one.visitCatch(tree, here),
-  SwitchStatement: (one, tree, here) => one.visitSwitch(tree, here),
-  VariableDeclarator: (one, tree, here) => one.visitDeclarator(tree, here),
+  ArrayExpression: visitInside,
+  ArrayPattern: visitPattern,
+  ArrowFunctionExpression: visitFunction,
   AssignmentExpression: (one, tree, here) => one.visitAssignment(tree, here),
-  UpdateExpression: (one, tree, here) => one.visitUpdate(tree, here),
+  AssignmentPattern: visitPattern,
+  AwaitExpression: (one, tree, here) => {
+    if (here.within === null) one.refuse(tree, "`await` at the top level");
+    one.hide(here.within);
+    one.visit(tree.argument, here);
+  },
+  BinaryExpression: visitInside,
+  BlockStatement: (one, tree, here) => one.visitBlock(tree, here),
+  BreakStatement: visitNothing,
+  CallExpression: visitInside,
+  CatchClause: (one, tree, here) => one.visitCatch(tree, here),
+  ChainExpression: visitInside,
+  ClassBody: visitElsewhere,
+  ClassDeclaration: visitClass,
+  ClassExpression: visitClass,
+  ConditionalExpression: visitInside,
+  ContinueStatement: visitNothing,
+  DebuggerStatement: visitNothing,
+  DoWhileStatement: visitLoop,
+  EmptyStatement: visitNothing,
+  ExportAllDeclaration: (one, tree) => void one.imports.push(tree),
+  ExportDefaultDeclaration: visitInside,
+  ExportNamedDeclaration: (one, tree, here) => one.visitExport(tree, here),
   ExpressionStatement: (one, tree, here) => {
     one.unused.add(tree.expression);
     one.visit(tree.expression, here);
   },
+  ForInStatement: visitLoop,
+  ForOfStatement: visitLoop,
+  ForStatement: visitLoop,
+  FunctionDeclaration: visitFunction,
+  FunctionExpression: visitFunction,
+  Identifier: (one, tree, here) => one.refer(tree.name, tree, here, true),
+  IfStatement: visitInside,
+  ImportAttribute: visitElsewhere,
+  ImportDeclaration: (one, tree, { scope }) => {
+    one.imports.push(tree);
+    for (const { local } of tree.specifiers) scope.declare(local.name, "import");
+  },
+  ImportDefaultSpecifier: visitElsewhere,
+  ImportNamespaceSpecifier: visitElsewhere,
+  ImportSpecifier: visitElsewhere,
+  LabeledStatement: (one, tree, here) => one.visit(tree.body, here),
+  Literal: visitNothing,
+  LogicalExpression: visitInside,
+  MemberExpression: (one, tree, here) => one.visitMember(tree, here),
+  MetaProperty: (one, tree, here) => {
+    if (tree.meta.name !== "new") one.refuse(tree, "`import.meta`, except `import.meta.url` where it is read");
+    one.refer("new.target", tree, here, true);
+  },
+  MethodDefinition: visitElsewhere,
+  NewExpression: visitInside,
+  ObjectExpression: (one, tree, here) => one.visitObject(tree, here),
+  ObjectPattern: visitPattern,
+  PrivateIdentifier: visitNothing,
+  Program: visitElsewhere,
+  Property: visitElsewhere,
+  PropertyDefinition: visitElsewhere,
+  RestElement: visitPattern,
+  ReturnStatement: visitInside,
+  SequenceExpression: visitInside,
+  SpreadElement: visitInside,
+  StaticBlock: visitElsewhere,
+  Super: (one, tree, here) => one.visitSuper(tree, here),
+  SwitchCase: visitElsewhere,
+  SwitchStatement: (one, tree, here) => one.visitSwitch(tree, here),
+  TaggedTemplateExpression: (one, tree, here) => {
+    one.hasTags = true;
+    one.visitAll([tree.tag, tree.quasi], here);
+  },
+  TemplateElement: visitNothing,
+  TemplateLiteral: visitInside,
+  ThisExpression: (one, tree, here) => one.refer("this", tree, here, true),
+  ThrowStatement: visitInside,
+  TryStatement: visitInside,
+  UnaryExpression: (one, tree, here) => {
+    if (tree.operator === "delete") one.needsNoMeta(tree.argument);
+    one.visit(tree.argument, here);
+  },
+  UpdateExpression: (one, tree, here) => one.visitUpdate(tree, here),
+  VariableDeclaration: (one, tree, here) => {
+    if (!["var", "let", "const"].includes(tree.kind)) one.refuse(tree, `\`${tree.kind}\``);
+    one.visitAll(tree.declarations, here);
+  },
+  VariableDeclarator: (one, tree, here) => one.visitDeclarator(tree, here),
+  WhileStatement: visitLoop,
+  YieldExpression: visitInside,
+  ...Object.fromEntries(Object.keys(REFUSED_KINDS).map((kind) => [kind, visitRefused])),
 };

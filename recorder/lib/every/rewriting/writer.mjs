@@ -2,21 +2,25 @@
 // frame with the cells of its names, and what the engine would keep on its stack is kept in the frame. The order in
 // which things are evaluated stays.
 
+import { writeClass, writeMethods } from "./class-writer.mjs";
 import { positionOutsideComments } from "./comments.mjs";
 import { Edits } from "./source-edits.mjs";
 import { EXPRESSIONS } from "./expressions.mjs";
 import { NAME_OF_KEY, givingName, namesOfFunctions } from "./function-names.mjs";
-import { newId } from "./scopes.mjs";
-import { STATEMENTS } from "./statements.mjs";
-import { childrenOf, functionIn, isClass, isConstant, isFunction, isMethod, runsCode } from "./tree.mjs";
+import { STATEMENTS, WITHOUT_FRAME } from "./statements.mjs";
+import { childrenOf, isClass, isConstant, isFunction, isMethod, runsCode } from "./tree.mjs";
 
 /** @typedef {import("./tree.mjs").Tree} Tree */
 /** @typedef {import("./scopes.mjs").Info} Info */
 /** @typedef {import("./scopes.mjs").Scope} Scope */
 
 /** @typedef {(writer: CodeWriter, tree: Tree, info: Info) => void} Write writes a tree, with all that is in it */
+/** @typedef {(writer: CodeWriter, tree: Tree, info: Info | null) => void} WriteAnywhere also without a frame */
 
 const LEAVES = "} finally { $R.leave($f); }";
+
+/** @type {Record<string, Write>} by the kinds of trees; none of the others is in a function that has a frame */
+export const WRITES = { ...EXPRESSIONS, ...STATEMENTS };
 
 export class CodeWriter {
   /** @param {import("./analysis.mjs").Analysis} analysis */
@@ -26,25 +30,38 @@ export class CodeWriter {
     this.edits = new Edits(analysis.source);
     this.names = namesOfFunctions(analysis.tree);
     this.temporaries = 0;
+    this.variables = 0;
+    /**
+     * Where variables can be declared for the code that is written now.
+     * @type {import("./source-edits.mjs").SourceEdit | undefined}
+     */
+    this.declared = undefined;
   }
 
   /**
    * @param {Tree | null | undefined} tree
-   * @param {Info | null} info of the function in which it is; null: at the top level
+   * @param {Info | null} info of the function in which it is; null: there is no frame, so no value is kept
    * @param {boolean} [isMethodsValue] whether it is the function of a method
    */
   write(tree, info, isMethodsValue = false) {
     if (tree === null || tree === undefined) return;
     if (tree.type === "ObjectExpression") this.#noteKeys(tree);
     if (isFunction(tree)) this.#writeFunction(tree, isMethodsValue);
-    else if (isClass(tree)) this.#writeClass(tree, info);
-    else if (tree.type === "ObjectExpression" && tree.properties.some(isMethod)) this.#writeMethods(tree, info);
-    else if (info === null) this.writeAll(childrenOf(tree), info);
+    else if (isClass(tree)) writeClass(this, tree, info);
+    else if (tree.type === "ObjectExpression" && tree.properties.some(isMethod)) writeMethods(this, tree, info);
+    else if (info === null) this.#writeWithoutFrame(tree);
     else {
-      const write = EXPRESSIONS[tree.type] ?? STATEMENTS[tree.type];
-      if (write === undefined) this.writeAll(childrenOf(tree), info);
-      else write(this, tree, info);
+      const write = WRITES[tree.type];
+      if (write === undefined) this.analysis.refuse(tree, `a ${tree.type} in such a place`);
+      write(this, tree, info);
     }
+  }
+
+  /** @param {Tree} tree */
+  #writeWithoutFrame(tree) {
+    const write = WITHOUT_FRAME[tree.type];
+    if (write === undefined) this.writeAll(childrenOf(tree), null);
+    else write(this, tree, null);
   }
 
   /** @param {(Tree | null)[]} trees @param {Info | null} info */
@@ -52,16 +69,10 @@ export class CodeWriter {
     for (const tree of trees) this.write(tree, info);
   }
 
-  /** @param {Tree} tree whose inside can't be shown: nothing may be made in it that lasts */
+  /** @param {Tree} tree whose inside can't be shown */
   hide(tree) {
     this.analysis.hidden.push([tree.start, tree.end]);
-    this.needsNoFunction(tree);
-  }
-
-  /** @param {Tree} tree */
-  needsNoFunction(tree) {
-    const inner = functionIn(tree);
-    if (inner !== undefined) this.analysis.refuse(inner, "a function within a place that can't be shown");
+    this.writeAll(childrenOf(tree), null);
   }
 
   /**
@@ -142,30 +153,69 @@ export class CodeWriter {
     return scope.kind === "module" && isConstant && references.every(({ reads }) => reads);
   }
 
-  /** @param {Scope} scope @returns {string} what makes its names visible */
-  environment(scope) {
+  /** @param {Scope} scope @param {Info | null} info @returns {string} what makes its names visible */
+  environment(scope, info) {
     const names = scope.shown().map(({ index, name }) => `$i === ${index} ? ${name} : `);
-    return `$f.e[${scope.id}] = $R.environment(($i) => ${names.join("")}undefined)`;
+    const made = `$R.environment(($i) => ${names.join("")}undefined)`;
+    return info === null ? made : `$f.e[${scope.id}] = ${made}`;
+  }
+
+  /** @param {Scope | undefined} scope @param {Info | null} info @returns {boolean} whether its names have to be visible */
+  isSeen(scope, info) {
+    const shown = scope?.shown() ?? [];
+    return info === null ? shown.some(({ isCaptured }) => isCaptured) : shown.length > 0;
   }
 
   /** @param {Info} info @returns {string} the cells of what it captures */
-  cells(info) {
-    if (info.outer === null) return "null";
-    return `[${[...info.captured].map(({ scope, index }) => `[$e${scope.id}, ${index}]`).join(", ")}]`;
+  cells({ captured, isOpaque, start }) {
+    if (captured.size === 0 || isOpaque) return "null";
+    return `[${[...captured].map((one) => cellOf(one, start)).join(", ")}]`;
+  }
+
+  /**
+   * @param {Info} info of a function
+   * @param {boolean} [isOfKey] whether its name is that of a key
+   * @returns {[string, string]} what stands around it, and makes it known
+   */
+  registering(info, isOfKey = false) {
+    const isHidden = info.usesSuper || info.isOpaque;
+    const more = isHidden || isOfKey ? `, ${isHidden}${isOfKey ? ", true" : ""}` : "";
+    return [`$R.fn(${info.id}, ${this.cells(info)}, `, `${more})`];
   }
 
   /**
    * The functions that a block declares are there from its beginning.
-   * @param {number} at
    * @param {Tree[]} statements
+   * @returns {string[]} expressions that make them known
    */
-  registerDeclared(at, statements) {
-    for (const statement of statements) {
+  declaredIn(statements) {
+    return statements.flatMap((statement) => {
       const tree = /^Export/.test(statement.type) ? statement.declaration : statement;
-      if (tree?.type !== "FunctionDeclaration" || !tree.id) continue;
-      const info = this.infoOf(tree);
-      this.edits.before(at, `$R.fn(${info.id}, ${this.cells(info)}, ${tree.id.name});`);
-    }
+      const isNamed = tree?.type === "FunctionDeclaration" && tree.id;
+      return isNamed ? [this.registering(this.infoOf(tree)).join(tree.id.name)] : [];
+    });
+  }
+
+  /** @param {number} at the beginning of a block @param {Tree[]} statements */
+  registerDeclared(at, statements) {
+    for (const registers of this.declaredIn(statements)) this.edits.before(at, `${registers};`);
+  }
+
+  /** @param {number} at where variables can be declared @param {() => void} write writes the code that has them */
+  declaring(at, write) {
+    const { declared } = this;
+    this.declared = this.edits.before(at, "");
+    write();
+    this.declared = declared;
+  }
+
+  /** @returns {string | undefined} a variable of the code that is written now, if that can have one */
+  variable() {
+    if (this.declared === undefined) return undefined;
+    const name = `$k${this.variables}`;
+    this.variables += 1;
+    this.declared.text += ` let ${name};`;
+    return name;
   }
 
   /** @param {Tree} tree a function, or a class @returns {Info} */
@@ -186,77 +236,45 @@ export class CodeWriter {
 
   /** @param {Tree} tree @param {boolean} isMethodsValue */
   #writeFunction(tree, isMethodsValue) {
-    const { analysis, edits } = this;
+    const { edits } = this;
     const info = this.infoOf(tree);
     const isStatement = tree.type === "FunctionDeclaration" && tree.id;
     if (!isStatement && !isMethodsValue) {
       const name = this.names.get(tree);
       const [before, after] = givingName(name);
-      edits.before(tree.start, `$R.fn(${info.id}, ${this.cells(info)}, ${before}`);
-      edits.after(tree.end, `${after}, ${info.usesSuper}${name === NAME_OF_KEY ? ", true" : ""})`);
+      const [begins, ends] = this.registering(info, name === NAME_OF_KEY);
+      edits.before(tree.start, begins + before);
+      edits.after(tree.end, after + ends);
     }
-    if (info.isHidden) {
-      childrenOf(tree).forEach((child) => this.needsNoFunction(child));
-      return;
-    }
-    const own = /** @type {Scope} */ (analysis.own.get(tree));
-    const shows = `const $e${own.id} = ${this.environment(own)};`;
-    const enters = `const $f = $R.enter(${info.id}, ${this.cells(info)}); try { ${shows}`;
+    this.withoutVariables(() => this.writeAll(tree.params, null));
+    const frame = info.isHidden ? null : info;
+    // The number in the comment is found in the function's text.
+    const enters = `const $f = $R.enter(${info.id}, ${this.cells(info)}); try {`;
+    const begins = `${frame ? enters : `/*$R.enter(${info.id},*/`}${this.#environmentsOf(tree, frame)}`;
     if (tree.body.type === "BlockStatement") {
-      edits.before(tree.body.start + 1, enters);
-      this.registerDeclared(tree.body.start + 1, tree.body.body);
-      this.atEnd(tree.body, LEAVES);
-      this.writeAll(tree.body.body, info);
+      edits.before(tree.body.start + 1, begins);
+      this.declaring(tree.body.start + 1, () => {
+        this.registerDeclared(tree.body.start + 1, tree.body.body);
+        if (frame) this.atEnd(tree.body, LEAVES);
+        this.writeAll(tree.body.body, frame);
+      });
     } else {
       const arrow = positionOutsideComments(this.source, "=>", tree.params.at(-1)?.end ?? tree.start) + 2;
-      edits.before(arrow, `{ ${enters} return (`);
-      edits.after(tree.end, `); ${LEAVES} }`);
-      this.write(tree.body, info);
+      edits.before(arrow, `{ ${begins}`);
+      this.declaring(arrow, () => {
+        edits.before(arrow, " return (");
+        edits.after(tree.end, `); ${frame ? LEAVES : ""} }`);
+        this.write(tree.body, frame);
+      });
     }
   }
 
-  /** @param {Tree} tree @param {Info | null} info */
-  #writeClass(tree, info) {
-    const { body: { body, start }, superClass } = tree;
-    this.write(superClass, info);
-    const shown = `${readerOf(body)}, ${this.#methodsOf(body)}, ${this.#cellsOfClass(tree, info)}`;
-    this.edits.before(start + 1, `static { $R.cls(${newId()}, this, ${shown}); }`);
-    for (const member of body) {
-      if (member.computed) this.write(member.key, info);
-      if (member.type === "MethodDefinition") this.write(member.value, info, true);
-    }
-  }
-
-  /** @param {Tree} tree a class @param {Info | null} info @returns {string} the cells of what it captures itself */
-  #cellsOfClass(tree, info) {
-    if (info === null) return "null";
-    const made = tree.body.body.filter((/** @type {Tree} */ { kind }) => kind === "constructor");
-    const makers = [tree, ...made.map((/** @type {Tree} */ { value }) => value)];
-    const captured = new Set(makers.flatMap((one) => [...this.infoOf(one).captured]));
-    return `[${[...captured].map(({ scope, index }) => `[$e${scope.id}, ${index}]`).join(", ")}]`;
-  }
-
-  /**
-   * The methods of a class or of an object, with what they capture. One whose name may be any isn't among them: such a
-   * function can't be shown.
-   * @param {Tree[]} members
-   */
-  #methodsOf(members) {
-    const last = members.map((one) => nameOf(one) === undefined).lastIndexOf(true);
-    const rows = members.flatMap((one, at) => {
-      const name = nameOf(one);
-      const isNamed = (one.type === "MethodDefinition" || isMethod(one)) && one.kind !== "constructor";
-      if (!isNamed || name === undefined || one.key.type === "PrivateIdentifier") return [];
-      const info = this.infoOf(one.value);
-      // Another member may have the same name: the function is known by its text then.
-      const others = members.filter((other) => other !== one && nameOf(other) === name && other.kind !== pairOf(one));
-      const isSure = others.length === 0 && at > last;
-      if (!isSure && info.isHidden) return [];
-      const kind = one.kind === "get" || one.kind === "set" ? one.kind : "value";
-      const more = `${one.static ? ", isStatic: true" : ""}${isSure ? "" : `, enters: ${info.id}`}`;
-      return [`{ kind: "${kind}", key: ${name}, cells: ${this.cells(info)}, usesSuper: ${info.usesSuper}${more} }`];
-    });
-    return `[${rows.join(", ")}]`;
+  /** @param {Tree} tree a function @param {Info | null} frame @returns {string} what makes its names visible */
+  #environmentsOf(tree, frame) {
+    const { own } = this.analysis;
+    const scopes = [own.get(tree), tree.body.type === "BlockStatement" ? own.get(tree.body) : undefined];
+    return scopes.map((scope) => (scope && (frame || this.isSeen(scope, frame))
+      ? ` const $e${scope.id} = ${this.environment(scope, frame)};` : "")).join("");
   }
 
   /** @param {Tree} tree an object of whose keys functions get their names */
@@ -268,40 +286,16 @@ export class CodeWriter {
     }
   }
 
-  /** @param {Tree} tree an object with methods @param {Info | null} info */
-  #writeMethods(tree, info) {
-    this.edits.before(tree.start, `$R.obj(${newId()}, (`);
-    this.edits.after(tree.end, `), ${this.#methodsOf(tree.properties)})`);
-    if (info !== null) EXPRESSIONS.ObjectExpression(this, tree, info);
-    else {
-      for (const one of tree.properties) {
-        if (one.computed) this.write(one.key, info);
-        this.write(one.value ?? one.argument, info, isMethod(one));
-      }
-    }
+  /** @param {() => void} write writes code that can't have variables of its own */
+  withoutVariables(write) {
+    const { declared } = this;
+    this.declared = undefined;
+    write();
+    this.declared = declared;
   }
 }
 
-/** @param {Tree} one a member @returns {string} the kind of the other function that its property may have */
-const pairOf = ({ kind }) => (kind === "get" ? "set" : kind === "set" ? "get" : "none");
-
-/** @param {Tree} member @returns {string | undefined} its name as an expression; undefined: that may be any */
-function nameOf({ computed, key, type }) {
-  if (type === "SpreadElement" || type === "StaticBlock") return undefined;
-  if (key.type === "Literal") return JSON.stringify(String(key.value));
-  if (!computed) return JSON.stringify(key.type === "PrivateIdentifier" ? `#${key.name}` : key.name);
-  const isWellKnown = key.type === "MemberExpression" && !key.computed && key.object.name === "Symbol"
-    && typeof (/** @type {any} */ (Symbol)[key.property.name]) === "symbol";
-  return isWellKnown ? `Symbol.${key.property.name}` : undefined;
-}
-
-/** @param {Tree[]} body of a class @returns {string} what shows an object's private members, if there are any */
-function readerOf(body) {
-  const names = new Map(body.flatMap(({ type, key }) =>
-    (key?.type === "PrivateIdentifier" ? [/** @type {[string, string]} */ ([key.name, type])] : [])));
-  if (names.size === 0) return "null";
-  const has = [...names.keys()].map((name) => `#${name} in $o`);
-  const read = [...names].map(([name, type], at) =>
-    (type === "PropertyDefinition" ? `${has[at]}, ${has[at]} ? $o.#${name} : 0` : has[at]));
-  return `($o) => ${has.join(" || ")} ? [${read.join(", ")}] : null`;
+/** @param {import("./scopes.mjs").Binding} binding @param {number} place @returns {string} what shows it there */
+function cellOf({ index, name, scope }, place) {
+  return scope.isVisibleAt(place) ? `[$e${scope.id}, ${index}]` : `[$R.environment(() => ${name}), 0]`;
 }

@@ -6,12 +6,17 @@ import { methodOf, replace } from "../../agent/ordinary/patch.mjs";
 import { apply, construct, getOwnPropertyDescriptor, isObject, ownKeys, proxyOf, put } from "../../primordials.mjs";
 
 const { toString: textOf } = Function.prototype;
-const ENTERS = /\$R\.enter\((\d+),/;
+const ENTERS = /\$R\.enter\((\d+),/g;
 
-/** @param {unknown} fn @returns {number | undefined} the number of this function of the modules */
+/**
+ * Functions in a function have greater numbers, and may come first in its text.
+ * @param {unknown} fn
+ * @returns {number | undefined} the number of this function of the modules
+ */
 export function numberOf(fn) {
-  const found = typeof fn === "function" ? ENTERS.exec(apply(textOf, fn, [])) : null;
-  return found === null ? undefined : Number(found[1]);
+  if (typeof fn !== "function") return undefined;
+  const found = [...apply(textOf, fn, []).matchAll(ENTERS)].map(([, number]) => Number(number));
+  return found.length === 0 ? undefined : Math.min(...found);
 }
 
 export class Installed {

@@ -13,6 +13,7 @@ import { shownIteratorOf } from "./shown-iterators.mjs";
  * @property {string} id which one it is
  * @property {CapturedCell[] | null} cells what it captures
  * @property {object} [home] the object whose method it is, if its code uses `super`
+ * @property {unknown[]} [keys] of a class: the names of fields that were computed
  * @property {boolean} [isHidden] whether it keeps something that can't be shown
  */
 
@@ -20,7 +21,7 @@ import { shownIteratorOf } from "./shown-iterators.mjs";
  * @typedef {object} Method of a class or of an object, as it is written
  * @property {boolean} [isStatic]
  * @property {"value" | "get" | "set"} kind
- * @property {string | symbol} key
+ * @property {string | symbol} [key] undefined: it may be any
  * @property {CapturedCell[] | null} cells
  * @property {boolean} usesSuper
  * @property {number} [enters] the number of its function, if another member may have put another one there
@@ -97,6 +98,11 @@ export class Runtime {
     if (!this.functions.has(fn)) this.functions.set(fn, made);
   }
 
+  /** @param {object} home of methods with `super`, which can be read by them only */
+  #showAlways(home) {
+    this.modules.push({ environment: new Environment(() => home), indexes: [0] });
+  }
+
   /**
    * @param {object} holder of methods
    * @param {string} id
@@ -104,10 +110,12 @@ export class Runtime {
    */
   #registerMethods(holder, id, methods) {
     for (const { cells, enters, isStatic = false, key, kind, usesSuper } of methods) {
-      const fn = Reflect.getOwnPropertyDescriptor(holder, key)?.[kind];
-      if (enters !== undefined && numberOf(fn) !== enters) continue;
-      const name = `${id} ${isStatic ? "s" : "p"} ${kind} ${String(key)}`;
-      this.#register(fn, { id: name, cells, home: usesSuper ? holder : undefined });
+      const home = usesSuper ? holder : undefined;
+      const name = `${id} ${isStatic ? "s" : "p"} ${kind} ${key === undefined ? `#${enters}` : String(key)}`;
+      for (const one of key === undefined ? Reflect.ownKeys(holder) : [key]) {
+        const fn = Reflect.getOwnPropertyDescriptor(holder, one)?.[kind];
+        if (enters === undefined || numberOf(fn) === enters) this.#register(fn, { id: name, cells, home });
+      }
     }
   }
 
@@ -161,17 +169,21 @@ export class Runtime {
        * @param {any} cls
        * @param {((object: object) => unknown[] | null) | null} read
        * @param {Method[]} methods
-       * @param {CapturedCell[] | null} cells of what its constructor and its fields capture
+       * @param {CapturedCell[] | null} cells of what its code captures
+       * @param {{ keys: unknown[], isHidden: boolean, isHome: boolean }} more the names of fields that were computed;
+       * whether it captures something that can't be shown; whether it is always shown
        */
-      cls: (id, cls, read, methods, cells) => {
+      cls: (id, cls, read, methods, cells, { keys, isHidden, isHome }) => {
+        this.#register(cls, { id: `c${id}`, cells, keys, isHidden });
         this.#registerMethods(cls, `c${id}`, methods.filter(({ isStatic }) => isStatic));
         this.#registerMethods(cls.prototype, `c${id}`, methods.filter(({ isStatic }) => !isStatic));
-        this.#register(cls, { id: `c${id}`, cells });
+        if (isHome) this.#showAlways(cls);
         if (read !== null) this.readers.push({ cls, read });
       },
-      /** @param {number} id @param {object} object @param {Method[]} methods */
-      obj: (id, object, methods) => {
+      /** @param {number} id @param {object} object @param {Method[]} methods @param {boolean} [isHome] */
+      obj: (id, object, methods, isHome) => {
         this.#registerMethods(object, `o${id}`, methods);
+        if (isHome) this.#showAlways(object);
         return object;
       },
     };

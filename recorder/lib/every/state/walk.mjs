@@ -211,8 +211,9 @@ export class Walk {
   #function(fn) {
     const made = this.runtime.functions.get(fn);
     if (made === undefined) throw new CantShow(`the function ${fn.name}, which isn't of the modules`);
-    if (made.isHidden === true) throw new CantShow("a function that uses `super`");
+    if (made.isHidden === true) throw new CantShow("a function with a `super` or with names that aren't shown");
     this.out.push(made.id);
+    for (const key of made.keys ?? []) this.value(key);
     if (made.home !== undefined) this.value(made.home);
     if (made.cells !== null && this.hides !== "closures") for (const cell of made.cells) this.cell(cell);
     for (const key of Reflect.ownKeys(fn)) {

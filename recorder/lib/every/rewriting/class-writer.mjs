@@ -1,0 +1,157 @@
+// How classes, and objects with methods, are rewritten: what their code captures is made known when they are made.
+
+import { positionOutsideComments } from "./comments.mjs";
+import { EXPRESSIONS } from "./expressions.mjs";
+import { NAME_OF_KEY } from "./function-names.mjs";
+import { newId } from "./scopes.mjs";
+import { isClass, isMethod } from "./tree.mjs";
+
+/** @typedef {import("./tree.mjs").Tree} Tree */
+/** @typedef {import("./scopes.mjs").Info} Info */
+/** @typedef {import("./writer.mjs").CodeWriter} CodeWriter */
+
+/** @param {CodeWriter} writer @param {Tree} tree @param {Info | null} info */
+export function writeClass(writer, tree, info) {
+  const { body: { body, start }, superClass } = tree;
+  const own = writer.infoOf(tree);
+  writer.write(superClass, info);
+  const keys = body.flatMap((/** @type {Tree} */ member) => writeMember(writer, member, info, own));
+  const shown = `${readerOf(body)}, ${methodsOf(writer, body)}, ${writer.cells(own)}`;
+  const isHome = writer.analysis.homes.has(tree);
+  const more = `{ keys: [${keys.join(", ")}], isHidden: ${own.isOpaque}, isHome: ${isHome} }`;
+  writer.edits.before(start + 1, `static { $R.cls(${newId()}, this, ${shown}, ${more}); }`);
+}
+
+/**
+ * @param {CodeWriter} writer
+ * @param {Tree} member of a class
+ * @param {Info | null} info
+ * @param {Info} own the class's
+ * @returns {string[]} the variable that has its key, if the class keeps that
+ */
+function writeMember(writer, member, info, own) {
+  if (member.type === "StaticBlock") {
+    writeStaticBlock(writer, member);
+    return [];
+  }
+  const keys = writeKey(writer, member, info, own);
+  if (member.type === "MethodDefinition") writer.write(member.value, null, true);
+  else writer.withoutVariables(() => writer.write(member.value, null));
+  return keys;
+}
+
+/**
+ * @param {CodeWriter} writer
+ * @param {Tree} member of a class
+ * @param {Info | null} info
+ * @param {Info} own the class's
+ * @returns {string[]} the variable that has its key, if the class keeps that
+ */
+function writeKey(writer, member, info, own) {
+  const { computed, key, type } = member;
+  if (!computed) return [];
+  giveName(writer, member);
+  // What `new` defines depends on it.
+  const isKept = type === "PropertyDefinition" && nameOf(writer, member) === undefined;
+  const name = isKept ? writer.variable() : undefined;
+  if (isKept && name === undefined) own.isOpaque = true;
+  if (name !== undefined) {
+    writer.edits.before(key.start, `${name} = $R.key((`);
+    writer.edits.after(key.end, "))");
+  }
+  writer.write(key, info);
+  return name === undefined ? [] : [name];
+}
+
+/** @param {CodeWriter} writer @param {Tree} member of a class: a function in a field gets the name of that */
+function giveName({ analysis, names }, { key, value }) {
+  if (names.get(value) !== NAME_OF_KEY || isClass(value)) return;
+  if (key.type === "Literal") names.set(value, String(key.value));
+  else if (isWellKnown(analysis, key)) names.set(value, `[Symbol.${key.property.name}]`);
+  else analysis.refuse(value, "a function in a field whose name is computed");
+}
+
+/** @param {CodeWriter} writer @param {Tree} block of a class */
+function writeStaticBlock(writer, block) {
+  const at = positionOutsideComments(writer.source, "{", block.start) + 1;
+  const scope = writer.analysis.own.get(block);
+  if (scope && writer.isSeen(scope, null)) {
+    writer.edits.before(at, ` const $e${scope.id} = ${writer.environment(scope, null)};`);
+  }
+  writer.declaring(at, () => {
+    writer.registerDeclared(at, block.body);
+    writer.writeAll(block.body, null);
+  });
+}
+
+/**
+ * The methods of a class or of an object, with what they capture. Another member may have the same name, and a name
+ * that is computed may be any: the function is known by its text then.
+ * @param {CodeWriter} writer
+ * @param {Tree[]} members
+ */
+function methodsOf(writer, members) {
+  // The other members of a class are made later.
+  const made = members.filter(({ type }) => type !== "StaticBlock" && type !== "PropertyDefinition");
+  const last = made.map((one) => nameOf(writer, one) === undefined).lastIndexOf(true);
+  const rows = made.flatMap((one, at) => {
+    const isOne = (one.type === "MethodDefinition" || isMethod(one)) && one.kind !== "constructor";
+    if (!isOne || one.key.type === "PrivateIdentifier") return [];
+    const info = writer.infoOf(one.value);
+    if (info.isOpaque) return [];
+    const name = nameOf(writer, one);
+    const others = made.filter((other) =>
+      other !== one && nameOf(writer, other) === name && other.kind !== pairOf(one));
+    const isSure = name !== undefined && others.length === 0 && at > last;
+    const kind = one.kind === "get" || one.kind === "set" ? one.kind : "value";
+    const known = `${name === undefined ? "" : `, key: ${name}`}${isSure ? "" : `, enters: ${info.id}`}`;
+    const more = `cells: ${writer.cells(info)}, usesSuper: ${info.usesSuper}${one.static ? ", isStatic: true" : ""}`;
+    return [`{ kind: "${kind}"${known}, ${more} }`];
+  });
+  return `[${rows.join(", ")}]`;
+}
+
+/** @param {CodeWriter} writer @param {Tree} tree an object with methods @param {Info | null} info */
+export function writeMethods(writer, tree, info) {
+  const isHome = writer.analysis.homes.has(tree);
+  writer.edits.before(tree.start, `$R.obj(${newId()}, (`);
+  writer.edits.after(tree.end, `), ${methodsOf(writer, tree.properties)}${isHome ? ", true" : ""})`);
+  if (info !== null) EXPRESSIONS.ObjectExpression(writer, tree, info);
+  else {
+    for (const one of tree.properties) {
+      if (one.computed) writer.write(one.key, info);
+      writer.write(one.value ?? one.argument, info, isMethod(one));
+    }
+  }
+}
+
+/** @param {Tree} one a member @returns {string} the kind of the other function that its property may have */
+const pairOf = ({ kind }) => (kind === "get" ? "set" : kind === "set" ? "get" : "none");
+
+/**
+ * @param {CodeWriter} writer
+ * @param {Tree} member
+ * @returns {string | undefined} its name as an expression; undefined: that may be any
+ */
+function nameOf({ analysis }, { computed, key, type }) {
+  if (type === "SpreadElement") return undefined;
+  if (key.type === "Literal") return JSON.stringify(String(key.value));
+  if (!computed) return JSON.stringify(key.type === "PrivateIdentifier" ? `#${key.name}` : key.name);
+  return isWellKnown(analysis, key) ? `Symbol.${key.property.name}` : undefined;
+}
+
+/** @param {import("./analysis.mjs").Analysis} analysis @param {Tree} key @returns {boolean} whether it is `Symbol.name` */
+const isWellKnown = (analysis, { type, computed, object, property }) =>
+  type === "MemberExpression" && !computed && object.name === "Symbol" && analysis.bindingOf(object) === undefined
+  && typeof (/** @type {any} */ (Symbol)[property.name]) === "symbol";
+
+/** @param {Tree[]} body of a class @returns {string} what shows an object's private members, if there are any */
+function readerOf(body) {
+  const names = new Map(body.flatMap(({ type, key }) =>
+    (key?.type === "PrivateIdentifier" ? [/** @type {[string, string]} */ ([key.name, type])] : [])));
+  if (names.size === 0) return "null";
+  const has = [...names.keys()].map((name) => `#${name} in $o`);
+  const read = [...names].map(([name, type], at) =>
+    (type === "PropertyDefinition" ? `${has[at]}, ${has[at]} ? $o.#${name} : 0` : has[at]));
+  return `($o) => ${has.join(" || ")} ? [${read.join(", ")}] : null`;
+}
