@@ -47,7 +47,7 @@ export class Analysis {
     this.hasTags = false;
     /** @type {Set<Tree>} classes and objects of the top level in which there is a `super` */
     this.homes = new Set();
-    /** @type {Tree[]} what stands for `import.meta.url` */
+    /** @type {Tree[]} each `url` of `import.meta` */
     this.metaUrls = [];
     /** How many loops at the top level are around what is gone over. */
     this.loops = 0;
@@ -338,7 +338,7 @@ export class Analysis {
 
   /** @param {Tree} tree that gets another value, or is deleted */
   needsNoMeta(tree) {
-    if (isMetaUrl(tree)) this.refuse(tree, "`import.meta.url` that is changed");
+    if (isMetaUrl(tree)) this.refuse(tree, "a `url` of `import.meta` that is changed");
   }
 
   /** Finds what each name means, and what functions capture. */
@@ -380,7 +380,7 @@ export class Analysis {
   }
 }
 
-/** @param {Tree} tree @returns {boolean} whether it is `import.meta.url` */
+/** @param {Tree} tree @returns {boolean} whether it is the `url` of `import.meta` */
 const isMetaUrl = ({ type, object, property, computed }) =>
   type === "MemberExpression" && object.type === "MetaProperty" && object.meta.name === "import"
   && (computed ? property.value : property.name) === "url";

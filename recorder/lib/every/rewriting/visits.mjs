@@ -90,7 +90,7 @@ export const VISITS = {
   LogicalExpression: visitInside,
   MemberExpression: (one, tree, here) => one.visitMember(tree, here),
   MetaProperty: (one, tree, here) => {
-    if (tree.meta.name !== "new") one.refuse(tree, "`import.meta`, except `import.meta.url` where it is read");
+    if (tree.meta.name !== "new") one.refuse(tree, "`import.meta`, except its `url` where it is read");
     one.refer("new.target", tree, here, true);
   },
   MethodDefinition: visitElsewhere,
