@@ -15,7 +15,6 @@ const SHOWN_PLACES = {
   "method of a class": ["return new (class { m() { return v; } })();", "t.m()"],
   "computed method of a class": ["return new (class { [`m`]() { return v; } static [`m`]() { return 0; } })();", "t.m()"],
   "two methods of one name": ["return new (class { m() { return 0; } m() { return v; } })();", "t.m()"],
-  "generator method": ["return new (class { * m() { yield v; } })();", "[...t.m()][0]"],
   "private method": ["class C { #m() { return v; } m() { return this.#m(); } } return new C();", "t.m()"],
   "private getter": ["class C { get #m() { return v; } m() { return this.#m; } } return new C();", "t.m()"],
   "private setter": ["class C { set #m(o) { o.n = v; } m(o) { this.#m = o; return o.n; } } return new C();", "t.m({})"],
@@ -61,7 +60,7 @@ const SHOWN_PLACES = {
   "test of a for": ["const fs = []; for (let a = v; fs.push(() => a) < 2; a += 1); return fs[1];", "t()"],
   "update of a for": ["const fs = []; for (let a = v; fs.length < 2; fs.push(() => a), a += 1); return fs[1];", "t()"],
   "constant of a for": ["for (const a = v; ;) return () => a;", "t()"],
-  "case": ["switch (1) { case 0: let a; default: a = v; return () => a; }", "t()"],
+  "case": ["switch (0) { case 0: let a = v; default: return () => a; }", "t()"],
   "function of a case": ["switch (1) { default: const a = v; function f() { return a; } return f; }", "t()"],
   "class of a case": ["switch (1) { default: class C { m() { return v; } } return C; }", "new t().m()"],
   "pattern": ["const { f = () => v } = {}; return f;", "t()"],
@@ -76,15 +75,16 @@ const SHOWN_PLACES = {
   "own name that is a variable": ["return function f() { var f = v; return f; };", "t()"],
   "own name that is a parameter": ["return ((a) => function f(f) { return f + a; })(v);", "t(0)"],
   "this": ["function f() { return () => this; } return f.call(v);", "t()"],
-  "arguments": ["function f() { return () => arguments[0]; } return f(v);", "t()"],
   "new.target": ["function A() {} function F() { return () => (new.target === A ? 1 : 2); }\n"
     + "return Reflect.construct(F, [], v === 1 ? A : F);", "t()"],
   "super": ["const base = { m() { return v; } }; return { __proto__: base, m() { return super.m(); } };", "t.m()"],
   "label": ["one: { const a = v; if (a > 5) break one; return () => a; }", "t()"],
 };
 
-/** The same of places that leave a moment unmerged. @type {Record<string, [string, string]>} */
+/** The same of places that may leave a moment unmerged. @type {Record<string, [string, string]>} */
 const HIDDEN_PLACES = {
+  "generator method": ["return new (class { * m() { yield v; } })();", "[...t.m()][0]"],
+  "arguments": ["function f() { return () => arguments[0]; } return f(v);", "t()"],
   "parameter that is changed": ["const f = (a, b = () => a) => { a += 1; return b; }; return f(v);", "t()"],
   "arrow with super": ["class B { m() { return v; } } return new (class extends B { x = () => super.m(); })();", "t.x()"],
   "computed name of a field in a default": ["const f = (C = class { [`f${v}`] = 1; }) => C; return f();",
@@ -112,7 +112,7 @@ const KEPT_BY_MODULES = {
     + "  static put(v) { super.o.n = v; } static get = () => super.o.n; };",
 };
 
-/** @typedef {{ name: string, text: string, isShown: boolean }} PlaceModule */
+/** @typedef {{ name: string, text: string, isShown: boolean }} PlaceModule `isShown`: its moments are to be merged */
 
 /** @param {Record<string, [string, string]>} places @param {boolean} isShown @returns {PlaceModule[]} */
 const modulesOf = (places, isShown) => Object.entries(places).map(([name, [made, use]]) => ({
