@@ -1,4 +1,4 @@
-// Places in which a function, or a class, can capture a name: in each module two moments differ only in what is captured.
+// Places in which a function, or a class, can capture a name: in each module two moments differ only in what that is.
 
 import { moduleOf } from "./nasty.mjs";
 
@@ -13,7 +13,9 @@ const SHOWN_PLACES = {
   "computed method": ["return { [`m`]() { return v; } };", "t.m()"],
   "name of a computed method": ["return { [`m${v}`]() {} };", "Number(Object.keys(t)[0].slice(1))"],
   "method of a class": ["return new (class { m() { return v; } })();", "t.m()"],
-  "computed method of a class": ["return new (class { [`m`]() { return v; } static [`m`]() { return 0; } })();", "t.m()"],
+  "computed method of a class": [
+    "return new (class { [`m`]() { return v; } static [`m`]() { return 0; } })();", "t.m()",
+  ],
   "two methods of one name": ["return new (class { m() { return 0; } m() { return v; } })();", "t.m()"],
   "private method": ["class C { #m() { return v; } m() { return this.#m(); } } return new C();", "t.m()"],
   "private getter": ["class C { get #m() { return v; } m() { return this.#m; } } return new C();", "t.m()"],
@@ -36,27 +38,36 @@ const SHOWN_PLACES = {
   "var of a static block": ["class C { static { var a = v; C.m = function () { return a; }; } } return C;", "t.m()"],
   "computed name of a field": ["class C { [`f${v}`] = 1; } return C;", "Number(Object.keys(new t())[0].slice(1))"],
   "constructor": ["return class { constructor() { this.x = v; } };", "new t().x"],
-  "derived constructor": ["class B { constructor(n) { this.x = n; } } return class extends B { constructor() { super(v); } };",
-    "new t().x"],
+  "derived constructor": [
+    "class B { constructor(n) { this.x = n; } } return class extends B { constructor() { super(v); } };", "new t().x",
+  ],
   "class without a constructor": ["class B { constructor() { this.x = v; } } return class extends B {};", "new t().x"],
   "named class": ["return class D { static n() { return v; } static m() { return D.n(); } };", "t.m()"],
   "arrow with a class's name": ["return new (class D { static n = v; x = () => D.n; })().x;", "t()"],
-  "class that is replaced": ["class C { static x = v; static m() { return C.x; } } const K = C; C = 0; return K;", "t.m()"],
+  "class that is replaced": [
+    "class C { static x = v; static m() { return C.x; } } const K = C; C = 0; return K;", "t.m()",
+  ],
   "default of a parameter": ["const f = (a = () => v) => a; return f;", "t()()"],
   "default of a parameter that was used": ["const f = (a = () => v) => a; return f();", "t()"],
   "parameter in a default": ["const f = (a, b = () => a) => b; return f(v);", "t()"],
   "later parameter in a default": ["const f = (a = () => b, b = v) => a; return f();", "t()"],
   "class in a default": ["const f = (a, b = class { #m() { return a; } m() { return this.#m(); } }) => b; return f(v);",
     "new t().m()"],
-  "name outside beside a var": ["let x = v; const f = (a = () => x) => { var x = 5; return a; }; return f();", "t()"],
+  "name outside beside a var": [
+    "let x = v; const f = (a = () => x) => { var x = 5; return a; }; return f();", "t()",
+  ],
   "arrow in a generator": ["function* g() { const a = v; yield () => a; } const [f] = g(); return f;", "t()"],
   "parameter of a generator": ["function* g(a) { yield () => a; } return [...g(v)][0];", "t()"],
-  "block in a generator": ["function* g() { for (const a of [v]) yield { m() { return a; } }; } return [...g()][0];", "t.m()"],
+  "block in a generator": [
+    "function* g() { for (const a of [v]) yield { m() { return a; } }; } return [...g()][0];", "t.m()",
+  ],
   "arrow in an async function": ["let f; (async () => { const a = v; f = () => a; })(); return f;", "t()"],
   "async arrow without braces": ["let f; const g = async (a) => (f = () => a); g(v); return f;", "t()"],
   "head of a for": ["for (let a = v, f = () => a; ; a += 1) return f;", "t()"],
-  "first round of a for": ["const fs = []; for (let a = v, f = () => a; fs.length < 2; a += 1) fs.push(f, () => a); return fs;",
-    "t[0]() * 100 + t[1]()"],
+  "first round of a for": [
+    "const fs = []; for (let a = v, f = () => a; fs.length < 2; a += 1) fs.push(f, () => a); return fs;",
+    "t[0]() * 100 + t[1]()",
+  ],
   "test of a for": ["const fs = []; for (let a = v; fs.push(() => a) < 2; a += 1); return fs[1];", "t()"],
   "update of a for": ["const fs = []; for (let a = v; fs.length < 2; fs.push(() => a), a += 1); return fs[1];", "t()"],
   "constant of a for": ["for (const a = v; ;) return () => a;", "t()"],
@@ -78,6 +89,8 @@ const SHOWN_PLACES = {
   "new.target": ["function A() {} function F() { return () => (new.target === A ? 1 : 2); }\n"
     + "return Reflect.construct(F, [], v === 1 ? A : F);", "t()"],
   "super": ["const base = { m() { return v; } }; return { __proto__: base, m() { return super.m(); } };", "t.m()"],
+  "arrow that calls super": ["class B { constructor() { this.n = v; } }\n"
+    + "let f; class C extends B { constructor() { f = () => super(); return {}; } } new C(); return f;", "t().n"],
   "label": ["one: { const a = v; if (a > 5) break one; return () => a; }", "t()"],
 };
 
@@ -86,7 +99,9 @@ const HIDDEN_PLACES = {
   "generator method": ["return new (class { * m() { yield v; } })();", "[...t.m()][0]"],
   "arguments": ["function f() { return () => arguments[0]; } return f(v);", "t()"],
   "parameter that is changed": ["const f = (a, b = () => a) => { a += 1; return b; }; return f(v);", "t()"],
-  "arrow with super": ["class B { m() { return v; } } return new (class extends B { x = () => super.m(); })();", "t.x()"],
+  "arrow with super": [
+    "class B { m() { return v; } } return new (class extends B { x = () => super.m(); })();", "t.x()",
+  ],
   "computed name of a field in a default": ["const f = (C = class { [`f${v}`] = 1; }) => C; return f();",
     "Number(Object.keys(new t())[0].slice(1))"],
 };
@@ -96,7 +111,8 @@ const KEPT_BY_MODULES = {
   "block": "let put; let get; { let n = 0; put = (v) => { n = v; }; get = () => n; }",
   "function of a block": "let put; let get; { let n = 0; put = set; get = () => n; function set(v) { n = v; } }",
   "loop": "let put; let get; for (const o of [{ n: 0 }]) { put = (v) => { o.n = v; }; get = () => o.n; }",
-  "head of a loop": "let put; let get; for (let n = 0, f = (v) => { n = v; }, g = () => n; put === undefined; put = f) get = g;",
+  "head of a loop": "let put; let get;\n"
+    + "for (let n = 0, f = (v) => { n = v; }, g = () => n; put === undefined; put = f) get = g;",
   "case": "let put; let get; switch (1) { default: let n = 0; put = (v) => { n = v; }; get = () => n; }",
   "catch": "let put; let get; try { throw { n: 0 }; } catch (o) { put = (v) => { o.n = v; }; get = () => o.n; }",
   "static block": "let put; let get; class K { static { let n = 0; put = (v) => { n = v; }; get = () => n; } }",
@@ -105,9 +121,16 @@ const KEPT_BY_MODULES = {
   "named class": "const put = (v) => { K.put(v); }; const get = () => K.n; const K = class Own {\n"
     + "  static n = 0; static put(v) { Own.n = v; } };",
   "generator": "function* g() { let n = 0; yield [(v) => { n = v; }, () => n]; } const [[put, get]] = [...g()];",
-  "default": "const make = (o = { n: 0 }, f = (v) => { o.n = v; }, g = () => o.n) => [f, g]; const [put, get] = make();",
+  "default": "const make = (o = { n: 0 }, f = (v) => { o.n = v; }, g = () => o.n) => [f, g];\n"
+    + "const [put, get] = make();",
   "object of a super": "const { put, get } = { __proto__: { o: { n: 0 } }, put(v) { super.o.n = v; },\n"
     + "  get() { return super.o.n; } };",
+  "class of an arrow that calls super": `class B { constructor(n) { B.n = n * new.target.one; } }
+  const fs = []; class C extends B { static one = 1; constructor() { fs.push((n) => super(n)); return {}; } }
+  class D extends C { static one = 2; }
+  let f; const put = (n) => { new (n === 1 ? C : D)(); f = fs.pop(); }; const get = () => { f(1); return B.n; };`,
+  "computed name of a field": "let C; const put = (n) => { C = class { [`f${n}`] = 1; }; };\n"
+    + "const get = () => (C === undefined ? 0 : Number(Object.keys(new C())[0][1]));",
   "class of a super": "class B { static o = { n: 0 }; } const { put, get } = class extends B {\n"
     + "  static put(v) { super.o.n = v; } static get = () => super.o.n; };",
 };

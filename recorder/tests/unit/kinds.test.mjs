@@ -1,4 +1,4 @@
-// Each kind of tree that node's own parser can give has its row: in what goes over modules, in what finds the names that
+// Each kind of tree that node's own parser can give has its row: in what goes over modules, in what finds which names
 // can still be read, and in what rewrites.
 
 import assert from "node:assert/strict";
@@ -41,7 +41,7 @@ async function kindsOfNode() {
 
 const KINDS = await kindsOfNode();
 
-/** @param {object} table @param {string[]} others @returns {string[]} the kinds that are neither in it nor among others */
+/** @param {object} table @param {string[]} others @returns {string[]} the kinds that are in neither */
 const lacking = (table, others) => KINDS.filter((kind) => !Object.hasOwn(table, kind) && !others.includes(kind));
 
 test("node's walker has the kinds", () => {

@@ -127,12 +127,17 @@ export class Analysis {
     let at = here.within;
     for (; at !== null && at.tree.type === "ArrowFunctionExpression"; at = at.outer) around.push(at);
     if (at === null || at.holder === undefined) this.refuse(tree, "`super` outside of a method");
-    const isOfClass = this.infos.has(at.holder) && at.outer?.outer === null;
-    if ((at.outer === null || isOfClass) && this.loops === 0) this.homes.add(at.holder);
+    if (this.isOnce(at)) this.homes.add(at.holder);
     else for (const info of [...around, at]) info.usesSuper = true;
   }
 
-  /** @param {Tree} tree @param {EnclosingScope} here @param {Tree} [holder] the class or the object whose method it is */
+  /** @param {Info} info of a method @returns {boolean} whether there is one object that has it, or one class */
+  isOnce({ holder, outer }) {
+    const isOfClass = holder !== undefined && this.infos.has(holder);
+    return this.loops === 0 && (isOfClass ? outer?.outer === null : outer === null);
+  }
+
+  /** @param {Tree} tree @param {EnclosingScope} here @param {Tree} [holder] the class or object whose method it is */
   visitFunction(tree, { scope, within }, holder) {
     const info = new Info(newId(), tree, within);
     info.holder = holder;

@@ -59,11 +59,11 @@ export class CallSites {
     if (info.usesSuper) return unknown("a method of an object in a function, with `super`");
     const { alive, isAccess, isKeyed } = this.#aliveAt(info, offset);
     if (typeof alive === "string") return unknown(`a call by ${alive}`);
-    if (info.made !== undefined) alive.add(info.made);
+    for (const one of info.needed) alive.add(one);
     const shown = [...alive].filter(({ isShown }) => isShown);
     const kept = info.temporaries.filter(({ from, to }) => from <= offset && offset < to);
     return {
-      fn: info.id, makes: info.made !== undefined, kept: kept.map(({ id }) => id), isAccess, isKeyed,
+      fn: info.id, makes: info.makes, kept: kept.map(({ id }) => id), isAccess, isKeyed,
       isAccessor: info.isAccessor,
       alive: shown.map(placeOf).sort(([a, b], [c, d]) => a - c || b - d),
     };

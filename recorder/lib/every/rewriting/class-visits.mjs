@@ -65,7 +65,7 @@ function visitMemberOfClass(one, tree, member, { keys, methods, fields }) {
   else {
     one.visitFunction(member.value, methods, tree);
     one.noteAccessor(member);
-    if (member.kind === "constructor") visitConstructor(one, member.value, tree.superClass !== null);
+    if (member.kind === "constructor") visitConstructor(one, member.value, tree);
   }
 }
 
@@ -81,11 +81,19 @@ function visitStaticBlock(one, block, { scope, within }) {
 /** @param {Analysis} one @param {Tree} member that is private @returns {Set<string>} where its name is noted */
 const namesOf = ({ privateMethods, privateOthers }, { kind }) => (kind === "method" ? privateMethods : privateOthers);
 
-/** @param {Analysis} one @param {Tree} tree @param {boolean} isDerived */
-function visitConstructor(one, tree, isDerived) {
+/** @param {Analysis} one @param {Tree} tree @param {Tree} cls its class */
+function visitConstructor(one, tree, cls) {
   const info = /** @type {Info} */ (one.infos.get(tree));
+  const names = one.own.get(tree)?.names;
+  info.makes = true;
   // What it makes is returned, whether it reads it again or not. That of a derived class may not be there yet.
-  info.made = one.own.get(tree)?.names.get("this");
-  if (info.made !== undefined) info.made.isAlwaysShown = true;
-  if (isDerived) one.hide(info);
+  const needed = cls.superClass ? ["this", "new.target"] : ["this"];
+  for (const binding of needed.flatMap((name) => names?.get(name) ?? [])) {
+    binding.isAlwaysShown = true;
+    info.needed.push(binding);
+  }
+  if (!cls.superClass) return;
+  // It calls what its class inherits from.
+  if (one.isOnce(info)) one.homes.add(cls);
+  else one.hide(info);
 }

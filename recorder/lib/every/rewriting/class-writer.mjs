@@ -140,7 +140,7 @@ function nameOf({ analysis }, { computed, key, type }) {
   return isWellKnown(analysis, key) ? `Symbol.${key.property.name}` : undefined;
 }
 
-/** @param {import("./analysis.mjs").Analysis} analysis @param {Tree} key @returns {boolean} whether it is `Symbol.name` */
+/** @param {import("./analysis.mjs").Analysis} analysis @param {Tree} key @returns {boolean} if it is `Symbol.name` */
 const isWellKnown = (analysis, { type, computed, object, property }) =>
   type === "MemberExpression" && !computed && object.name === "Symbol" && analysis.bindingOf(object) === undefined
   && typeof (/** @type {any} */ (Symbol)[property.name]) === "symbol";

@@ -119,7 +119,7 @@ function writeObject(writer, tree, info) {
     const isImported = writer.analysis.bindingOf(one)?.kind === "import";
     if (shorthand.has(one) && !isImported) writer.edits.before(one.start, `${keyOfShorthand(one.name)}: `);
     // A key is made a text or a symbol at once.
-    if (keys.has(one)) writer.keep(info, one, tree.end, ["$R.key(", ")"]);
+    if (keys.has(one)) writer.keep(info, one, tree.end, ["$R.key((", "))"]);
     else writer.keep(info, one, tree.end);
   });
   for (const one of properties) {

@@ -20,8 +20,8 @@ const ENTERS = "$R.enter(";
 /**
  * Rewrites a module.
  * @param {import("./module-text.mjs").ModuleText} text
- * @param {{ url: string, isAlone: boolean, isPlain?: boolean }} of the module: its URL, whether no other imports from it,
- * and whether it only becomes a function, with nothing that shows what it keeps
+ * @param {{ url: string, isAlone: boolean, isPlain?: boolean }} of the module: its URL, whether no other imports from
+ * it, and whether it only becomes a function, with nothing that shows what it keeps
  * @returns {Rewritten}
  * @throws {import("../../options/refused.mjs").Refused}
  */

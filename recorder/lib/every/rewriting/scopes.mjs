@@ -83,8 +83,10 @@ export class Info {
     this.usesSuper = false;
     /** @type {Map<Tree, Set<Binding>> | undefined} what is alive after each expression, when it was looked for */
     this.alive = undefined;
-    /** @type {Binding | undefined} of a constructor what it makes */
-    this.made = undefined;
+    /** Whether it is a constructor. */
+    this.makes = false;
+    /** @type {Binding[]} what the engine needs of its own names when it has ended */
+    this.needed = [];
   }
 }
 

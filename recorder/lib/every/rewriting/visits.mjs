@@ -52,7 +52,11 @@ export const VISITS = {
   BinaryExpression: visitInside,
   BlockStatement: (one, tree, here) => one.visitBlock(tree, here),
   BreakStatement: visitNothing,
-  CallExpression: visitInside,
+  CallExpression: (one, tree, here) => {
+    // What it makes has the prototype of that.
+    if (tree.callee.type === "Super") one.refer("new.target", tree.callee, here, true);
+    one.visitAll([tree.callee, ...tree.arguments], here);
+  },
   CatchClause: (one, tree, here) => one.visitCatch(tree, here),
   ChainExpression: visitInside,
   ClassBody: visitElsewhere,

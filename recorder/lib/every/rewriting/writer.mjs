@@ -160,7 +160,7 @@ export class CodeWriter {
     return info === null ? made : `$f.e[${scope.id}] = ${made}`;
   }
 
-  /** @param {Scope | undefined} scope @param {Info | null} info @returns {boolean} whether its names have to be visible */
+  /** @param {Scope | undefined} scope @param {Info | null} info @returns {boolean} whether its names must be visible */
   isSeen(scope, info) {
     const shown = scope?.shown() ?? [];
     return info === null ? shown.some(({ isCaptured }) => isCaptured) : shown.length > 0;
@@ -281,8 +281,8 @@ export class CodeWriter {
   #noteKeys({ properties }) {
     for (const { key, value } of properties) {
       if (this.names.get(value) !== NAME_OF_KEY || isClass(value)) continue;
-      this.edits.before(key.start, "$R.named(");
-      this.edits.after(key.end, ")");
+      this.edits.before(key.start, "$R.named((");
+      this.edits.after(key.end, "))");
     }
   }
 
