@@ -89,13 +89,13 @@ const SHOWN_PLACES = {
   "new.target": ["function A() {} function F() { return () => (new.target === A ? 1 : 2); }\n"
     + "return Reflect.construct(F, [], v === 1 ? A : F);", "t()"],
   "super": ["const base = { m() { return v; } }; return { __proto__: base, m() { return super.m(); } };", "t.m()"],
-  "arrow that calls super": ["class B { constructor() { this.n = v; } }\n"
-    + "let f; class C extends B { constructor() { f = () => super(); return {}; } } new C(); return f;", "t().n"],
   "label": ["one: { const a = v; if (a > 5) break one; return () => a; }", "t()"],
 };
 
 /** The same of places that may leave a moment unmerged. @type {Record<string, [string, string]>} */
 const HIDDEN_PLACES = {
+  "arrow that calls super": ["class B { constructor() { this.n = v; } }\n"
+    + "let f; class C extends B { constructor() { f = () => super(); return {}; } } new C(); return f;", "t().n"],
   "generator method": ["return new (class { * m() { yield v; } })();", "[...t.m()][0]"],
   "arguments": ["function f() { return () => arguments[0]; } return f(v);", "t()"],
   "parameter that is changed": ["const f = (a, b = () => a) => { a += 1; return b; }; return f(v);", "t()"],

@@ -52,13 +52,18 @@ export class Analysis {
     /** How many loops at the top level are around what is gone over. */
     this.loops = 0;
     this.tree = tree;
+    this.root = this.newScope(tree, null, null, "module");
+    this.#visitModule();
+    this.#resolve();
+  }
+
+  #visitModule() {
+    const { root, tree } = this;
     const reserved = ownNameIn(tree);
     if (reserved !== undefined) this.refuse(reserved, "a name that the recorder uses here");
-    this.root = this.newScope(tree, null, null, "module");
-    this.root.declareLexical(tree.body);
-    this.root.declareVariables(tree);
-    this.visitAll(tree.body, { scope: this.root, within: null });
-    this.#resolve();
+    root.declareLexical(tree.body);
+    root.declareVariables(tree);
+    this.visitAll(tree.body, { scope: root, within: null });
   }
 
   /**

@@ -144,6 +144,23 @@ export class Runtime {
     };
   }
 
+  /**
+   * @param {number} id
+   * @param {any} cls
+   * @param {((object: object) => unknown[] | null) | null} read
+   * @param {Method[]} methods
+   * @param {CapturedCell[] | null} cells of what its code captures
+   * @param {{ keys: unknown[], isHidden: boolean, isHome: boolean }} more the names of fields that were computed; whether
+   * it captures something that can't be shown; whether it is always shown
+   */
+  #takeClass(id, cls, read, methods, cells, { keys, isHidden, isHome }) {
+    this.#register(cls, { id: `c${id}`, cells, keys, isHidden });
+    this.#registerMethods(cls, `c${id}`, methods.filter(({ isStatic }) => isStatic));
+    this.#registerMethods(cls.prototype, `c${id}`, methods.filter(({ isStatic }) => !isStatic));
+    if (isHome) this.#showAlways(cls);
+    if (read !== null) this.readers.push({ cls, read });
+  }
+
   /** What is called where functions, classes and objects are made. */
   #makers() {
     return {
@@ -164,22 +181,7 @@ export class Runtime {
         this.key = key(value);
         return this.key;
       },
-      /**
-       * @param {number} id
-       * @param {any} cls
-       * @param {((object: object) => unknown[] | null) | null} read
-       * @param {Method[]} methods
-       * @param {CapturedCell[] | null} cells of what its code captures
-       * @param {{ keys: unknown[], isHidden: boolean, isHome: boolean }} more the names of fields that were computed;
-       * whether it captures something that can't be shown; whether it is always shown
-       */
-      cls: (id, cls, read, methods, cells, { keys, isHidden, isHome }) => {
-        this.#register(cls, { id: `c${id}`, cells, keys, isHidden });
-        this.#registerMethods(cls, `c${id}`, methods.filter(({ isStatic }) => isStatic));
-        this.#registerMethods(cls.prototype, `c${id}`, methods.filter(({ isStatic }) => !isStatic));
-        if (isHome) this.#showAlways(cls);
-        if (read !== null) this.readers.push({ cls, read });
-      },
+      cls: this.#takeClass.bind(this),
       /** @param {number} id @param {object} object @param {Method[]} methods @param {boolean} [isHome] */
       obj: (id, object, methods, isHome) => {
         this.#registerMethods(object, `o${id}`, methods);
