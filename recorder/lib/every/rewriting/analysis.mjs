@@ -33,8 +33,6 @@ export class Analysis {
     this.byPlace = new Map();
     /** @type {[number, number][]} places at which there is something that can't be shown */
     this.hidden = [];
-    /** @type {Tree[]} */
-    this.imports = [];
     /** @type {Set<number>} where members of objects begin that have but a name */
     this.shorthand = new Set();
     /** @type {Set<Tree>} expressions whose values nobody uses */
@@ -239,8 +237,7 @@ export class Analysis {
 
   /** @param {Tree} tree @param {EnclosingScope} here */
   visitExport(tree, here) {
-    if (tree.source) this.imports.push(tree);
-    else for (const { local } of tree.specifiers) this.refer(local.name, local, here, true);
+    if (!tree.source) for (const { local } of tree.specifiers) this.refer(local.name, local, here, true);
     this.visit(tree.declaration, here);
   }
 

@@ -67,7 +67,7 @@ export const VISITS = {
   DebuggerStatement: visitNothing,
   DoWhileStatement: visitLoop,
   EmptyStatement: visitNothing,
-  ExportAllDeclaration: (one, tree) => void one.imports.push(tree),
+  ExportAllDeclaration: visitNothing,
   ExportDefaultDeclaration: visitInside,
   ExportNamedDeclaration: (one, tree, here) => one.visitExport(tree, here),
   ExpressionStatement: (one, tree, here) => {
@@ -82,8 +82,7 @@ export const VISITS = {
   Identifier: (one, tree, here) => one.refer(tree.name, tree, here, true),
   IfStatement: visitInside,
   ImportAttribute: visitElsewhere,
-  ImportDeclaration: (one, tree, { scope }) => {
-    one.imports.push(tree);
+  ImportDeclaration: (_one, tree, { scope }) => {
     for (const { local } of tree.specifiers) scope.declare(local.name, "import");
   },
   ImportDefaultSpecifier: visitElsewhere,
