@@ -10,13 +10,11 @@ import { syncBuiltinESMExports } from "node:module";
 import { Writable } from "node:stream";
 import threads from "node:worker_threads";
 import { Board } from "../board/board.mjs";
-import { ORDER, WORD } from "../memory/layout.mjs";
-import { Log } from "../memory/log.mjs";
+import { ORDER } from "../memory/layout.mjs";
 import { RecordedMemory } from "../memory/recorded-memory.mjs";
 import { Notes } from "../memory/notes.mjs";
 import { Records } from "../memory/records.mjs";
 import { Sources } from "../memory/sources.mjs";
-import { Stores } from "../memory/stores.mjs";
 import { ownKeys, put } from "../primordials.mjs";
 import { onceMore } from "../processes/garbage.mjs";
 import { recordedAtomics } from "./atomics.mjs";
@@ -265,8 +263,8 @@ function playerOf({ memory, plan, rules }, { later, messages }) {
   return new Player(self.agent, {
     board,
     memory: buffers,
-    log: new Log(memory.log, board.words, WORD.EVENTS),
-    stores: new Stores(memory.stores, board.words, buffers),
+    log: board.logIn(memory.log),
+    stores: board.storesIn(memory.stores, buffers),
     records: new Records(memory.records[self.agent]),
     sources: new Sources(memory.sources[self.agent]),
     later,

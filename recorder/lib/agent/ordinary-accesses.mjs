@@ -2,7 +2,6 @@
 // have changed is taken as stores before the agent's next call.
 
 import { SIZES } from "../../script/kinds.mjs";
-import { WORD } from "../memory/layout.mjs";
 import { FLAG, NO_CALL, READ, WRITE } from "../memory/log.mjs";
 import { FIRST_MORE } from "../memory/more-blocks.mjs";
 import { numberHere } from "./frames.mjs";
@@ -60,7 +59,7 @@ export class OrdinaryAccesses {
   note(place, from, to, writes, made) {
     const { board, log, memory } = this.context;
     this.count += 1;
-    const notesLines = board.words[WORD.NOTES_SOURCES] === 1;
+    const { notesLines } = board.mode;
     const notesLine = notesLines && this.#notesLine(place.block, from, to);
     const repeats = this.repeats.note(place, from, to, writes);
     const isNew = repeats === REPEATED.NEW;
@@ -90,10 +89,8 @@ export class OrdinaryAccesses {
    * @returns {boolean} whether an access there notes its line
    */
   #notesLine(block, from, to) {
-    const { board: { noted, words } } = this.context;
-    if (words[WORD.LINES_LEFT] === 0) return noted.has(block, from, to);
-    words[WORD.LINES_LEFT] -= 1;
-    return true;
+    const { noted, mode } = this.context.board;
+    return mode.takesLine() || noted.has(block, from, to);
   }
 
   /**

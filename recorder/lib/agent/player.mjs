@@ -5,7 +5,7 @@ import { CALL_NUMBERS, SIZES } from "../../script/kinds.mjs";
 import { END } from "../board/deadlines.mjs";
 import { JOIN, LEAVE, MAKE, TIME_UP } from "../board/journal.mjs";
 import { placeNumber } from "../memory/known-places.mjs";
-import { PHASE, WORD } from "../memory/layout.mjs";
+import { PHASE } from "../memory/layout.mjs";
 import { FLAG } from "../memory/log.mjs";
 import { byteOf } from "../memory/recorded-memory.mjs";
 import { NOTED } from "./ordinary-accesses.mjs";
@@ -162,7 +162,7 @@ export class Player {
    */
   seen(place, from, to, writes) {
     const { part } = this;
-    if (part.isOver || this.context.board.words[WORD.ENDED] !== 0) part.interrupted();
+    if (part.isOver || this.context.board.end.mayHaveEnded()) part.interrupted();
     const noted = part.accesses.note(place, from, to, writes, part.made);
     if (noted === NOTED.SPINS) part.spins("it reads the same bytes again and again without a call of Atomics");
     if (noted !== NOTED.FULL) return;
@@ -172,8 +172,8 @@ export class Player {
   /** @returns {boolean} whether the agent prints nothing: its run is made only to learn or to compare, or is over */
   isSilent() {
     const { isOver, isPlaying } = this.part;
-    const { words } = this.context.board;
-    return words[WORD.IS_PILOT] === 1 || words[WORD.IS_SILENT] === 1 || (isPlaying && isOver);
+    const { mode } = this.context.board;
+    return mode.isPilot || mode.isSilent || (isPlaying && isOver);
   }
 
   /** @returns {number} what time it is in the run */
@@ -394,6 +394,6 @@ export class Player {
 
   /** @param {Function} called @returns {number} where the agent's code is, if sources are noted */
   #source(called) {
-    return this.context.board.words[WORD.NOTES_SOURCES] === 1 ? numberAbove(this.context.sources, called) : 0;
+    return this.context.board.mode.notesLines ? numberAbove(this.context.sources, called) : 0;
   }
 }

@@ -6,10 +6,11 @@ import { SCRIPT_LIMITS } from "../../script/limits.mjs";
 import { loopPlace } from "../memory/blocks.mjs";
 import { KnownPlaces } from "../memory/known-places.mjs";
 import { LOOP, ORDER, PHASE, WORD, wordsFor } from "../memory/layout.mjs";
-import { FLAG } from "../memory/log.mjs";
+import { FLAG, Log } from "../memory/log.mjs";
 import { NamedPlaces } from "../memory/named-places.mjs";
 import { NotedPlaces } from "../memory/noted-places.mjs";
 import { Random } from "../memory/random.mjs";
+import { Stores } from "../memory/stores.mjs";
 import { RealAnswers } from "./real-answers.mjs";
 import { AsyncWaiters } from "./async-waiters.mjs";
 import { Clock } from "./clock.mjs";
@@ -19,6 +20,8 @@ import { Journal, MOST_MOVES, MOVES } from "./journal.mjs";
 import { Lags } from "./lags.mjs";
 import { WaiterLine } from "./line.mjs";
 import { DIVERGES, DrawnSchedule, REAL_ANSWER } from "./drawn-schedule.mjs";
+import { ReadyThreads } from "./ready-threads.mjs";
+import { RunMode } from "./run-mode.mjs";
 import { Spins } from "./spins.mjs";
 import { NOBODY_CAN_MOVE, Strategy } from "./strategy.mjs";
 import { NEVER } from "./strategy/ways.mjs";
@@ -72,6 +75,8 @@ export class Board {
     const { agents } = rules;
     this.rules = rules;
     this.words = new Int32Array(memory.words);
+    this.mode = new RunMode(this.words);
+    this.ready = new ReadyThreads(this.words);
     this.end = new End(this.words, bufferFrom(memory.text));
     this.turn = new Turn(this.words, bufferFrom(memory.reasons), this.end, agents);
     this.waiters = memory.waiters === undefined ? undefined : new AsyncWaiters(memory.waiters);
@@ -102,7 +107,6 @@ export class Board {
     this.line.begin(this.rules.starts);
     this.waiters?.begin();
     this.words[WORD.JOINED] = this.rules.starts ?? this.rules.agents;
-    this.words[WORD.MESSAGES] = 0;
     this.words[WORD.MAY_REST] = 0;
     this.journal.begin();
     this.clock.begin(seed);
@@ -111,6 +115,35 @@ export class Board {
     this.vain?.begin();
     this.strategy.begin(seed, isPilot);
     this.turn.start(this.strategy.nextToStart());
+  }
+
+  /** @param {ArrayBufferLike} memory @returns {Log} of the run: the board's words have its length */
+  logIn(memory) {
+    return new Log(memory, this.words, WORD.EVENTS);
+  }
+
+  /**
+   * @param {ReturnType<typeof Stores.memory>} memory
+   * @param {import("../memory/recorded-memory.mjs").RecordedMemory} buffers
+   * @returns {Stores} of the run: the board's words have their number
+   */
+  storesIn(memory, buffers) {
+    return new Stores(memory, this.words, buffers);
+  }
+
+  /** @returns {number} the number of the run, or of what agent 0 was ordered to do else */
+  get run() {
+    return this.words[WORD.RUN];
+  }
+
+  /** @returns {number} how many threads of a program have joined the run */
+  get joined() {
+    return this.words[WORD.JOINED];
+  }
+
+  /** The run of a program is well if nothing can move any more. */
+  allowRest() {
+    this.words[WORD.MAY_REST] = 1;
   }
 
   /**

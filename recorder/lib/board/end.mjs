@@ -47,6 +47,14 @@ export class End {
     return load(this.words, WORD.ENDED) === ENDED;
   }
 
+  /**
+   * @returns {boolean} whether the run has ended, or an agent was asked to end it: what an agent reads at each ordinary
+   * access, so it is no atomic load
+   */
+  mayHaveEnded() {
+    return this.words[WORD.ENDED] !== GOES_ON;
+  }
+
   /** Asks the agent whose code runs to end the run, and to say where it is. */
   ask() {
     compareExchange(this.words, WORD.ENDED, GOES_ON, ASKED);

@@ -31,6 +31,7 @@ export class Journal {
     const { words } = this;
     words[WORD.MOVES] = 0;
     words[WORD.VIEWS] = 0;
+    words[WORD.MESSAGES] = 0;
     words[WORD.ROOM] = SCRIPT_LIMITS.text - OTHER_TEXT;
     for (let agent = 0; agent < this.agents; agent += 1) {
       words[wordOf(agent, AGENT_WORD.CALLS)] = 0;
@@ -59,6 +60,17 @@ export class Journal {
   /** @returns {number} how many moves were made */
   moves() {
     return this.words[WORD.MOVES];
+  }
+
+  /** @returns {number} how many messages of a program were sent */
+  get messages() {
+    return this.words[WORD.MESSAGES];
+  }
+
+  /** Counts a message that is sent. @returns {number} its number */
+  countMessage() {
+    this.words[WORD.MESSAGES] += 1;
+    return this.words[WORD.MESSAGES] - 1;
   }
 
   /**

@@ -34,6 +34,11 @@ export class RealAnswers {
     this.agents = agents;
   }
 
+  /** @returns {boolean} whether the agent that was drawn is to look for real answers */
+  get areLookedFor() {
+    return this.words[WORD.LOOKS] === 1;
+  }
+
   /** No agent waits for any. */
   begin() {
     const { words } = this;

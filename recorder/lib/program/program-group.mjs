@@ -6,7 +6,6 @@ import { MessageChannel } from "node:worker_threads";
 import { SCRIPT_LIMITS } from "../../script/limits.mjs";
 import { Board } from "../board/board.mjs";
 import { programWaysOf } from "../board/strategy/ways.mjs";
-import { WORD } from "../memory/layout.mjs";
 import { Pids } from "../memory/pids.mjs";
 import { REFUSED, Refused } from "../options/refused.mjs";
 import { assumed } from "../options/table.mjs";
@@ -26,8 +25,6 @@ const PROGRAM_MODULE = new URL("./program-worker.mjs", import.meta.url);
  * of code. If more are lost, further ones will be, so others begin in advance.
  */
 const FEW_TIMES = 3;
-
-const { store, notify } = Atomics;
 
 /** What a thread needs that makes modules anew, besides the words of this process. */
 const FLAGS = [...process.execArgv, ...GRAPH_FLAGS];
@@ -203,9 +200,7 @@ export class ProgramGroup extends Group {
     const { length } = this.agents;
     this.#prepare(length === 0 ? 1 : 0, count - Math.max(length, 1));
     for (let agent = length; agent < count; agent += 1) await this.#hand(agent, await this.#taken(agent));
-    const words = this.board?.words ?? new Int32Array(0);
-    store(words, WORD.THREADS, this.agents.length);
-    notify(words, WORD.THREADS);
+    if (this.board !== undefined) this.board.ready.count = this.agents.length;
   }
 
   /**

@@ -17,8 +17,6 @@ import { Chance, simulateChance, simulateTime } from "../agent/time.mjs";
 import { Board } from "../board/board.mjs";
 import { Blocks, MESSAGES } from "../memory/blocks.mjs";
 import { ThreadTexts } from "../memory/thread-texts.mjs";
-import { WORD } from "../memory/layout.mjs";
-import { Log } from "../memory/log.mjs";
 import { RecordedMemory } from "../memory/recorded-memory.mjs";
 import { FIRST_MORE } from "../memory/more-blocks.mjs";
 import { NamedPlaces } from "../memory/named-places.mjs";
@@ -26,7 +24,6 @@ import { Notes } from "../memory/notes.mjs";
 import { Pids } from "../memory/pids.mjs";
 import { Records } from "../memory/records.mjs";
 import { Sources } from "../memory/sources.mjs";
-import { Stores } from "../memory/stores.mjs";
 import { TaskNotes } from "../memory/task-notes.mjs";
 import { onceMore } from "../processes/garbage.mjs";
 import { SourceNames } from "../run/words/source-names.mjs";
@@ -168,8 +165,8 @@ function playerOf(agent) {
   const player = new Player(agent, {
     board,
     memory,
-    log: new Log(shared.log, board.words, WORD.EVENTS),
-    stores: new Stores(shared.stores, board.words, memory),
+    log: board.logIn(shared.log),
+    stores: board.storesIn(shared.stores, memory),
     records: new Records(shared.records[agent]),
     sources: new Sources(shared.sources[agent]),
     later: NOTHING_LATER,
@@ -212,7 +209,7 @@ function partsOf(player, blocks, control) {
   const noted = notingOf(board, notes);
   const around = { here, hereLater, refuse, later, note, noted, late };
   const ports = new surroundings.Ports({ agent, table, moves, buffers, control, ...around });
-  const isShown = () => board.words[WORD.IS_SILENT] === 0 && isPlaying();
+  const isShown = () => !board.mode.isSilent && isPlaying();
   const spawned = new Children(new Pids(shared.pids[agent]), isShown);
   const real = new RealWork(new Notes(shared.notes[agent]), spawned, here);
   const leave = leaveOf(player, late);
@@ -267,7 +264,7 @@ function installReplacements({ moves, buffers, waits, ends, ports, later, late, 
 
 /** @param {Board} board @param {TaskNotes} notes @returns {import("./ports/ports.mjs").PortContext["noted"]} */
 const notingOf = (board, notes) => (number, kind, value) => {
-  if (board.words[WORD.NOTES_SOURCES] === 1) notes.noteMessage(number, messageText(kind, value));
+  if (board.mode.notesLines) notes.noteMessage(number, messageText(kind, value));
 };
 
 /**
@@ -280,7 +277,7 @@ const notingOf = (board, notes) => (number, kind, value) => {
 function nameBlock({ agent, context: { board, lengths } }, block, place, count) {
   if (block < FIRST_MORE) new ThreadTexts(shared.madeAt[block]).setName(place);
   if (place === "" || !(board.places instanceof NamedPlaces)) return;
-  board.places.name(block, `${agent} ${place} ${count}`, lengths[block], board.words[WORD.IS_PILOT] === 1);
+  board.places.name(block, `${agent} ${place} ${count}`, lengths[block], board.mode.isPilot);
 }
 
 /** @returns {string} the thread, before what it prints */
@@ -301,7 +298,7 @@ function begin(parts, graph) {
     ? { start: surroundings.mainStart(control.main), parentPort: null } : takenStart(parts);
   self.start = start;
   forgetError();
-  if (board.words[WORD.NOTES_SOURCES] === 1) awaits.begin(threadTexts);
+  if (board.mode.notesLines) awaits.begin(threadTexts);
   threadTexts.setName(start.where === "" ? "" : `${threadName(start)}, started at ${start.where}`);
   if (agent !== 0) ends.parentPort = parentPort;
   surroundings.begin(parts, start, parentPort);
@@ -374,7 +371,7 @@ export async function main() {
   chance.begin(0);
   const { player, blocks } = playerOf(agent);
   const { board } = player.context;
-  const parts = partsOf(player, blocks, new ControlChannels(given, port, board.words));
+  const parts = partsOf(player, blocks, new ControlChannels(given, port, board));
   self.player = player;
   self.buffers = parts.buffers;
   self.moves = parts.moves;

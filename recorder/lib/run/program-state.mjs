@@ -4,7 +4,6 @@
 import { PortTable } from "../board/port-table.mjs";
 import { Blocks, FEW_MESSAGES, MESSAGES, MESSAGE_PLACES, MOST_BLOCKS, MOST_BYTES } from "../memory/blocks.mjs";
 import { ThreadTexts } from "../memory/thread-texts.mjs";
-import { WORD } from "../memory/layout.mjs";
 import { TaskNotes } from "../memory/task-notes.mjs";
 import { thrownIn } from "./ending/failure.mjs";
 import { moreBytesOf } from "./ending/final-state.mjs";
@@ -83,8 +82,8 @@ export class ProgramState {
   /** A run has ended: its plan is known. @returns {number[]} the threads that took part */
   learn() {
     const { plan, board, blocks } = this;
-    blocks.refresh(board.words[WORD.MESSAGES]);
-    plan.agents = board.words[WORD.JOINED];
+    blocks.refresh(board.journal.messages);
+    plan.agents = board.joined;
     plan.canBlock.length = plan.agents;
     // The first one of a program for browsers can't.
     plan.canBlock.fill(true, 1);
@@ -106,14 +105,14 @@ export class ProgramState {
 
   /** @returns {string | undefined} why unordered accesses of the run may be missed, if so */
   get whyMissed() {
-    return this.board.words[WORD.MESSAGES] > MESSAGE_PLACES ? CROWDED : undefined;
+    return this.board.journal.messages > MESSAGE_PLACES ? CROWDED : undefined;
   }
 
   /** @param {Written | undefined} written @returns {string | undefined} why the run can't have a script, if so */
   whyNoScript(written) {
     if (written === undefined) return MORE_MEMORY;
     if (this.ports.isCut()) return CUT;
-    if (this.board.words[WORD.MESSAGES] > FEW_MESSAGES && (this.board.waiters?.joined ?? 0) > 0) return CROWDED_ASYNC;
+    if (this.board.journal.messages > FEW_MESSAGES && (this.board.waiters?.joined ?? 0) > 0) return CROWDED_ASYNC;
     if (this.board.waiters?.hasMissed) return CUT_ASYNC;
     return written.windows !== undefined && written.stores.isLost() ? LOST : undefined;
   }
@@ -126,7 +125,7 @@ export class ProgramState {
 
   /** @returns {number[]} all threads that there are, also those that took no part */
   get all() {
-    return Array.from({ length: Atomics.load(this.board.words, WORD.THREADS) }, (_, agent) => agent);
+    return Array.from({ length: this.board.ready.count }, (_, agent) => agent);
   }
 
   /** @returns {number[]} the threads that took part */

@@ -2,7 +2,6 @@
 // wanted, the run is made once more by the same seed, and then each access notes its line.
 
 import { workerData } from "node:worker_threads";
-import { WORD } from "../memory/layout.mjs";
 import { Log } from "../memory/log.mjs";
 import { onceMore } from "../processes/garbage.mjs";
 import { firstDifferent } from "./differing-events.mjs";
@@ -111,7 +110,7 @@ class Referee {
       isSeen &&= pilots.areWorth(log);
       this.sinceFresh += 1;
     }
-    board.words[WORD.IS_PILOT] = 0;
+    board.mode.isPilot = false;
     if (isSeen) pilots.teach();
     else state.forget();
     if (!kind.keepsThreads) await maker.replace(maker.agents);

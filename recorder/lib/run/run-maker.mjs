@@ -3,11 +3,9 @@
 
 import { Board } from "../board/board.mjs";
 import { divergenceText } from "../board/drawn-schedule.mjs";
-import { NOBODY, ORDER, WORD } from "../memory/layout.mjs";
-import { Log } from "../memory/log.mjs";
+import { NOBODY, ORDER } from "../memory/layout.mjs";
 import { RecordedMemory } from "../memory/recorded-memory.mjs";
 import { Notes } from "../memory/notes.mjs";
-import { Stores } from "../memory/stores.mjs";
 import { agentsState } from "./agents-state.mjs";
 import { initialStores } from "./initial.mjs";
 import { isRacy } from "./races/races.mjs";
@@ -90,8 +88,8 @@ export class RunMaker {
     this.sourceNames = sourceNames;
     this.board = new Board(memory.board, rules);
     this.memory = new RecordedMemory(memory.buffers, memory.copies);
-    this.log = new Log(memory.log, this.board.words, WORD.EVENTS);
-    this.stores = new Stores(memory.stores, this.board.words, this.memory);
+    this.log = this.board.logIn(memory.log);
+    this.stores = this.board.storesIn(memory.stores, this.memory);
     this.notes = memory.notes.map((each) => new Notes(each));
     this.agents = plan.canBlock.map((_, agent) => agent);
     /** @type {import("./agents-state.mjs").RunState} */
@@ -108,7 +106,7 @@ export class RunMaker {
   async made(wanted, lines) {
     const { board, memory, plan, options, sourceNames, state } = this;
     this.#clear(wanted);
-    board.words[WORD.IS_SILENT] = wanted.isSilent === true ? 1 : 0;
+    board.mode.isSilent = wanted.isSilent === true;
     const problem = options.init === undefined ? "" : await this.#asked("init");
     const initial = options.init === undefined ? [] : initialStores(memory, plan.agents);
     if (problem !== "") {
@@ -116,8 +114,7 @@ export class RunMaker {
       const nothing = { ...none, bytes: memory.hex(), initial };
       return { ending: "failed", detail: `init ${problem}`, ...nothing };
     }
-    board.words[WORD.NOTES_SOURCES] = lines === LINES.NONE ? 0 : 1;
-    board.words[WORD.LINES_LEFT] = lines;
+    board.mode.noteLines(lines);
     board.begin(wanted.seed);
     const result = await this.#ended();
     this.agents = state.learn();
@@ -179,18 +176,18 @@ export class RunMaker {
   async pilot(seed) {
     const { board, options } = this;
     this.#clear({ seed, whole: false });
-    board.words[WORD.IS_PILOT] = 1;
+    board.mode.isPilot = true;
     if (options.init !== undefined && (await this.#asked("init")) !== "") return false;
     // Else the first agent that is looked at would seem to have written what `init` left, and end the pilot.
     if (options.init !== undefined) initialStores(this.memory, this.plan.agents);
-    board.words[WORD.NOTES_SOURCES] = 0;
-    board.words[WORD.IS_SILENT] = 1;
+    board.mode.noteLines(LINES.NONE);
+    board.mode.isSilent = true;
     board.begin(seed, true);
     const isSilent = board.turn.awaitEnd(Math.min(options.seconds, options.kind.pilotSeconds));
     this.agents = this.state.learn();
     await this.replace(this.#cancelled());
     // If ordinary reads aren't seen, nobody knows what an agent does between its calls.
-    const isHidden = options.ordinary !== "watch" && board.words[WORD.STORES] > 0;
+    const isHidden = options.ordinary !== "watch" && this.stores.count > 0;
     return !isSilent && !isHidden;
   }
 
@@ -204,7 +201,7 @@ export class RunMaker {
 
   /** Whether the agents made no call and no access, as far as it is seen, on recorded memory. */
   #triedNothing() {
-    return this.callCount() + this.accessCount() + this.board.words[WORD.STORES] === 0;
+    return this.callCount() + this.accessCount() + this.stores.count === 0;
   }
 
   /** How many calls of Atomics were begun. */

@@ -2,7 +2,6 @@
 // a message, a timer, an immediate, or one of the thread's own; the seed draws which. The thread's real loop turns only
 // while modules are read, and before the thread ends.
 
-import { WORD } from "../../memory/layout.mjs";
 import { Random } from "../../memory/random.mjs";
 import { runTicks, underWay } from "../node/internals.mjs";
 import { KeptAlive } from "./kept-alive.mjs";
@@ -72,7 +71,7 @@ export class Loop {
 
   /** Whether it is noted what the loop begins. */
   get #notes() {
-    return this.served.moves.board.words[WORD.NOTES_SOURCES] === 1;
+    return this.served.moves.board.mode.notesLines;
   }
 
   /** @param {string} text what begins now, or is done @param {string} [place] where it was made, or is done */

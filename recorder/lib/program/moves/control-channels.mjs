@@ -2,13 +2,11 @@
 // loop takes it. Threads are started by them, and learn about buffers.
 
 import threads from "node:worker_threads";
-import { WORD } from "../../memory/layout.mjs";
 import { uncurried } from "../../primordials.mjs";
 import { UNREAD, nextOf } from "./unread.mjs";
 
 const { receiveMessageOnPort: receive } = threads;
 const post = uncurried(threads.MessagePort.prototype.postMessage);
-const { load, wait } = Atomics;
 
 /** @typedef {import("node:worker_threads").MessagePort} MessagePort */
 /** @typedef {Record<string, any>} ControlMessage what one thread hands to another */
@@ -34,12 +32,12 @@ export class ControlChannels {
   /**
    * @param {NumberedThread} numbered what the thread got with its number
    * @param {MessagePort} port to the thread that has started this one
-   * @param {Int32Array} words of the board
+   * @param {import("../../board/board.mjs").Board} board
    */
-  constructor({ control, main }, port, words) {
+  constructor({ control, main }, port, board) {
     this.control = control;
     this.port = port;
-    this.words = words;
+    this.board = board;
     this.#main = main;
   }
 
@@ -62,12 +60,10 @@ export class ControlChannels {
    * @param {number} count
    */
   needs(count) {
-    const { words } = this;
-    if (load(words, WORD.THREADS) >= count) return;
+    const { ready } = this.board;
+    if (ready.count >= count) return;
     post(this.port, { more: count });
-    for (let there = load(words, WORD.THREADS); there < count; there = load(words, WORD.THREADS)) {
-      wait(words, WORD.THREADS, there);
-    }
+    ready.await(count);
   }
 
   /**
@@ -78,7 +74,7 @@ export class ControlChannels {
    */
   hand(agent, item, transferred = []) {
     this.#meet();
-    post(this.#peers[agent], { ...item, run: this.words[WORD.RUN] }, transferred);
+    post(this.#peers[agent], { ...item, run: this.board.run }, transferred);
   }
 
   /**
@@ -98,7 +94,7 @@ export class ControlChannels {
     this.#meet();
     for (let agent = 0; agent < this.#peers.length; agent += 1) {
       const peer = this.#peers[agent];
-      if (peer !== undefined) post(peer, { ...item, run: this.words[WORD.RUN] });
+      if (peer !== undefined) post(peer, { ...item, run: this.board.run });
     }
   }
 
@@ -121,7 +117,7 @@ export class ControlChannels {
         continue;
       }
       // What another run has left belongs to no thread.
-      if (found.message.run === this.words[WORD.RUN]) this.#takers[found.message.kind](found.message, ahead);
+      if (found.message.run === this.board.run) this.#takers[found.message.kind](found.message, ahead);
       ahead = undefined;
     }
   }

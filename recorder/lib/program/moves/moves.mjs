@@ -5,7 +5,7 @@
 import { CALL_NUMBERS, CONSTRUCTORS, KINDS, SIZES } from "../../../script/kinds.mjs";
 import { LEAVE, TIME_UP } from "../../board/journal.mjs";
 import { FEW_MESSAGES, LOOP_PLACES, MESSAGES, MESSAGE_PLACES, PORT_PLACES } from "../../memory/blocks.mjs";
-import { LOOP, NOWHERE, PHASE, WORD } from "../../memory/layout.mjs";
+import { LOOP, NOWHERE, PHASE } from "../../memory/layout.mjs";
 import { FLAG } from "../../memory/log.mjs";
 import { byteOf } from "../../memory/recorded-memory.mjs";
 import { bufferOf } from "../../primordials.mjs";
@@ -56,18 +56,17 @@ export class Moves {
    * @returns {number} the message's number
    */
   send(called, to) {
-    const { words } = this.board;
+    const { journal } = this.board;
     // Other threads may send messages before it is this one's turn, so the number is known only then.
     const call = this.#edge(to === TO_CHANNELS ? LOOP_PLACES : to);
     if (to === TO_CHANNELS) call.bytes = 4 * (PORT_PLACES - LOOP_PLACES);
     this.count();
     this.player.make(call, this.view, called, () => {
-      const { index, length } = placeOf(words[WORD.MESSAGES]);
+      const { index, length } = placeOf(journal.countMessage());
       call.index = index;
       call.length = length;
-      words[WORD.MESSAGES] += 1;
     });
-    return words[WORD.MESSAGES] - 1;
+    return journal.messages - 1;
   }
 
   /**
@@ -75,10 +74,9 @@ export class Moves {
    * @returns {number} its number
    */
   sendNow() {
-    const { words } = this.board;
-    words[WORD.MESSAGES] += 1;
-    this.player.note(this.#edge(words[WORD.MESSAGES] - 1), this.view);
-    return words[WORD.MESSAGES] - 1;
+    const message = this.board.journal.countMessage();
+    this.player.note(this.#edge(message), this.view);
+    return message;
   }
 
   /**
@@ -315,7 +313,7 @@ export class Moves {
       part.isPlaying = false;
       return false;
     }
-    if (board.words[WORD.LOOKS] === 1) this.#looks(byThemselves);
+    if (board.answers.areLookedFor) this.#looks(byThemselves);
     else this.#begin(milliseconds);
     return true;
   }

@@ -1,7 +1,7 @@
 // The threads of a program's run. A thread begins when another has started it, and ends by itself or by another one.
 // Then those that it has started end too, and its ports are closed.
 
-import { AGENT_WORD, PHASE, WORD, wordOf } from "../../memory/layout.mjs";
+import { PHASE } from "../../memory/layout.mjs";
 
 export class Threads {
   /** @type {(agent: number) => void} is called when a thread ends */
@@ -33,7 +33,7 @@ export class Threads {
 
   /** @param {number} agent @returns {boolean} whether it hasn't ended */
   isAlive(agent) {
-    return this.board.words[wordOf(agent, AGENT_WORD.PHASE)] !== PHASE.FINISHED;
+    return this.board.line.phase(agent) !== PHASE.FINISHED;
   }
 
   /**
@@ -54,7 +54,7 @@ export class Threads {
 
   /** @param {number} agent that ends */
   endChildren(agent) {
-    for (let other = 1; other < this.board.words[WORD.JOINED]; other += 1) {
+    for (let other = 1; other < this.board.joined; other += 1) {
       if (this.table.parent(other) === agent) this.end(other);
     }
   }

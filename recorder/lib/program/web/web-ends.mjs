@@ -4,7 +4,6 @@
 
 import process from "node:process";
 import { described } from "../../agent/described.mjs";
-import { WORD } from "../../memory/layout.mjs";
 import { Ends } from "../workers/ends.mjs";
 import { leaveContexts } from "../node/internals.mjs";
 import { KIND } from "../ports/ports.mjs";
@@ -101,7 +100,7 @@ export class WebEnds extends Ends {
   evaluated() {
     super.evaluated();
     const { agent, player } = this.leaving;
-    if (agent === 0) player.context.board.words[WORD.MAY_REST] = 1;
+    if (agent === 0) player.context.board.allowRest();
   }
 
   /** The program's code ends its thread, when the task has ended. */

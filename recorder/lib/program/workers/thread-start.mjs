@@ -2,7 +2,6 @@
 // and joins the run.
 
 import { SCRIPT_LIMITS } from "../../../script/limits.mjs";
-import { WORD } from "../../memory/layout.mjs";
 import { toThread } from "../moves/moves.mjs";
 
 /**
@@ -33,10 +32,9 @@ import { toThread } from "../moves/moves.mjs";
  */
 export function startThread(starting, given, transferList, called) {
   const { ports, moves, control, buffers, threads, locks, here, refuse } = starting;
-  const { words } = moves.board;
   const among = ports.among(transferList);
-  const number = moves.send(called, toThread(words[WORD.JOINED]));
-  const agent = words[WORD.JOINED];
+  const number = moves.send(called, toThread(moves.board.joined));
+  const agent = moves.board.joined;
   if (agent === SCRIPT_LIMITS.agents) refuse(`started a Worker more than the ${agent} threads that a run can have`);
   control.needs(agent + 1);
   buffers.handTo(agent);
