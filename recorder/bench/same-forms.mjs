@@ -45,7 +45,8 @@ export async function inAllForms(urls, base) {
     const own = await learned(urls);
     /** @type {[string, any[]][]} */
     const others = [];
-    for (const [form, some] of Object.entries(await formsOf(folder, urls, base))) others.push([form, await learned(some)]);
+    const forms = Object.entries(await formsOf(folder, urls, base));
+    for (const [form, some] of forms) others.push([form, await learned(some)]);
     return urls.map((url, at) => {
       const differing = others.filter(([, results]) => textOf(results[at]) !== textOf(own[at]));
       return { url, own: own[at], differs: differing.map(([form, results]) => `${form}: ${textOf(results[at])}`) };
