@@ -9,7 +9,7 @@ import { Kinds, blocksIn } from "../lib/every/search/result.mjs";
 
 const { urls, flaw, limit, isUnmergedToo = true } = workerData;
 const asker = new Asker();
-installRealm(asker);
+const platform = installRealm(asker);
 installShown();
 
 /** @param {import("../lib/every/learning/learned-code.mjs").LearnedCode} code @param {boolean} isUnmerged */
@@ -29,7 +29,7 @@ function learned(code, isUnmerged) {
 /** @param {string} url */
 function both(url) {
   try {
-    const code = loadCode(url, asker, flaw);
+    const code = loadCode(url, asker, platform, flaw);
     const merged = learned(code, false);
     return isUnmergedToo ? { merged, unmerged: learned(code, true) } : { merged };
   } catch (problem) {

@@ -21,6 +21,7 @@ declare namespace NodeJS {
     getColumnNumber(): number | null;
     getMethodName(): string | null;
     getPosition(): number;
+    getTypeName(): string | null;
     isConstructor(): boolean;
   }
 

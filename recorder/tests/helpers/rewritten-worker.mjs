@@ -3,8 +3,13 @@
 import util from "node:util";
 import { parentPort, workerData } from "node:worker_threads";
 import { AgentModules } from "../../lib/every/learning/agent-modules.mjs";
+import { NodePlatform } from "../../lib/every/learning/node-platform.mjs";
 import { beginInstalled } from "../../lib/every/state/installed.mjs";
 import { Runtime } from "../../lib/every/state/runtime.mjs";
+
+const PLATFORM = new NodePlatform((what) => {
+  throw new Error(what);
+});
 
 /** @param {unknown} thrown */
 const textOf = (thrown) => (thrown instanceof Error ? `${thrown.name}: ${thrown.message}` : util.inspect(thrown));
@@ -29,7 +34,7 @@ function saidBy(exported) {
 function rewrittenExports(url) {
   const runtime = new Runtime();
   runtime.installed = beginInstalled();
-  const graph = new AgentModules();
+  const graph = new AgentModules(PLATFORM);
   graph.take(url, true);
   return graph.made(runtime.calls).get(url) ?? {};
 }

@@ -110,8 +110,8 @@ async function differing(given, load) {
   const { module, args, isShared, plan } = given;
   const asker = new Asker();
   asker.onCall = showing(new Int32Array(given.progress));
-  installRealm(asker);
-  const agentNow = given.isFresh ? madeAnew(module) : await asItIs(module, load);
+  const platform = installRealm(asker);
+  const agentNow = given.isFresh ? madeAnew(module, platform) : await asItIs(module, load);
   asker.begin(plan.buffers, basesOf(plan.buffers).bases);
   const agents = { count: plan.agents, args, canBlock: plan.canBlock, isShared };
   const learner = new Learner(asker, agents, { agentNow, line: () => "" });
@@ -129,9 +129,13 @@ async function asItIs(module, load) {
   return () => agent;
 }
 
-/** @param {string} module @returns {() => Function} its agent's function, each time of modules that begin anew */
-function madeAnew(module) {
-  const graph = new AgentModules(true);
+/**
+ * @param {string} module
+ * @param {import("./node-platform.mjs").NodePlatform} platform
+ * @returns {() => Function} its agent's function, each time of modules that begin anew
+ */
+function madeAnew(module, platform) {
+  const graph = new AgentModules(platform, true);
   graph.take(module, true);
   return () => graph.made({}).get(module)?.default;
 }

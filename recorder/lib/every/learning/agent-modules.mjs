@@ -1,7 +1,6 @@
 // The agents' modules, rewritten and compiled once, and made anew as often as that is needed.
 
 import { readFileSync } from "node:fs";
-import { createRequire } from "node:module";
 import { basename } from "node:path";
 import { fileURLToPath } from "node:url";
 import { Script } from "node:vm";
@@ -20,23 +19,16 @@ import { rewritten } from "../rewriting/rewrite.mjs";
  * @property {(string | object)[]} imports the URLs of the modules that it imports, and what node's own export
  */
 
-/** Modules of node's that keep nothing. */
-const HARMLESS = new Set(["node:assert", "node:assert/strict", "node:util", "node:path"]);
-
-const required = createRequire(import.meta.url);
-
-/** @param {string} name of a module of node's @returns {object} what an import of it has */
-function exportsOf(name) {
-  const exported = required(name);
-  return { ...exported, default: exported };
-}
-
 /** @param {string} source */
 const parsed = (source) => parseScript(source, { ecmaVersion: "latest", sourceType: "module" });
 
 export class AgentModules {
-  /** @param {boolean} [isPlain] whether nothing is to show what the modules keep */
-  constructor(isPlain = false) {
+  /**
+   * @param {import("./node-platform.mjs").NodePlatform} platform
+   * @param {boolean} [isPlain] whether nothing is to show what the modules keep
+   */
+  constructor(platform, isPlain = false) {
+    this.platform = platform;
     this.isPlain = isPlain;
     /** @type {Map<string, Rewritten>} by the modules' URLs */
     this.texts = new Map();
@@ -47,6 +39,8 @@ export class AgentModules {
     this.isEntryImported = false;
     /** @type {Record<string, object>} what node's own modules export, by their names */
     this.nodes = {};
+    /** @type {WeakSet<object>} what has the exports of each module */
+    this.namespaces = new WeakSet();
   }
 
   /**
@@ -82,9 +76,7 @@ export class AgentModules {
       this.take(url);
       return url;
     }
-    const name = basename(parent);
-    if (!HARMLESS.has(url)) throw new Refused(`--all can't show what agents keep in ${url}, which ${name} imports`);
-    this.nodes[url] ??= exportsOf(url);
+    this.nodes[url] ??= this.platform.module(url);
     return this.nodes[url];
   }
 
@@ -96,6 +88,7 @@ export class AgentModules {
   made(calls) {
     /** @type {Map<string, Record<string, any>>} */
     const exports = new Map(this.modules.map(({ url }) => [url, Object.create(null)]));
+    for (const own of exports.values()) this.namespaces.add(own);
     for (const { url, make, imports } of this.modules) {
       const own = /** @type {Record<string, any>} */ (exports.get(url));
       const others = imports.map((one) => (typeof one === "string" ? exports.get(one) : one));

@@ -99,6 +99,8 @@ export class Asker {
       return body();
     } finally {
       this.onCall(PART.NONE);
+      // Whether it was caught or not.
+      if (this.refused !== undefined) throw this.refused;
     }
   }
 

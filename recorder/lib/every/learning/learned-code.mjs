@@ -7,6 +7,7 @@ import { Refused } from "../../options/refused.mjs";
 import { NamedBuiltins } from "../state/named-builtins.mjs";
 import { Capture } from "../state/capture.mjs";
 import { beginInstalled } from "../state/installed.mjs";
+import { guardOwn } from "../state/own-objects.mjs";
 import { Runtime } from "../state/runtime.mjs";
 import { CantShow } from "../state/walk.mjs";
 import { keyOf } from "./asked-nodes.mjs";
@@ -108,20 +109,27 @@ export class LearnedCode {
  * Loads the agents' code.
  * @param {string} url
  * @param {import("./asking.mjs").Asker} asker that is to say where agents are
+ * @param {import("./node-platform.mjs").NodePlatform} platform
  * @param {{ hides?: string }} [flaw] what is left out of its state on purpose, for tests
  * @returns {LearnedCode}
  * @throws {Refused} if a module of it can't be shown or loaded
  */
-export function loadCode(url, asker, flaw) {
+export function loadCode(url, asker, platform, flaw) {
+  guardOwn(undefined);
   const runtime = new Runtime();
-  const own = new AgentModules();
+  const own = new AgentModules(platform);
   own.take(PRELUDE);
   installLoops(own.made(runtime.calls).get(PRELUDE)?.loops);
-  const graph = new AgentModules();
+  const graph = new AgentModules(platform);
   graph.take(url, true);
   const builtins = new NamedBuiltins();
-  builtins.take(graph.nodes);
-  builtins.close();
+  builtins.take({ ...platform.others(), ...graph.nodes });
+  guardOwn({
+    nameOf: (object) => builtins.nameOf(object),
+    isNamespace: (object) => graph.namespaces.has(object),
+    add: (object, name) => void builtins.names.set(object, name),
+    refuse: (why) => asker.refuse(why),
+  });
   runtime.installed = beginInstalled();
   const texts = new Map([...own.texts, ...graph.texts]);
   const capture = new Capture(runtime, builtins, texts, flaw);

@@ -53,9 +53,9 @@ function isChanged() {
 function reported(given) {
   const words = new Int32Array(given.progress);
   asker.onCall = showing(words);
-  installRealm(asker);
+  const platform = installRealm(asker);
   installShown();
-  code = loadCode(given.module, asker, given.flaw);
+  code = loadCode(given.module, asker, platform, given.flaw);
   const learned = new Learned(code, asker, given);
   const until = now() + 1_000 * given.within;
   const search = learned.search((states) => {

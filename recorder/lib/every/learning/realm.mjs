@@ -5,21 +5,19 @@ import { syncBuiltinESMExports } from "node:module";
 import { types } from "node:util";
 import { recordedAtomics } from "../../agent/atomics.mjs";
 import { blockNumber } from "../../agent/ordinary/context.mjs";
-import { replace } from "../../agent/ordinary/patch.mjs";
 import { watchOrdinary } from "../../agent/ordinary/watch.mjs";
 import { simulateChance, simulateTime } from "../../agent/time.mjs";
-import { apply } from "../../primordials.mjs";
 import { previewEntries } from "../../program/node/internals.mjs";
-import { OWN_NAMES } from "../rewriting/naming.mjs";
 import { watchInstalled } from "../state/installed.mjs";
 import { standForIterators } from "../state/shown-iterators.mjs";
+import { checkEngineWrites } from "./engine-writes.mjs";
 import { knowNext } from "./iterators.mjs";
-
-const SAYS = /** @type {const} */ (["log", "error", "warn", "info", "debug"]);
+import { NodePlatform } from "./node-platform.mjs";
 
 /**
  * Replaces what shows an agent the world. It is called once, before any of the agents' code is loaded.
  * @param {import("./asking.mjs").Asker} asker
+ * @returns {NodePlatform} what stands for node's modules
  */
 export function installRealm(asker) {
   const isRecording = () => asker.run !== undefined;
@@ -49,12 +47,12 @@ export function installRealm(asker) {
     unseen: new Others(),
     endUnseen: () => refuse("it uses shared memory that isn't recorded"),
   }));
-  for (const name of SAYS) /** @type {any} */ (console)[name] = () => {};
   watchInstalled();
-  hideTexts(refuse);
+  checkEngineWrites(refuse);
   // An async function of an agent that is broken off leaves a promise, and nobody waits for it.
   process.on("unhandledRejection", () => {});
   syncBuiltinESMExports();
+  return new NodePlatform(refuse).install();
 }
 
 /**
@@ -97,17 +95,4 @@ class Others {
   }
 
   wait() {}
-}
-
-/**
- * The text of a rewritten function isn't the text that was written.
- * @param {(what: string) => never} refuse
- */
-function hideTexts(refuse) {
-  replace(Function.prototype, "toString", (engine) => ({
-    toString() {
-      const text = apply(engine, this, []);
-      return OWN_NAMES.test(text) ? refuse("it reads the text of a function") : text;
-    },
-  }).toString);
 }

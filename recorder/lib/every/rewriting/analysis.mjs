@@ -2,7 +2,6 @@
 // something can't be shown is refused, with its line.
 
 import { Refused } from "../../options/refused.mjs";
-import { SAFE_GLOBALS, NOT_CALLED, HIDDEN_MEMBERS, isAllowedUse } from "./allowed.mjs";
 import { Info, Scope, newId } from "./scopes.mjs";
 import { ownNameIn } from "./naming.mjs";
 import { hasExpressions, isMethod, runsCode } from "./tree.mjs";
@@ -229,8 +228,6 @@ export class Analysis {
       this.metaUrls.push(tree);
       return;
     }
-    const name = computed ? property.value : property.name;
-    if (HIDDEN_MEMBERS.has(name)) this.refuse(tree, `.${name}`);
     this.visit(object, here);
     if (computed) this.visit(property, here);
   }
@@ -322,8 +319,6 @@ export class Analysis {
       case "ObjectPattern":
         for (const one of pattern.properties) {
           if (one.computed) this.visit(one.key, here);
-          const name = one.computed ? one.key.value : one.key?.name ?? one.key?.value;
-          if (HIDDEN_MEMBERS.has(name)) this.refuse(one, `.${name}`);
           this.visitPattern(one.type === "RestElement" ? one.argument : one.value, here, isDeclared);
         }
         return;
@@ -352,7 +347,7 @@ export class Analysis {
   #resolve() {
     for (const reference of this.references) {
       reference.binding = reference.scope.find(reference.name);
-      if (reference.binding === undefined) this.#needsAllowed(reference);
+      if (reference.binding === undefined) this.#needsConstant(reference);
       else if (!reference.reads) reference.binding.isAssigned = true;
     }
     for (const reference of this.references) {
@@ -379,11 +374,11 @@ export class Analysis {
     if (info.isOpaque || isOther) info.isHidden = true;
   }
 
-  /** @param {Reference} reference to what the module doesn't bind */
-  #needsAllowed({ name, start, end }) {
-    if (!SAFE_GLOBALS.has(name)) this.refuse({ start }, `\`${name}\`, which isn't among the names that agents may use`);
-    if (!NOT_CALLED.has(name) || isAllowedUse(this.source, name, start, end)) return;
-    this.refuse({ start }, `\`${name}\` used in this way`);
+  /** @param {Reference} reference to what the module doesn't bind: what the realm has, or nothing */
+  #needsConstant({ name, start, reads }) {
+    // A module's function has others than the module, which has none.
+    if (name === "arguments") this.refuse({ start }, "`arguments` outside of a function");
+    if (!reads && Reflect.has(globalThis, name)) this.refuse({ start }, `\`${name}\` gets another value`);
   }
 }
 

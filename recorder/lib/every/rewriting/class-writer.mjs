@@ -5,6 +5,7 @@ import { EXPRESSIONS } from "./expressions.mjs";
 import { NAME_OF_KEY } from "./function-names.mjs";
 import { newId } from "./scopes.mjs";
 import { isClass, isMethod } from "./tree.mjs";
+import { STAMP_CHECK, stampsObjects } from "./write-guards.mjs";
 
 /** @typedef {import("./tree.mjs").Tree} Tree */
 /** @typedef {import("./scopes.mjs").Info} Info */
@@ -19,6 +20,7 @@ export function writeClass(writer, tree, info) {
   const shown = `${readerOf(body)}, ${methodsOf(writer, body)}, ${writer.cells(own)}`;
   const isHome = writer.analysis.homes.has(tree);
   const more = `{ keys: [${keys.join(", ")}], isHidden: ${own.isOpaque}, isHome: ${isHome} }`;
+  if (stampsObjects(tree)) writer.edits.before(start + 1, STAMP_CHECK);
   writer.edits.before(start + 1, `static { $R.cls(${newId()}, this, ${shown}, ${more}); }`);
 }
 

@@ -42,6 +42,7 @@ export function rewritten(text, { url, isAlone, isPlain = false }) {
       writer.registerDeclared(0, tree.body);
       writer.writeAll(tree.body, null);
     });
+    writer.guards.needsAll();
   }
   const { code, original } = edits.made();
   const places = new CallSites(analysis);

@@ -9,6 +9,7 @@ import { EXPRESSIONS } from "./expressions.mjs";
 import { NAME_OF_KEY, givingName, namesOfFunctions } from "./function-names.mjs";
 import { STATEMENTS, WITHOUT_FRAME } from "./statements.mjs";
 import { childrenOf, isClass, isConstant, isFunction, isMethod, runsCode } from "./tree.mjs";
+import { WriteGuards } from "./write-guards.mjs";
 
 /** @typedef {import("./tree.mjs").Tree} Tree */
 /** @typedef {import("./scopes.mjs").Info} Info */
@@ -29,6 +30,7 @@ export class CodeWriter {
     this.source = analysis.source;
     this.edits = new Edits(analysis.source);
     this.names = namesOfFunctions(analysis.tree);
+    this.guards = new WriteGuards(analysis, this.edits);
     this.temporaries = 0;
     this.variables = 0;
     /**
@@ -45,6 +47,7 @@ export class CodeWriter {
    */
   write(tree, info, isMethodsValue = false) {
     if (tree === null || tree === undefined) return;
+    this.guards.write(tree);
     if (tree.type === "ObjectExpression") this.#noteKeys(tree);
     if (isFunction(tree)) this.#writeFunction(tree, isMethodsValue);
     else if (isClass(tree)) writeClass(this, tree, info);

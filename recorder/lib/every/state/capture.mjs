@@ -123,7 +123,9 @@ export class Capture {
     if (called !== undefined) this.#needsOneWay(place, called);
     const isSame = frame.id === place.fn && site.isConstructor() === place.makes;
     if (!isSame) throw new CantShow("another function than was seen");
-    walk.put(`|${place.fn}:${position}`);
+    // The text of a stack has these, whether they can be read otherwise or not.
+    const shown = `${name} ${site.getTypeName() ?? ""} ${site.getMethodName() ?? ""}`;
+    walk.put(`|${place.fn}:${position} ${JSON.stringify(shown)}`);
     for (const [scope, index] of place.alive) walk.cell([frame.e[scope], index]);
     if (this.flaw.hides !== "temporaries") {
       for (const id of place.kept) {

@@ -4,6 +4,10 @@
 import { types } from "node:util";
 import { methodOf, replace } from "../../agent/ordinary/patch.mjs";
 import { apply, construct, getOwnPropertyDescriptor, isObject, ownKeys, proxyOf, put } from "../../primordials.mjs";
+import { own } from "./own-objects.mjs";
+
+/** A proxy hands on to its target what is done to it. */
+const MAKES_PROXY = "makes a proxy of";
 
 const { toString: textOf } = Function.prototype;
 const ENTERS = /\$R\.enter\((\d+),/g;
@@ -82,8 +86,17 @@ const takesMany = (engine) => methodOf((self, given) => {
   return made;
 }, engine);
 
+/** @param {Function} engine what gives the object that it is called on a getter or a setter */
+export const takesAccessor = (engine) => methodOf((self, given) => {
+  const made = apply(engine, self, given);
+  if (isObject(given[0])) current.takeAny();
+  else current.take(self, [given[0]]);
+  return made;
+}, engine);
+
 /** @param {Function} engine what makes a proxy, whose traps can change at any time */
 const takesProxy = (engine) => methodOf((self, given) => {
+  own(given[0], MAKES_PROXY);
   current.takeAny();
   return apply(engine, self, given);
 }, engine);
@@ -96,6 +109,7 @@ export function watchInstalled() {
   replace(EngineProxy, "revocable", takesProxy);
   put(globalThis, "Proxy", proxyOf(EngineProxy, {
     construct: (target, given) => {
+      own(given[0], MAKES_PROXY);
       current.takeAny();
       return construct(target, given);
     },

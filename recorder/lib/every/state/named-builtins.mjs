@@ -1,39 +1,69 @@
 // What was there before the agents' modules: the engine's and node's own objects. They are named, and not gone through,
 // so nothing may be kept in them.
 
+import { EventEmitter } from "node:events";
 import { types } from "node:util";
 import { isObject } from "../../primordials.mjs";
-
-const LANGUAGE = [
-  "Object", "Function", "Array", "String", "Number", "Boolean", "Symbol", "BigInt", "Math", "JSON", "Reflect", "Map",
-  "Set", "WeakMap", "WeakSet", "Error", "RangeError", "TypeError", "SyntaxError", "Date", "RegExp", "ArrayBuffer",
-  "SharedArrayBuffer", "Atomics", "Promise", "DataView", "Proxy",
-];
+import { intrinsics } from "./intrinsics.mjs";
 
 /** Prototypes of which objects keep nothing that isn't shown. */
 const PLAIN = [
   Object, Array, Map, Set, WeakMap, WeakSet, Function, Date, RegExp, ArrayBuffer, SharedArrayBuffer, Error, RangeError,
   TypeError, SyntaxError, ReferenceError, EvalError, URIError, AggregateError, DataView, TextEncoder, TextDecoder,
+  EventEmitter,
 ];
 
 const KINDS = /** @type {const} */ (["value", "get", "set"]);
+
+/** V8 reads its limits for stacks in Error itself, and the recorder changes them for a moment. */
+const OF_STACKS = new Set(["stackTraceLimit", "prepareStackTrace"]);
+
+/** @typedef {{ object: object, prototype: object | null, isExtensible: boolean, members: unknown[] }} KnownObject */
+
+/** @param {object} object @returns {unknown[]} its own keys, each with what its descriptor has */
+function membersOf(object) {
+  return Reflect.ownKeys(object).flatMap((key) => {
+    if (object === Error && OF_STACKS.has(/** @type {string} */ (key))) return [];
+    const { value, get, set, writable, enumerable, configurable } =
+      /** @type {PropertyDescriptor} */ (Reflect.getOwnPropertyDescriptor(object, key));
+    return [key, value, get, set, writable, enumerable, configurable];
+  });
+}
+
+/** @param {object} object @returns {KnownObject} as it is now */
+const known = (object) => ({
+  object, prototype: Reflect.getPrototypeOf(object), isExtensible: Reflect.isExtensible(object),
+  members: membersOf(object),
+});
+
+/** @param {KnownObject} before @returns {boolean} whether it is another now */
+function hasChanged({ object, prototype, isExtensible, members }) {
+  if (Reflect.getPrototypeOf(object) !== prototype || Reflect.isExtensible(object) !== isExtensible) return true;
+  const now = membersOf(object);
+  if (now.length !== members.length) return true;
+  for (let at = 0; at < now.length; at += 1) if (!Object.is(now[at], members[at])) return true;
+  return false;
+}
 
 export class NamedBuiltins {
   constructor() {
     /** @type {Map<object, string>} by the objects */
     this.names = new Map();
     this.plain = new Set(PLAIN.map(({ prototype }) => prototype));
-    /** @type {unknown[]} what the language's own objects had at first */
+    /** @type {KnownObject[]} what they had at first */
     this.had = [];
     /** @type {[object, string][]} */
     this.queue = [];
-    /** @type {object[]} objects of the language that have no names of their own */
-    this.others = [];
+    /** @type {Set<string>} the names that were given */
+    this.given = new Set();
   }
 
-  /** @param {unknown} object @param {string} name */
-  add(object, name) {
+  /** @param {unknown} object @param {string} path by which it is reached */
+  add(object, path) {
     if (!isObject(object) || this.names.has(object)) return;
+    // Keys may be alike, as symbols with the same description are.
+    const name = this.given.has(path) ? `${path} (${this.names.size})` : path;
+    this.given.add(name);
     this.names.set(object, name);
     this.queue.push([object, name]);
   }
@@ -48,32 +78,18 @@ export class NamedBuiltins {
    * @param {Record<string, object>} modules of node's, by their names
    */
   take(modules) {
-    this.names.set(globalThis, "globalThis");
-    this.queue.push([globalThis, "globalThis"]);
-    const generator = (function* generator() {}).prototype;
-    /** @type {[object | null, string][]} */
-    const others = [
-      [Reflect.getPrototypeOf(generator), "generator"],
-      [Reflect.getPrototypeOf([][Symbol.iterator]()), "arrayIterator"],
-      [Reflect.getPrototypeOf(new Map()[Symbol.iterator]()), "mapIterator"],
-      [Reflect.getPrototypeOf(new Set()[Symbol.iterator]()), "setIterator"],
-      [Reflect.getPrototypeOf(""[Symbol.iterator]()), "stringIterator"],
-      [Reflect.getPrototypeOf("".matchAll(/a/g)), "textsFound"],
-    ];
-    for (const [object, name] of others) {
-      this.add(object, name);
-      if (object !== null) this.others.push(object);
-    }
-    this.add(Reflect.getPrototypeOf(Int8Array), "TypedArray");
+    this.add(globalThis, "globalThis");
+    for (const [object, name] of intrinsics()) this.add(object, name);
     for (const [name, module] of Object.entries(modules)) this.add(module, name);
     for (let at = 0; at < this.queue.length; at += 1) this.#addMembers(...this.queue[at]);
+    const objects = this.queue.map(([object]) => object);
     this.queue = [];
-    this.had = this.#state();
+    this.had = objects.filter((object) => !types.isProxy(object)).map(known);
   }
 
   /** @param {object} object @param {string} name */
   #addMembers(object, name) {
-    if (types.isProxy(object) || name.startsWith("globalThis.process")) return;
+    if (types.isProxy(object)) return;
     this.add(Reflect.getPrototypeOf(object), `${name}.__proto__`);
     for (const key of Reflect.ownKeys(object)) {
       const descriptor = /** @type {any} */ (Reflect.getOwnPropertyDescriptor(object, key));
@@ -84,35 +100,8 @@ export class NamedBuiltins {
     }
   }
 
-  /** Lets nothing be put into the language's own objects. */
-  close() {
-    for (const owner of this.#owners()) {
-      // V8 puts its limits for stacks into Error itself.
-      if (owner !== Error && !types.isProxy(owner)) Object.preventExtensions(owner);
-    }
-  }
-
-  /** @returns {boolean} whether what the language's own objects have is another thing now */
+  /** @returns {boolean} whether one of them has something else now, or another prototype */
   haveChanged() {
-    const now = this.#state();
-    return now.length !== this.had.length || now.some((one, at) => !Object.is(one, this.had[at]));
-  }
-
-  /** @returns {object[]} */
-  #owners() {
-    const all = LANGUAGE.map((name) => /** @type {any} */ (globalThis)[name]);
-    return [...all.flatMap((one) => (isObject(one.prototype) ? [one, one.prototype] : [one])), ...this.others];
-  }
-
-  /** @returns {unknown[]} */
-  #state() {
-    const members = this.#owners().flatMap((owner) => Reflect.ownKeys(owner).flatMap((key) => {
-      if (owner === Error && (key === "stackTraceLimit" || key === "prepareStackTrace")) return [];
-      const { value, get, set } = /** @type {PropertyDescriptor} */ (Reflect.getOwnPropertyDescriptor(owner, key));
-      return [owner, key, value, get, set];
-    }));
-    const globals = Reflect.ownKeys(globalThis).flatMap((key) =>
-      [key, Reflect.getOwnPropertyDescriptor(globalThis, key)?.value]);
-    return [...members, ...globals];
+    return this.had.some(hasChanged);
   }
 }

@@ -4,6 +4,7 @@
 import { apply, construct, defineProperty, getPrototypeOf, hasOwn, proxyOf } from "../../primordials.mjs";
 import { types } from "node:util";
 import { Installed, numberOf } from "./installed.mjs";
+import { own } from "./own-objects.mjs";
 import { shownIteratorOf } from "./shown-iterators.mjs";
 
 /** @typedef {[Environment, number]} CapturedCell a name: what it is among, and its position there */
@@ -46,6 +47,9 @@ export class Environment {
 /** What stands in a frame for a value that can't be shown. */
 export const UNKNOWN_VALUE = Object.freeze({ isUnknown: true });
 
+const { Error: EngineError } = globalThis;
+const { stackTraceLimit } = EngineError;
+
 export class Runtime {
   constructor() {
     /** @type {RewrittenFrame[]} */
@@ -64,6 +68,8 @@ export class Runtime {
     this.lasting = 0;
     /** @type {string | symbol} of which a function gets its name */
     this.key = "";
+    /** Whether the modules are being made. */
+    this.isMaking = false;
     /** What the rewritten code calls. */
     this.calls = this.#calls();
   }
@@ -74,10 +80,13 @@ export class Runtime {
     this.readers = [];
     this.lasting = 0;
     this.stack = [];
+    EngineError.stackTraceLimit = stackTraceLimit;
+    this.isMaking = true;
   }
 
   /** The modules were made. */
   endModules() {
+    this.isMaking = false;
     this.lasting = this.readers.length;
   }
 
@@ -140,6 +149,9 @@ export class Runtime {
       iterable,
       key,
       method,
+      own,
+      /** @param {unknown} object that gets another limit of stacks: Error has the same of a module each time */
+      ownLimit: (object) => (this.isMaking && object === EngineError ? object : own(object)),
       ...this.#makers(),
     };
   }
