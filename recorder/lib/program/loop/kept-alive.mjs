@@ -3,7 +3,7 @@
 
 export class KeptAlive {
   /**
-   * @param {import("./served.mjs").Served} served
+   * @param {import("./loop.mjs").Served} served
    * @param {() => boolean} hasTask whether the event loop has a task of its own
    */
   constructor(served, hasTask) {
