@@ -1,7 +1,7 @@
 // Random agents that keep things in many ways: one of them loads, and stores at the end what it has kept.
 
 /** Draws from a row of numbers that a seed gives. */
-class Draw {
+export class Draw {
   /** @param {number} seed */
   constructor(seed) {
     this.state = seed * 7919 + 1;

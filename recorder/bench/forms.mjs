@@ -12,11 +12,7 @@ import { endedIn, withSemicolons } from "../lib/every/rewriting/semicolons.mjs";
 const GOES_ON = /^(?:[([`/*,.;<>=&|^%?:]|\+(?!\+)|-(?!-)|in\b|instanceof\b)/;
 const BEGINS_METHODS = /^(?:static\s+)?(?:get|set|static|async)$/;
 
-/**
- * @param {string} source of which each statement ends with a semicolon
- * @param {Tree} tree
- * @returns {number[]} theirs
- */
+/** @param {string} source with all semicolons @param {Tree} tree @returns {number[]} where they are */
 const endsIn = (source, tree) => endedIn(tree).filter(({ type, start, end }) =>
   type !== "PropertyDefinition" || !BEGINS_METHODS.test(source.slice(start, end - 1)))
   .map(({ end }) => end - 1).sort((one, other) => one - other);

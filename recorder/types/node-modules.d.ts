@@ -173,6 +173,7 @@ declare module "node:path" {
   export function dirname(path: string): string;
   export function extname(path: string): string;
   export function isAbsolute(path: string): boolean;
+  export function relative(from: string, to: string): string;
   export function join(...parts: string[]): string;
   export function resolve(...parts: string[]): string;
   export const sep: string;

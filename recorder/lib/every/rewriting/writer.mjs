@@ -102,7 +102,8 @@ export class CodeWriter {
    * @param {[string, string]} [around] what makes of it what is kept, before it and behind it
    * @returns {string} what it is kept in
    */
-  keep(info, tree, to, [before, after] = this.#kept(tree)) {
+  keep(info, tree, to, around = this.#kept(tree)) {
+    const [before, after] = around;
     const room = this.room(info, tree.end, to);
     this.edits.before(tree.start, `(${room} = ${before}`);
     this.edits.after(tree.end, `${after})`);
