@@ -25,8 +25,8 @@ const NOTHING = { finals: [], finalCount: 0, throws: [], checks: [], hasDeadlock
 const ended = (path) => new Promise((done) => {
   const child = spawn(process.execPath, [RECORD, path, ...WORDS], { stdio: ["ignore", "pipe", "pipe"] });
   let [printed, said] = ["", ""];
-  child.stdout.on("data", (text) => { printed += text; });
-  child.stderr.on("data", (text) => { said += text; });
+  child.stdout?.on("data", (text) => { printed += text; });
+  child.stderr?.on("data", (text) => { said += text; });
   child.on("close", (status) => done({ status, printed, said }));
 });
 

@@ -105,7 +105,7 @@ export class Stage {
     if (array === undefined || !this.isAsked) return /** @type {any} */ (engine)[name](array ?? stand, at, ...given);
     const place = this.#checked(name, array, at);
     const whole = (/** @type {any} */ value) => (typeof value === "bigint" ? value : Math.trunc(value));
-    const values = name === "notify" ? [Math.max(0, whole(given[0] ?? Infinity))]
+    const values = name === "notify" ? [Math.max(0, Math.trunc(given[0] ?? Infinity))]
       : given.slice(0, name === "wait" ? 1 : 2).map(whole);
     const isTimed = name === "wait" && given[1] !== undefined && given[1] < Infinity;
     return this.ask({ what: "call", name, ...place, values, isTimed });

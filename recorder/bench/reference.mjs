@@ -69,12 +69,13 @@ const elementOf = ({ block = 0, byte = 0, kind = "" }, memory) => new ARRAYS[kin
 
 export class Reference {
   /** @param {string} source of a module @param {{ states?: number, calls?: number, milliseconds?: number }} [most] */
-  constructor(source, { states = 60_000, calls = 60, milliseconds = 6_000 } = {}) {
+  constructor(source, most = {}) {
+    const { states = 60_000, calls = 60, milliseconds = 6_000 } = most;
     this.make = compiled(source);
     this.most = { states, calls };
     this.until = performance.now() + milliseconds;
     this.exports = exportsOf(this.make);
-    const { agents = 2, buffers = [] } = this.exports.setup ?? {};
+    const { agents, buffers } = this.exports.setup;
     /** @type {number} */
     this.agents = agents;
     /** @type {number[]} */

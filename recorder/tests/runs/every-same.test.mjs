@@ -165,10 +165,37 @@ let x = 1`,
 /** @param {string} body */
 const functionOf = (body) => `export default function (say) {${body}\n}\n`;
 
+/** Modules, each with those that it imports. */
+const LINKED = {
+  "live bindings, and the object of all that a module exports": [`import { n, inc, o as obj } from "./b.mjs";
+import def, * as ns from "./b.mjs";
+export default function (say) {
+  say(n, ns.n); inc(); say(n, ns.n, def.name, Object.keys(ns), { n, obj }, "q" in ns, Object.getPrototypeOf(ns));
+  for (const change of [() => { ns.n = 5; }, () => { delete ns.n; }, () => { ns.q = 1; }]) {
+    try { change(); } catch (e) { say(e.message); }
+  }
+  say(Object.isExtensible(ns), ns[Symbol.toStringTag]);
+}`, "export let n = 0; export const inc = () => { n += 1; }; const o = { n: 3 }; export { o }; export default () => 1;"],
+  "functions and names of modules that import each other": [`import { b, early, got } from "./b.mjs";
+export function a(x) { return x === 0 ? "a" : b(x - 1); }
+export const late = "late";
+export default (say) => { say(a(3), b(2), early, got); };`, `import { a, late } from "./a.mjs";
+export const b = (x) => (x === 0 ? "b" + late : a(x - 1));
+export const early = a(0);
+export let got;
+try { got = late; } catch (e) { got = e.message; }`],
+  "defaults, and names that are texts": [`import f, { set, "a b" as ab, q } from "./b.mjs";
+export default (say) => { say(f.name, ab, q); set(); say(typeof f, ab); };`, `let v = 1;
+export { v as "a b" };
+export default class { m() { return v; } }
+export const set = () => { v = 2; };
+export * from "./c.mjs";`, "export const q = 3; export default 4;"],
+};
+
 const TEXTS = {
   ...Object.fromEntries(Object.entries({ ...WITHOUT_SEMICOLONS, ...BODIES }).map(([name, body]) =>
     [name, functionOf(body)])),
-  ...MODULES,
+  ...MODULES, ...LINKED,
 };
 const SAID = saidByBoth(temporaryFolder(), Object.values(TEXTS));
 

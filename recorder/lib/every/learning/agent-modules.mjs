@@ -5,12 +5,14 @@ import { basename } from "node:path";
 import { fileURLToPath } from "node:url";
 import { Script } from "node:vm";
 import { Refused } from "../../options/refused.mjs";
-import { defineProperty } from "../../primordials.mjs";
+import { apply } from "../../primordials.mjs";
 import { parseScript, resolveModule } from "../../program/node/internals.mjs";
 import { ModuleText } from "../rewriting/module-text.mjs";
 import { rewritten } from "../rewriting/rewrite.mjs";
+import { fillNamespace } from "./module-namespace.mjs";
 
 /** @typedef {import("../rewriting/rewrite.mjs").Rewritten} Rewritten */
+/** @typedef {import("./module-namespace.mjs").Getters} Getters */
 
 /**
  * @typedef {object} Module
@@ -18,6 +20,9 @@ import { rewritten } from "../rewriting/rewrite.mjs";
  * @property {Function} make its function
  * @property {(string | object)[]} imports the URLs of the modules that it imports, and what node's own export
  */
+
+/** Lets a generator go on, whatever the agents' code does to generators. */
+const { next } = Object.getPrototypeOf(Object.getPrototypeOf((function* none() {})()));
 
 /** @param {string} source */
 const parsed = (source) => parseScript(source, { ecmaVersion: "latest", sourceType: "module" });
@@ -89,25 +94,15 @@ export class AgentModules {
     /** @type {Map<string, Record<string, any>>} */
     const exports = new Map(this.modules.map(({ url }) => [url, Object.create(null)]));
     for (const own of exports.values()) this.namespaces.add(own);
-    for (const { url, make, imports } of this.modules) {
+    const begun = this.modules.map(({ url, make, imports }) => {
       const own = /** @type {Record<string, any>} */ (exports.get(url));
       const others = imports.map((one) => (typeof one === "string" ? exports.get(one) : one));
       /** @type {(getters: Getters, stars: number[]) => void} */
-      const exported = (getters, stars) => fill(own, getters, stars.map((at) => others[at]));
-      make(calls, { imports: others, exported });
-    }
+      const exported = (getters, stars) => fillNamespace(own, getters, stars.map((at) => others[at]));
+      return make(calls, { imports: others, exported });
+    });
+    // At first all functions are there that modules declare, and what they export. Then each runs.
+    for (const body of [...begun, ...begun]) apply(next, body, []);
     return exports;
   }
-}
-
-/** @typedef {Record<string, () => unknown>} Getters what a module exports itself, by names */
-
-/** @param {object} own what a module exports @param {Getters} getters @param {any[]} stars of what it exports all */
-function fill(own, getters, stars) {
-  const passed = stars.flatMap((other) => Object.keys(other).filter((name) => name !== "default")
-    .map((name) => /** @type {[string, () => unknown]} */ ([name, () => other[name]])));
-  for (const [name, get] of [...passed, ...Object.entries(getters)]) {
-    defineProperty(own, name, { get, enumerable: true, configurable: true });
-  }
-  defineProperty(own, Symbol.toStringTag, { value: "Module" });
 }

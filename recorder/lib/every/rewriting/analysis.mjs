@@ -356,6 +356,7 @@ export class Analysis {
       const binding = found.same?.isAssigned === false ? found.same : found;
       reference.binding = binding;
       binding.references.push(reference);
+      if (binding.kind === "import" && !reference.reads) this.refuse(reference, "an import that gets another value");
       if (binding.scope.kind === "module") continue;
       const { within: owner } = binding.scope;
       for (let at = within; at !== null && at !== owner; at = at.outer) at.captured.add(binding);

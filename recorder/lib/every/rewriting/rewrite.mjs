@@ -7,7 +7,8 @@ import { CodeWriter } from "./writer.mjs";
 
 /**
  * @typedef {object} Rewritten
- * @property {string} code an expression: the function of `$R`, what shows, and `$m`, what is imported and exported
+ * @property {string} code an expression: the generator of `$R`, what shows, and `$m`, what is imported and exported. It
+ * runs at first up to where all functions are declared, and then to its end
  * @property {string[]} imports the specifiers of what it imports
  * @property {boolean} hasTags whether it has templates with tags
  * @property {(place: number) => import("./call-sites.mjs").CallSite} at what can be read at a place of the code
@@ -36,10 +37,12 @@ export function rewritten(text, { url, isAlone, isPlain = false }) {
   for (const one of analysis.metaUrls) edits.replace(one.start, one.end - one.start, JSON.stringify(url));
   const { imports, begins, exported } = linked(analysis, edits);
   const shows = isPlain ? "" : shownModule(analysis, isAlone ? new Set() : exported);
-  edits.before(0, `(function ($R, $m) { "use strict"; ${shows} ${begins} `);
-  if (!isPlain) {
+  edits.before(0, `(function* ($R, $m) { "use strict"; ${shows} ${begins} `);
+  if (isPlain) edits.before(0, "yield; ");
+  else {
     writer.declaring(0, () => {
       writer.registerDeclared(0, tree.body);
+      edits.before(0, "yield; ");
       writer.writeAll(tree.body, null);
     });
     writer.guards.needsAll();
