@@ -68,12 +68,16 @@ function answered({ what, block = 0, byte = 0, length = 0, bytes }, memory) {
 const elementOf = ({ block = 0, byte = 0, kind = "" }, memory) => new ARRAYS[kind](memory[block].buffer, byte, 1);
 
 export class Reference {
-  /** @param {string} source of a module @param {{ states?: number, calls?: number, milliseconds?: number }} [most] */
+  /**
+   * @param {string} source of a module
+   * @param {{ states?: number, calls?: number, runs?: number }} [most] how many states, how many calls an agent may
+   * make, and how often agents may run
+   */
   constructor(source, most = {}) {
-    const { states = 60_000, calls = 60, milliseconds = 6_000 } = most;
+    const { states = 20_000, calls = 60, runs = 5_000 } = most;
     this.make = compiled(source);
-    this.most = { states, calls };
-    this.until = performance.now() + milliseconds;
+    this.most = { states, calls, runs };
+    this.runs = 0;
     this.exports = exportsOf(this.make);
     const { agents, buffers } = this.exports.setup;
     /** @type {number} */
@@ -95,6 +99,7 @@ export class Reference {
     const known = before === null ? this.roots[agent] : before.then.get(keyOf(answer));
     if (known !== undefined) return known;
     const given = before === null ? [] : [...before.answers(), answer];
+    this.runs += 1;
     /** @type {Ask | undefined} */
     let asked;
     let at = 0;
@@ -200,7 +205,7 @@ export class Reference {
     const seen = new Set([Reference.#keyOf(first)]);
     const queue = [first];
     for (let at = 0; at < queue.length; at += 1) {
-      if (seen.size > this.most.states || performance.now() > this.until) {
+      if (seen.size > this.most.states || this.runs > this.most.runs) {
         this.isPartial = true;
         break;
       }
@@ -237,8 +242,23 @@ export class Reference {
     return { states, isPartial, finals, throws, checks, hasDeadlock, hasRace: this.#hasRace() };
   }
 
+  /** @returns {boolean} whether all accesses are by Atomics, and none of two sizes share a byte */
+  #isAtomic() {
+    /** @type {Map<string, Ask>} */
+    const places = new Map();
+    const queue = [...this.roots];
+    for (const { ask, then } of queue) {
+      if (isOrdinary(ask)) return false;
+      if (ask.length !== undefined) places.set(`${ask.block}.${ask.byte}.${ask.length}`, ask);
+      queue.push(...then.values());
+    }
+    const all = [...places.values()];
+    return all.every((one, at) => !all.slice(at + 1).some((other) => sharesByte(one, other)));
+  }
+
   /** @returns {boolean | undefined} */
   #hasRace() {
+    if (this.#isAtomic() && !this.isPartial) return false;
     this.isPartial = false;
     let hasRace = false;
     this.#search(true, (state) => {
@@ -249,6 +269,11 @@ export class Reference {
   }
 }
 
+/** @param {Ask} one @param {Ask} other @returns {boolean} */
+function sharesByte({ block, byte = 0, length = 0 }, { block: where, byte: from = 0, length: size = 0 }) {
+  return block === where && byte < from + size && from < byte + length;
+}
+
 /** @param {State} state @returns {boolean} whether two agents are about to access the same bytes, as a race is */
 function races({ histories, memory, waiters, woken }) {
   const accesses = histories.flatMap(({ ask }, agent) => {
@@ -257,10 +282,9 @@ function races({ histories, memory, waiters, woken }) {
     return isNone || isAsleep ? [] : [{ ...ask, writes: writesNow(ask, memory) }];
   });
   return accesses.some((one, at) => accesses.slice(at + 1).some((other) => {
-    const [byte = 0, length = 0, from = 0, size = 0] = [one.byte, one.length, other.byte, other.length];
-    if (one.block !== other.block || byte >= from + size || from >= byte + length) return false;
-    const areAtomic = one.what === "call" && other.what === "call" && byte === from && length === size;
-    return (one.writes || other.writes) && !areAtomic;
+    if (!sharesByte(one, other)) return false;
+    const isSame = one.byte === other.byte && one.length === other.length;
+    return (one.writes || other.writes) && !(isSame && one.what === "call" && other.what === "call");
   }));
 }
 
