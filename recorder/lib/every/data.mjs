@@ -37,6 +37,8 @@ import { FinalStates } from "../run/ending/final-state.mjs";
  * @property {number} moments of an agent: calls, and reads that are acts of their own
  * @property {number} edges each was learned twice
  * @property {number} edgesByOne of these, both times by the same history
+ * @property {number} ways that lead to nodes that have several: each is an edge, behind the shortest way to its start
+ * @property {number} waysTried behind so many of these the nodes were learned again
  * @property {{ why: string, nodes: number }[]} hidden moments that were compared with no others, and why
  * @property {number} realRuns that agree with what was learned
  * @property {number} notCompared real runs that have no whole trace, and so weren't compared
@@ -49,8 +51,8 @@ import { FinalStates } from "../run/ending/final-state.mjs";
 
 /** What stands where nothing could be learned. */
 const NOTHING = Object.freeze({
-  states: 0, acts: 0, depth: 0, finals: [], finalCount: 0, found: [], moments: 0, edges: 0, edgesByOne: 0, hidden: [],
-  widest: null,
+  states: 0, acts: 0, depth: 0, finals: [], finalCount: 0, found: [], moments: 0, edges: 0, edgesByOne: 0, ways: 0,
+  waysTried: 0, hidden: [], widest: null,
 });
 
 /** @param {EveryResult} tried @returns {EveryData} */
@@ -59,7 +61,7 @@ export function dataOf({ report, open, realRuns, made, isProved, notProved, show
   const proved = { searchProved: isProved, notProved: notProved ?? null };
   const common = { closed, open: open ?? null, realRuns, notCompared: made - realRuns, ...proved, milliseconds };
   if (report === undefined) return { ...NOTHING, agents: 0, areAlike: false, ...common };
-  const { counts, depth = null, edges, findings, hasLikes, hidden, plan, result, widest } = report;
+  const { counts, depth = null, findings, hasLikes, hidden, plan, result, ways, widest } = report;
   const found = findings.map(({ row: _row, goesOn: _goesOn, spins: _spins, ...finding }) => {
     const { outcome } = shown.find((each) => each.finding.row === _row) ?? {};
     return { ...finding, runs: 0, seed: null, ...endOf(outcome) };
@@ -68,7 +70,7 @@ export function dataOf({ report, open, realRuns, made, isProved, notProved, show
     ...common, agents: plan.agents, areAlike: hasLikes, states: result.states, acts: result.acts, depth,
     finals: finalsOf(report), finalCount: result.final.count, found: [...found, ...onlyRuns.map(dataOfRuns)],
     moments: counts.moments, edges: counts.edges,
-    edgesByOne: edges.filter(({ from, besides }) => from !== undefined && besides === undefined).length, hidden,
+    edgesByOne: ways.edgesByOne, ways: ways.all, waysTried: ways.tried, hidden,
     widest: { ...widest, line: widest.line ?? null },
   };
 }

@@ -1,5 +1,5 @@
-// The thread that learns each beginning and each edge once more, in the code as it is written: its module was loaded
-// anew, and the edges come in reverse order.
+// The thread that learns each beginning and each edge once more, by other ways too, in the code as it is written: its
+// module was loaded anew, and the edges come in reverse order.
 
 import { workerData } from "node:worker_threads";
 import { basesOf } from "../search/file.mjs";
@@ -10,9 +10,9 @@ import { AgentModules } from "./agent-modules.mjs";
 import { Learner } from "./learner.mjs";
 import { showing } from "./learning-progress.mjs";
 import { installRealm } from "./realm.mjs";
+import { Ways } from "./ways.mjs";
 
 /** @typedef {import("./learning-report.mjs").EdgeData} EdgeData */
-/** @typedef {import("./learning-report.mjs").From} From */
 /** @typedef {import("./learning-report.mjs").NodeData} NodeData */
 /** @typedef {import("./asked-nodes.mjs").AskedNode} AskedNode */
 
@@ -29,61 +29,43 @@ import { installRealm } from "./realm.mjs";
  */
 
 class Again {
-  /** @param {Learner} learner @param {AgainWorkerData} given */
-  constructor(learner, { nodes, edges }) {
+  /** @param {Learner} learner @param {AgainWorkerData} given @param {Ways} ways */
+  constructor(learner, { nodes, edges }, ways) {
     this.learner = learner;
     this.edges = edges;
-    this.nodes = new Map(nodes.map((node) => [node.id, node]));
+    this.ways = ways;
+    /** @type {NodeData[]} by their numbers */
+    this.nodes = [];
+    for (const node of nodes) this.nodes[node.id] = node;
   }
 
   /** @returns {string | undefined} what is different */
   run() {
-    for (const edge of [...this.edges].reverse()) {
-      const differs = this.#differs(edge);
-      if (differs !== undefined) return differs;
-    }
-    return undefined;
+    return this.ways.find((history) => this.#differs(history));
   }
 
-  /** @param {number} id @returns {NodeData} */
-  #node(id) {
-    return /** @type {NodeData} */ (this.nodes.get(id));
-  }
-
-  /** @param {EdgeData} edge @returns {From[]} the nodes on the way to it and over it, with their answers */
-  #historyOf({ from, besides }) {
-    if (from === undefined) return [];
-    const history = [from];
-    /** @type {From | undefined} */
-    let before;
-    let other = besides;
-    for (let at = from.node; ; at = before.node) {
-      before = other?.at === at ? other.by : this.#node(at).origin;
-      if (other?.at === at) other = undefined;
-      if (before === undefined) return history.reverse();
-      history.push(before);
-    }
-  }
-
-  /** @param {EdgeData} edge @returns {string | undefined} */
-  #differs(edge) {
-    const { automaton, to } = edge;
-    const wanted = this.#node(to);
-    const path = [...this.#historyOf(edge), { node: to, answer: undefined }];
+  /**
+   * @param {number[]} history numbers of edges, from the beginning of an agent on
+   * @returns {string | undefined}
+   */
+  #differs(history) {
+    const { edges, learner, nodes } = this;
+    /** @param {number} at */
+    const nodeAt = (at) => nodes[edges[history[at]].to];
     let at = 0;
     /** @type {AskedNode | undefined} */
     let last;
     /** @param {AskedNode} asked */
     const answer = (asked) => {
       last = asked;
-      const { node, answer: given } = path[at];
+      const isAsLearned = isSame(nodeAt(at), asked);
       at += 1;
-      return isSame(this.#node(node), asked) ? given : undefined;
+      return isAsLearned && at < history.length ? edges[history[at]].from?.answer : undefined;
     };
-    const ended = this.learner.call(automaton, { answer });
+    const ended = learner.call(edges[history[0]].automaton, { answer });
     const [got, count] = ended === undefined ? [last, at] : [ended, at + 1];
-    if (got !== undefined && count === path.length && isSame(wanted, got)) return undefined;
-    const was = count < path.length ? this.#node(path[count - 1].node) : wanted;
+    const was = nodeAt(count - 1);
+    if (got !== undefined && count === history.length && isSame(was, got)) return undefined;
     const now = got === undefined ? "nothing" : said(got);
     return `With the same ${count - 1} answers an agent was learned to do this: ${said(was)}; and now it does: ${now}`;
   }
@@ -107,7 +89,8 @@ export async function main(load) {
 
 /** @param {AgainWorkerData} given @param {(url: string) => Promise<any>} load */
 async function differing(given, load) {
-  const { module, args, isShared, plan } = given;
+  const { module, args, edges, isShared, plan } = given;
+  const ways = new Ways(edges);
   const asker = new Asker();
   asker.onCall = showing(new Int32Array(given.progress));
   const platform = installRealm(asker);
@@ -115,7 +98,7 @@ async function differing(given, load) {
   asker.begin(plan.buffers, basesOf(plan.buffers).bases);
   const agents = { count: plan.agents, args, canBlock: plan.canBlock, isShared };
   const learner = new Learner(asker, agents, { agentNow, line: () => "" });
-  return new Again(learner, given).run();
+  return new Again(learner, given, ways).run();
 }
 
 /**

@@ -4,6 +4,7 @@ import { Positions, fileOf } from "../search/file.mjs";
 import { DOES, isCall, isEnd } from "../search/nodes.mjs";
 import { Kinds, blocksIn, resultOf } from "../search/result.mjs";
 import { Findings } from "./findings.mjs";
+import { Ways } from "./ways.mjs";
 
 /** @typedef {import("../search/nodes.mjs").Node} Node */
 /** @typedef {import("../search/nodes.mjs").Answer} Answer */
@@ -17,11 +18,9 @@ import { Findings } from "./findings.mjs";
  * @property {number} automaton
  * @property {From | undefined} from undefined: the beginning of an agent
  * @property {number} to the node to which it leads
- * @property {{ at: number, by: From }} [besides] another history than the one by which it was learned: the node at
- * which it comes by another edge than the first
  */
 
-/** @typedef {AskedNode & { id: number, origin: From | undefined }} NodeData with the first edge that has led there */
+/** @typedef {AskedNode & { id: number }} NodeData */
 
 /** @typedef {ReturnType<typeof learningReportOf>} LearningReport */
 
@@ -35,6 +34,7 @@ export function learningReportOf(learned, search) {
   const kinds = new Kinds(search).find();
   const findings = new Findings(learned, search, kinds).all();
   const positions = new Positions(program);
+  const edges = edgesOf(positions);
   const named = {
     position: (/** @type {Node} */ node) => positions.of(node),
     blocksOf: (/** @type {number} */ memory) => blocksIn(search.world, memory),
@@ -47,8 +47,9 @@ export function learningReportOf(learned, search) {
     file: fileOf(program, positions),
     findings,
     counts: countsOf(positions),
-    edges: edgesOf(learner, positions),
-    nodes: positions.nodes.flat().map((node) => dataOf(node, learner.origins.get(node))),
+    edges,
+    ways: new Ways(edges).counts(),
+    nodes: positions.nodes.flat().map(dataOf),
     hidden: [...learner.hidden].map(([why, nodes]) => ({ why, nodes })),
     runs: learner.runs, renewals: code.renewals,
     changesBuiltins: code.builtins.haveChanged(),
@@ -66,51 +67,18 @@ function countsOf({ nodes }) {
   };
 }
 
-/**
- * @param {Node} node
- * @param {import("./learner.mjs").NodeOrigin} origin
- * @returns {NodeData}
- */
-const dataOf = ({ edges: _edges, automaton: _automaton, ...asked }, origin) =>
-  ({ ...asked, origin: origin && { node: origin.node.id, answer: origin.answer } });
+/** @param {Node} node @returns {NodeData} */
+const dataOf = ({ edges: _edges, automaton: _automaton, ...asked }) => asked;
 
 /**
- * The beginnings of the agents, and each edge with another history that leads to it than the one by which it was
- * learned, if there is one.
- * @param {import("./learner.mjs").Learner} learner
  * @param {Positions} positions
- * @returns {EdgeData[]}
+ * @returns {EdgeData[]} the beginnings of the agents, and all edges
  */
-function edgesOf(learner, positions) {
-  const besides = edgesBesides(learner, positions);
+function edgesOf(positions) {
   const begins = positions.roots.map(({ automaton, id }) => ({ automaton, from: undefined, to: id }));
-  const edges = positions.nodes.flatMap((nodes) => nodes.flatMap((node) => [...node.edges].map(([answer, to]) => ({
-    automaton: node.automaton, from: { node: node.id, answer }, to: to.id, besides: besides(node),
-  }))));
+  const edges = positions.nodes.flatMap((nodes) => nodes.flatMap((node) => [...node.edges].map(([answer, to]) =>
+    ({ automaton: node.automaton, from: { node: node.id, answer }, to: to.id }))));
   return [...begins, ...edges];
-}
-
-/**
- * @param {import("./learner.mjs").Learner} learner
- * @param {Positions} positions
- * @returns {(node: Node) => EdgeData["besides"]} the nearest node on its way to which another edge leads than the first
- */
-function edgesBesides({ origins }, positions) {
-  /** @type {Map<Node, From>} */
-  const others = new Map();
-  for (const node of positions.nodes.flat()) {
-    for (const [answer, to] of node.edges) {
-      const origin = origins.get(to);
-      const isFirst = origin !== undefined && origin.node === node && origin.answer === answer;
-      if (!isFirst) others.set(to, { node: node.id, answer });
-    }
-  }
-  return (node) => {
-    /** @type {Node | undefined} */
-    let at = node;
-    while (at !== undefined && !others.has(at)) at = origins.get(at)?.node;
-    return at && { at: at.id, by: /** @type {From} */ (others.get(at)) };
-  };
 }
 
 /**
