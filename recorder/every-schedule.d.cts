@@ -65,6 +65,13 @@ export interface EverySchedule {
   edges: number;
   /** How many of these were learned both times by the same history. */
   edgesByOne: number;
+  /**
+   * How many ways lead to moments that have several. A way is an edge that leads to the moment, behind the shortest way
+   * to its start.
+   */
+  ways: number;
+  /** Behind how many of these the second learning has tried what the agent does then: of each moment 16 at least. */
+  waysTried: number;
   /** Moments that were compared with no others, and why. */
   hidden: { why: string; nodes: number }[];
   /** How many real runs agree with what was learned. */

@@ -75,12 +75,14 @@ function finalText({ finalCount, finals }) {
 }
 
 /** @param {EveryData} data */
-function learnedText({ edges, moments, notCompared, notProved, realRuns, searchProved }) {
+function learnedText({ edges, moments, notCompared, notProved, realRuns, searchProved, ways, waysTried }) {
   const search = searchProved ? "the search is proved" : `the search isn't proved (${notProved})`;
   const runs = realRuns === 1 ? "1 real run agrees" : `${digits(realRuns)} real runs agree`;
   const learned = `what the agents do was learned from their code: ${countText(moments, "moment")} of an agent`;
   const others = notCompared === 0 ? "" : `, and ${digits(notCompared)} couldn't be compared`;
-  return `${search}; ${learned}, each of ${countText(edges, "edge")} twice; ${runs}${others}`;
+  const some = `${digits(waysTried)} of ${countText(ways, "way")}`;
+  const byWays = ways === 0 ? "" : `, by ${some} to moments that have several`;
+  return `${search}; ${learned}, each of ${countText(edges, "edge")} twice${byWays}; ${runs}${others}`;
 }
 
 /** @param {EveryData} data */

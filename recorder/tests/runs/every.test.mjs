@@ -42,7 +42,8 @@ test("a right lock: every schedule was tried, and nothing was found", async (con
     + "from every state all agents can still end");
   assert.match(states, /^ {2}3,620 states, 9,333 acts; 1 final state: /);
   assert.match(learned,
-    /^ {2}the search is proved; what .*: 39 moments of an agent, each of 78 edges twice; 20 real runs agree$/);
+    /^ {2}the search is proved; what .*: 39 moments of an agent, each of 78 edges twice, by (\d+) of \1 ways to mo/);
+  assert.match(learned, /ways to moments that have several; 20 real runs agree$/);
   assert.match(rest[0], /^ {2}two moments counted as one only if all that the agent's code can still read was the /);
   assert.equal(rest[1], "  states that differ only by an exchange of like agents counted as one: no agent looks at "
     + "its number");
@@ -98,8 +99,9 @@ for (const [name, wanted] of /** @type {[string, [string, RegExp][]][]} */ ([
 }
 
 test("steps that one history alone leads to are counted", async (context) => {
-  const { edges, edgesByOne } = await everySchedule({ ...FEW_WORKERS, module: moduleOf(context, LOADS("")), seeds: 1 });
-  assert.deepEqual({ edges, edgesByOne }, { edges: 2, edgesByOne: 2 });
+  const module = moduleOf(context, LOADS(""));
+  const { edges, edgesByOne, ways, waysTried } = await everySchedule({ ...FEW_WORKERS, module, seeds: 1 });
+  assert.deepEqual({ edges, edgesByOne, ways, waysTried }, { edges: 2, edgesByOne: 2, ways: 0, waysTried: 0 });
 });
 
 test("a race says which lines read and write", async (context) => {
@@ -234,6 +236,22 @@ test("moments that were merged wrongly are noticed by the second learning", asyn
     const { edges, isShared, nodes, plan } = await learned(path, { flaw: { hides } });
     const differs = await learnAgain({ module, args: [], plan, isShared, isFresh: false, nodes, edges });
     assert.equal(differs !== undefined, hides !== undefined, differs);
+  }
+});
+
+test("moments that were merged wrongly behind one of nine ways are noticed", async (context) => {
+  const turns = "const turns = () => { for (let at = 0; at < 3; at += Atomics.load(words, 0)); return 0; };";
+  for (const later of ["Atomics.load(words, 0)", "turns()"]) {
+    const path = moduleOf(context, LOADS(`${turns}
+  if (self === 1) for (let at = 0; at < 9; at += 1) Atomics.store(words, at === 0 ? 0 : 1, at === 0 ? 1 : at);
+  else Atomics.store(words, 0, (Atomics.load(words, 1) === 5 ? 7 : 0) + ${later});`));
+    const module = pathToFileURL(path).href;
+    for (const hides of [undefined, "temporaries"]) {
+      const { edges, isShared, nodes, plan, ways } = await learned(path, { flaw: { hides } });
+      assert.ok(ways.tried === ways.all && ways.all >= 9, JSON.stringify(ways));
+      const differs = await learnAgain({ module, args: [], plan, isShared, isFresh: false, nodes, edges });
+      assert.equal(differs !== undefined, hides !== undefined, differs);
+    }
   }
 });
 

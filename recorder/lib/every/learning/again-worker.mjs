@@ -10,7 +10,7 @@ import { AgentModules } from "./agent-modules.mjs";
 import { Learner } from "./learner.mjs";
 import { showing } from "./learning-progress.mjs";
 import { installRealm } from "./realm.mjs";
-import { Ways } from "./ways.mjs";
+import { NodeWays } from "./node-ways.mjs";
 
 /** @typedef {import("./learning-report.mjs").EdgeData} EdgeData */
 /** @typedef {import("./learning-report.mjs").NodeData} NodeData */
@@ -29,7 +29,7 @@ import { Ways } from "./ways.mjs";
  */
 
 class Again {
-  /** @param {Learner} learner @param {AgainWorkerData} given @param {Ways} ways */
+  /** @param {Learner} learner @param {AgainWorkerData} given @param {NodeWays} ways */
   constructor(learner, { nodes, edges }, ways) {
     this.learner = learner;
     this.edges = edges;
@@ -90,7 +90,7 @@ export async function main(load) {
 /** @param {AgainWorkerData} given @param {(url: string) => Promise<any>} load */
 async function differing(given, load) {
   const { module, args, edges, isShared, plan } = given;
-  const ways = new Ways(edges);
+  const ways = new NodeWays(edges);
   const asker = new Asker();
   asker.onCall = showing(new Int32Array(given.progress));
   const platform = installRealm(asker);

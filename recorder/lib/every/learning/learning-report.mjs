@@ -4,7 +4,7 @@ import { Positions, fileOf } from "../search/file.mjs";
 import { DOES, isCall, isEnd } from "../search/nodes.mjs";
 import { Kinds, blocksIn, resultOf } from "../search/result.mjs";
 import { Findings } from "./findings.mjs";
-import { Ways } from "./ways.mjs";
+import { NodeWays } from "./node-ways.mjs";
 
 /** @typedef {import("../search/nodes.mjs").Node} Node */
 /** @typedef {import("../search/nodes.mjs").Answer} Answer */
@@ -48,7 +48,7 @@ export function learningReportOf(learned, search) {
     findings,
     counts: countsOf(positions),
     edges,
-    ways: new Ways(edges).counts(),
+    ways: new NodeWays(edges).counts(),
     nodes: positions.nodes.flat().map(dataOf),
     hidden: [...learner.hidden].map(([why, nodes]) => ({ why, nodes })),
     runs: learner.runs, renewals: code.renewals,

@@ -31,7 +31,7 @@ function below(random, count) {
 }
 
 /** Runs beside code that may have replaced functions of the language, so it calls none of them after it was made. */
-export class Ways {
+export class NodeWays {
   /** @param {EdgeData[]} edges of all automata, with the beginnings of the agents */
   constructor(edges) {
     this.edges = edges;
