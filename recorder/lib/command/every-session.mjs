@@ -7,6 +7,7 @@ import { everyText } from "../every/every-text.mjs";
 import { keepBesides } from "../keeping/kept-besides.mjs";
 import { RunStore } from "../keeping/run-store.mjs";
 import { assumed } from "../options/table.mjs";
+import { overAfter } from "../processes/time-over.mjs";
 import { chosenProgram, simulatorAt } from "../simulator/chosen.mjs";
 import { EveryProgress } from "./every-progress.mjs";
 import { Interruption } from "./interruption.mjs";
@@ -34,15 +35,16 @@ export class EverySession {
     this.job = job;
     this.every = { ...options, module, within, states };
     this.interruption = new Interruption();
+    this.over = overAfter(within);
     this.after = after;
   }
 
-  /** @returns {Promise<{ failed: boolean, problems: unknown[] }>} */
+  /** @returns {Promise<{ failed: boolean, problems: unknown[], isPart: boolean }>} `isPart`: not all was done */
   async run() {
     const { checkEvery, first, format, last, sabsim } = this.options;
     const chosen = checkEvery > 0 ? chosenProgram(sabsim) : undefined;
     const given = /** @type {any} */ ({ ...this.every, sabsim: chosen });
-    const every = new Every(given, { signal: this.interruption.signal, job: this.job });
+    const every = new Every(given, { signal: this.interruption.signal, over: this.over, job: this.job });
     const progress = new EveryProgress(every, last - first + 1, this.after);
     /** @type {EveryResult} */
     let tried;
@@ -55,10 +57,10 @@ export class EverySession {
     const data = dataOf(tried);
     const files = this.#keep(tried, simulatorAt(chosen));
     if (format === "plain") await print(`${everyText(data)}${keptText(files)}`);
-    if (!data.closed) return this.#goOn(data, tried.shown.length > 0);
+    if (!data.closed) return this.#goOn(data, tried.shown.some(({ isSame }) => isSame));
     const json = { every: FORM, module: this.options.module, ...data, kept: files ?? null };
     if (format === "json") await print(`${JSON.stringify(json)}\n`);
-    return { failed: data.found.length > 0, problems: [] };
+    return { failed: data.found.length > 0, problems: [], isPart: !data.isWhole };
   }
 
   /**
@@ -67,8 +69,9 @@ export class EverySession {
    * @param {boolean} isShown whether a real run has shown something of it
    */
   async #goOn(every, isShown) {
-    const { failed, problems } = await new Session({ ...this.options, every }, this.module).run();
-    return { failed: failed || isShown, problems };
+    const { over } = this;
+    const { failed, problems } = await new Session({ ...this.options, every, over }, this.module).run();
+    return { failed: failed || isShown, problems, isPart: true };
   }
 
   /**
@@ -79,11 +82,12 @@ export class EverySession {
    */
   #keep({ onlyRuns, open, report, shown }, simulator) {
     const { out } = this.options;
-    const isWhole = open === undefined;
-    if (out === undefined || !(isWhole || shown.length > 0)) return undefined;
+    const isClosed = open === undefined;
+    const outcomes = [...shown.filter(({ isSame }) => isSame), ...onlyRuns].flatMap(({ outcome = [] }) => outcome);
+    if (out === undefined || !(isClosed || outcomes.length > 0)) return undefined;
     const keepers = [new RunStore(out, "--out", "all")];
-    if (isWhole) keepers[0].keepAll(0, { "automata.json": `${JSON.stringify(report?.file)}\n` });
-    [...shown, ...onlyRuns].slice(0, MOST_SHOWN).forEach(({ outcome }, at) => {
+    if (isClosed) keepers[0].keepAll(0, { "automata.json": `${JSON.stringify(report?.file)}\n` });
+    outcomes.slice(0, MOST_SHOWN).forEach((outcome, at) => {
       const keeper = new RunStore(out, "--out", `all-${at + 1}`);
       keeper.keepFirst(outcome);
       keepBesides(keeper, outcome, { ...this.options, module: this.module }, simulator);

@@ -31,7 +31,8 @@ function complain(problem) {
 /**
  * @param {string[]} words of the command line
  * @param {AnyJob} [job] the first one, if it has begun
- * @returns {Promise<{ failed: boolean, problems: unknown[] }>}
+ * @returns {Promise<{ failed: boolean, problems: unknown[], isPart?: boolean }>} `isPart`: not all was done that
+ * --all is for
  */
 async function run(words, job) {
   try {
@@ -72,14 +73,15 @@ const isInterrupted = (problem) => problem instanceof Interrupted;
 export async function obey(words, job) {
   // If nobody reads what went wrong, the status reports it.
   process.stderr.on("error", () => {});
-  const { failed, problems } = await run(words, job);
+  const { failed, isPart = false, problems } = await run(words, job);
   const interrupted = problems.find(isInterrupted);
   for (const problem of problems) {
     if (!(problem instanceof Interrupted)) complain(problem);
   }
   if (interrupted !== undefined) await endBy(interrupted.by);
   if (problems.length > 0) return problems[0] instanceof Refused ? EXIT_STATUS.REFUSED : EXIT_STATUS.NOT_DONE;
-  return failed ? EXIT_STATUS.SOME_FAILED : EXIT_STATUS.NONE_FAILED;
+  if (failed) return EXIT_STATUS.SOME_FAILED;
+  return isPart ? EXIT_STATUS.NOT_ALL : EXIT_STATUS.NONE_FAILED;
 }
 
 /**

@@ -147,6 +147,7 @@ function replayOf(given) {
  * @property {number} [within] for how many seconds
  * @property {number} [states] how many states at most
  * @property {import("../every/data.mjs").EveryData} [every] how far that came, if it isn't closed
+ * @property {AbortSignal} [over] aborted when the time is over that this and the runs may take
  */
 
 /**

@@ -6,7 +6,9 @@ import { RunStore, missingFiles } from "../keeping/run-store.mjs";
 import { Refused } from "../options/refused.mjs";
 import { collectGarbage, onceMore, stopGrowth } from "../processes/garbage.mjs";
 import { preloads } from "../processes/preloads.mjs";
+import { TimeOver } from "../processes/time-over.mjs";
 import { isFirstOfAll } from "../run/order.mjs";
+import { rangesText, seedsWithout } from "../seeds/ranges.mjs";
 import { Runs } from "../seeds/runs.mjs";
 import { chosenProgram, simulatorAt } from "../simulator/chosen.mjs";
 import { requestedRunsOf } from "./requested-runs.mjs";
@@ -19,6 +21,23 @@ import { FORM } from "./summary-form.mjs";
 import { Summary } from "./summary.mjs";
 
 /** @typedef {import("../seeds/job.mjs").CheckedOutcome} CheckedOutcome */
+
+/** How the detail of a run begins in which an agent didn't come back. */
+const HANGS = /^agent \d+ has made no call for /;
+
+/** After so many of these, no more runs are made with --all. */
+const MOST_HUNG = 2;
+
+/** With --all no more runs are made, since one fails and one hangs. */
+class RunsHang extends Error {
+  constructor() {
+    super("ended, since runs fail and hang");
+  }
+}
+
+/** @param {unknown} problem @returns {boolean} whether it isn't only why there are no more runs */
+const isToReport = (problem) =>
+  !(problem instanceof Interrupted || problem instanceof TimeOver || problem instanceof RunsHang);
 
 /** @param {number} seed of the first failing run, if none is kept */
 const notKeptText = (seed) => `not kept: the run of seed ${seed}; --out DIR keeps it, with a page that shows it`;
@@ -52,7 +71,13 @@ export class Session {
     this.closed = undefined;
     const shortens = options.shorten && this.keeper !== undefined;
     const how = { isBrief: true, shortens, goesOn: true, origin: options.asked.first };
-    this.runs = new Runs({ ...this.options, ...how }, { signal: this.interruption.signal, job });
+    /** @type {import("../seeds/ranges.mjs").SeedRange[]} the seeds of the runs that were made */
+    this.made = [];
+    /** In how many of them an agent didn't come back. */
+    this.hung = 0;
+    const { every, over, ...ofRuns } = this.options;
+    const ending = [this.interruption.signal, ...(over === undefined ? [] : [over])];
+    this.runs = new Runs({ ...ofRuns, ...how }, { signal: AbortSignal.any(ending), job });
   }
 
   /**
@@ -78,7 +103,8 @@ export class Session {
     await attempt(() => this.#print(stopped, problems));
     await attempt(() => this.closed);
     await attempt(() => this.interruption.end());
-    return { failed: this.summary.failed > 0, problems };
+    const isLeft = (/** @type {unknown} */ problem) => problem instanceof Interrupted || isToReport(problem);
+    return { failed: this.summary.failed > 0, problems: problems.filter(isLeft) };
   }
 
   /** Notes whether programs were tried on this node. */
@@ -123,12 +149,24 @@ export class Session {
    * @returns {boolean} whether it is the last one
    */
   #isLast(outcome) {
-    const { keeper, options: { failFast }, progress, summary } = this;
+    const { keeper, options: { every, failFast }, progress, summary } = this;
     summary.add(outcome);
+    this.made.push({ first: outcome.seed, last: outcome.seed });
     progress.show(summary);
     if (outcome.fails) keeper?.keepFirst(outcome);
     onceMore();
+    if (every !== undefined && this.#hangs(outcome)) throw new RunsHang();
     return failFast === true && isFirstOfAll(outcome);
+  }
+
+  /**
+   * @param {CheckedOutcome} outcome that the summary has
+   * @returns {boolean} whether runs hang, so that further ones take long, and wouldn't change the status
+   */
+  #hangs({ detail }) {
+    if (HANGS.test(detail)) this.hung += 1;
+    const { hung, summary: { failed } } = this;
+    return failed > 0 && hung > 0 && (failed > hung || hung >= MOST_HUNG);
   }
 
   /** Prepares the pictures of the run that is kept, while its job works. */
@@ -181,9 +219,16 @@ export class Session {
   /** @param {unknown} stopped why not all runs were made, if so @param {unknown[]} problems all that went wrong */
   async #print(stopped, problems) {
     if (this.#isWithoutSummary(stopped)) return;
-    const why = stopped instanceof Interrupted ? stopped.message : "stopped";
-    const stop = stopped === undefined ? null : { why, wanted: this.wanted };
+    const stop = stopped === undefined ? null : { why: this.#whyStopped(stopped), wanted: this.wanted };
     await print(formatted(this.#data(stop, problems), this.options.format));
+  }
+
+  /** @param {unknown} stopped @returns {string} as it is said before how many runs were made */
+  #whyStopped(stopped) {
+    if (stopped instanceof Interrupted) return stopped.message;
+    if (!(stopped instanceof TimeOver || stopped instanceof RunsHang)) return "stopped";
+    const { first, last } = this.options;
+    return `${stopped.message}, with the ${rangesText(seedsWithout([{ first, last }], this.made))} not run,`;
   }
 
   /**
@@ -194,6 +239,7 @@ export class Session {
   #isWithoutSummary(stopped) {
     const { options: { format }, summary } = this;
     if (stopped === undefined || stopped instanceof Interrupted || summary.runs > 0) return false;
+    if (stopped instanceof TimeOver) return false;
     return format === "plain" || stopped instanceof Refused;
   }
 
@@ -209,7 +255,7 @@ export class Session {
       stopped,
       kept,
       notKept: this.leftOut,
-      problems: problems.filter((problem) => !(problem instanceof Interrupted)).map(messageOf),
+      problems: problems.filter(isToReport).map(messageOf),
     });
     const { every } = this.options;
     return { summary: FORM, asked: this.asked, seeds: [{ first, last }], ...(every && { every }), ...data };

@@ -17,6 +17,7 @@ import { FinalStates } from "../run/ending/final-state.mjs";
  * @property {number} changes of agents in it
  * @property {boolean} isEarly whether a timed wait ends in it while something else can move
  * @property {string[] | null} detail how the real run by that schedule ended; null: it isn't shown
+ * @property {string | null} notShown why it isn't shown
  * @property {string | null} onlyIf what time must pass in that run
  */
 
@@ -24,6 +25,7 @@ import { FinalStates } from "../run/ending/final-state.mjs";
  * @typedef {object} EveryData
  * @property {boolean} closed whether every schedule was tried
  * @property {string | null} open why not
+ * @property {boolean} isWhole whether all was done: every schedule was tried, and nothing was cut short by the time
  * @property {number} agents
  * @property {boolean} areAlike whether two agents are alike: states that differ only by an exchange of like agents
  * count as one then
@@ -41,6 +43,7 @@ import { FinalStates } from "../run/ending/final-state.mjs";
  * @property {number} waysTried behind so many of these the nodes were learned again
  * @property {{ why: string, nodes: number }[]} hidden moments that were compared with no others, and why
  * @property {number} realRuns that agree with what was learned
+ * @property {import("../seeds/ranges.mjs").SeedRange[]} notRun the seeds of those for which there was no time
  * @property {number} notCompared real runs that have no whole trace, and so weren't compared
  * @property {boolean} searchProved whether the proved search has found the same: the numbers are its own then
  * @property {string | null} notProved why there was no proved search
@@ -56,16 +59,11 @@ const NOTHING = Object.freeze({
 });
 
 /** @param {EveryResult} tried @returns {EveryData} */
-export function dataOf({ report, open, realRuns, made, isProved, notProved, shown, onlyRuns, milliseconds }) {
-  const closed = open === undefined;
-  const proved = { searchProved: isProved, notProved: notProved ?? null };
-  const common = { closed, open: open ?? null, realRuns, notCompared: made - realRuns, ...proved, milliseconds };
+export function dataOf({ report, open, shown, onlyRuns, ...tried }) {
+  const common = commonOf(open, tried);
   if (report === undefined) return { ...NOTHING, agents: 0, areAlike: false, ...common };
   const { counts, depth = null, findings, hasLikes, hidden, plan, result, ways, widest } = report;
-  const found = findings.map(({ row: _row, goesOn: _goesOn, spins: _spins, ...finding }) => {
-    const { outcome } = shown.find((each) => each.finding.row === _row) ?? {};
-    return { ...finding, runs: 0, seed: null, ...endOf(outcome) };
-  });
+  const found = findings.map((finding) => dataOfFinding(finding, shown.find((each) => each.finding === finding)));
   return {
     ...common, agents: plan.agents, areAlike: hasLikes, states: result.states, acts: result.acts, depth,
     finals: finalsOf(report), finalCount: result.final.count, found: [...found, ...onlyRuns.map(dataOfRuns)],
@@ -75,6 +73,27 @@ export function dataOf({ report, open, realRuns, made, isProved, notProved, show
   };
 }
 
+/**
+ * @param {string | undefined} open
+ * @param {Omit<EveryResult, "report" | "open" | "shown" | "onlyRuns">} tried
+ */
+function commonOf(open, { realRuns, made, notRun, isProved, notProved, isCut, milliseconds }) {
+  const closed = open === undefined;
+  const runs = { realRuns, notRun, notCompared: made - realRuns };
+  const proved = { searchProved: isProved, notProved: notProved ?? null };
+  return { closed, open: open ?? null, isWhole: closed && !isCut, ...runs, ...proved, milliseconds };
+}
+
+/**
+ * @param {import("./learning/findings.mjs").Finding} finding
+ * @param {import("./showing.mjs").ShownFinding} [shown]
+ * @returns {FoundData}
+ */
+function dataOfFinding({ kind, text, states, acts, changes, isEarly }, { isSame, outcome, why } = { isSame: false }) {
+  const end = isSame ? endOf(outcome) : endOf();
+  return { kind, text, states, acts, changes, isEarly, runs: 0, seed: null, ...end, notShown: why ?? null };
+}
+
 /** @param {import("../seeds/job.mjs").CheckedOutcome} [outcome] @returns {Pick<FoundData, "detail" | "onlyIf">} */
 const endOf = (outcome) => ({ detail: outcome?.detail.split("\n") ?? null, onlyIf: outcome?.onlyIf ?? null });
 
@@ -82,7 +101,7 @@ const endOf = (outcome) => ({ detail: outcome?.detail.split("\n") ?? null, onlyI
 function dataOfRuns({ kind, text, runs, outcome }) {
   const { seed, onlyIf } = outcome;
   const byRun = { states: 0, runs, seed, acts: 0, changes: 0, isEarly: onlyIf !== undefined };
-  return { kind, text, ...byRun, ...endOf(outcome) };
+  return { kind, text, ...byRun, ...endOf(outcome), notShown: null };
 }
 
 /** @param {LearningReport} report @returns {EveryData["finals"]} */

@@ -1,6 +1,7 @@
 // The plain text of what is reported about every schedule.
 
 import { countText, digits, listed } from "../run/words/summary-words.mjs";
+import { rangesText } from "../seeds/ranges.mjs";
 
 /** @typedef {import("./data.mjs").EveryData} EveryData */
 /** @typedef {import("./data.mjs").FoundData} FoundData */
@@ -31,6 +32,7 @@ function closedLines(data) {
     ...foundLines(data),
     indented(`${countText(states, "state")}, ${countText(acts, "act")}; ${finalText(data)}`),
     indented(learnedText(data)),
+    ...notRunLines(data),
     indented(mergedText(data)),
     ...alikeLines(data),
     "other numbers of agents, rounds or arguments weren't tried",
@@ -52,9 +54,9 @@ function foundLines({ found, notCompared, realRuns }) {
 
 /** @param {FoundData} found @param {number} made how many real runs */
 function findingLines(found, made) {
-  const { detail, kind, onlyIf, text } = found;
+  const { detail, kind, notShown, onlyIf, text } = found;
   const what = text === "" || text === detail?.[0] ? kind : `${kind}: ${text}`;
-  const lines = detail === null ? ["not shown by a real run"] : detail.slice(0, 4);
+  const lines = detail === null ? [`not shown by a real run: ${notShown}`] : detail.slice(0, 4);
   const how = found.seed === null ? bySearch(found) : byRuns(found, made);
   return [`${what}, ${how}`, ...lines.map(indented), ...(onlyIf === null ? [] : [indented(onlyIf)])];
 }
@@ -84,6 +86,10 @@ function learnedText({ edges, moments, notCompared, notProved, realRuns, searchP
   const byWays = ways === 0 ? "" : `, by ${some} to moments that have several`;
   return `${search}; ${learned}, each of ${countText(edges, "edge")} twice${byWays}; ${runs}${others}`;
 }
+
+/** @param {EveryData} data @returns {string[]} the seeds for which there was no time */
+const notRunLines = ({ notRun }) =>
+  (notRun.length === 0 ? [] : [indented(`its time was over, with the ${rangesText(notRun)} not run`)]);
 
 /** @param {EveryData} data */
 function mergedText({ hidden }) {

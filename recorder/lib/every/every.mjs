@@ -3,6 +3,8 @@
 
 import { Refused } from "../options/refused.mjs";
 import { preloads } from "../processes/preloads.mjs";
+import { TIME_OVER, TimeOver, overAfter } from "../processes/time-over.mjs";
+import { seedsWithout } from "../seeds/ranges.mjs";
 import { Runs } from "../seeds/runs.mjs";
 import { simulatorAt } from "../simulator/chosen.mjs";
 import { Agreement } from "./agreement.mjs";
@@ -12,7 +14,7 @@ import { OnlyRuns } from "./only-runs.mjs";
 import { programOf } from "./search/file.mjs";
 import { beginSearch } from "./proved.mjs";
 import { comparedBySecond, needFound } from "./second-search.mjs";
-import { firstNotShown, shownFindings } from "./showing.mjs";
+import { endOf, explained, firstNotShown, shownFindings } from "./showing.mjs";
 
 /** @typedef {import("./learning/learning-report.mjs").LearningReport} LearningReport */
 /** @typedef {import("./showing.mjs").ShownFinding} ShownFinding */
@@ -20,7 +22,8 @@ import { firstNotShown, shownFindings } from "./showing.mjs";
 
 /**
  * @typedef {import("../seeds/runs.mjs").RunsOptions & { within: number, states: number, agents?: number,
- * buffers?: number[], noBlock?: number[] }} EveryRunOptions `within` how many seconds, and `states` how many states
+ * buffers?: number[], noBlock?: number[] }} EveryRunOptions `within` how many seconds all may take, and `states` how
+ * many states
  */
 
 /**
@@ -29,33 +32,44 @@ import { firstNotShown, shownFindings } from "./showing.mjs";
  * @property {string | undefined} open why not every schedule was tried; undefined: every one was
  * @property {number} realRuns how many real runs agree with what was learned
  * @property {number} made how many there were
+ * @property {import("../seeds/ranges.mjs").SeedRange[]} notRun the seeds of those for which there was no time
  * @property {import("./only-runs.mjs").OnlyRun[]} onlyRuns what they have shown and the search hasn't found
  * @property {boolean} isProved whether the proved search has found the same: the report's result is its own then
  * @property {string | undefined} notProved why there was no proved search
- * @property {ShownFinding[]} shown
+ * @property {boolean} isCut whether there was no time for something of a search that is closed
+ * @property {ShownFinding[]} shown what was found: each with the run that shows it, or with why none does
  * @property {number} milliseconds
  */
 
-/** @typedef {Pick<EveryResult, "realRuns" | "made" | "onlyRuns">} RealRuns */
+/** @typedef {Pick<EveryResult, "realRuns" | "made" | "notRun" | "onlyRuns">} RealRuns */
 
-/** @type {RealRuns} */
-const NO_RUNS = Object.freeze({ realRuns: 0, made: 0, onlyRuns: [] });
+/** What there is of a search that isn't closed. */
+const NOTHING = Object.freeze({
+  realRuns: 0, made: 0, notRun: [], onlyRuns: [], isProved: false, notProved: undefined, isCut: false,
+});
+
+/** So much of the time a search may take: what comes behind it needs some, too. */
+const SHARE_OF_SEARCH = 0.75;
 
 const KEEPS = "Its modules keep something from run to run: with --fresh, which begins them anew, it does as learned";
 const NOT_KNOWN = "It may go by chance, by a clock, or by something that isn't shown";
 const PRELOADED = "not every schedule can be tried if --require or --import of node loads code first: nobody sees what "
   + "that keeps";
+const NOT_AGAIN = "its time was over when all states were found, before each step was learned a second time";
 const CHANGES_BUILTINS = "an agent changes the language's own objects, so what was learned may be wrong";
 
 export class Every {
   /**
    * @param {EveryRunOptions} options
-   * @param {{ signal?: AbortSignal, job?: import("../seeds/runs.mjs").AnyJob }} how what ends it; the first job of the
-   * real runs, if it has begun or is in this process
+   * @param {{ signal?: AbortSignal, over?: AbortSignal, job?: import("../seeds/runs.mjs").AnyJob }} how what ends it;
+   * what is aborted when the time is over that it may take, if that has begun; the first job of the real runs, if it has
+   * begun or is in this process
    */
-  constructor(options, { signal, job }) {
+  constructor(options, { signal, over = overAfter(options.within), job }) {
     this.options = options;
     this.signal = signal;
+    this.over = over;
+    this.begun = performance.now();
     this.job = job;
     /** How many states were found so far. */
     this.states = 0;
@@ -68,15 +82,14 @@ export class Every {
   /** @returns {Promise<EveryResult>} */
   async run() {
     if (preloads()) throw new Refused(PRELOADED);
-    const begun = performance.now();
     const tried = await this.#tried();
-    return { ...tried, milliseconds: performance.now() - begun };
+    return { ...tried, milliseconds: performance.now() - this.begun };
   }
 
   /** @returns {Promise<Omit<EveryResult, "milliseconds">>} */
   async #tried() {
-    const { job, signal } = this;
-    const real = new Runs({ ...this.#ofRuns(), wanted: { needsTrace: true } }, { signal, job });
+    const { job } = this;
+    const real = new Runs({ ...this.#ofRuns(), wanted: { needsTrace: true } }, { signal: this.#ending(), job });
     const running = this.#take(real);
     // If something else fails, nobody waits for the runs.
     running.catch(() => {});
@@ -85,12 +98,9 @@ export class Every {
     this.threads = { again: beginAgain(), search: this.options.sabsim ? undefined : beginSearch() };
     try {
       const report = await this.#report();
-      const nothing = { ...NO_RUNS, isProved: false, notProved: undefined };
-      if (typeof report === "string") return { report: undefined, open: report, ...nothing, shown: [] };
+      if (typeof report === "string") return { report: undefined, open: report, ...NOTHING, shown: [] };
       if (report.changesBuiltins) throw new NotAsLearned(CHANGES_BUILTINS);
-      if (!report.isClosed) {
-        return { report, open: openText(report), ...nothing, shown: await this.#shownSoFar(report) };
-      }
+      if (!report.isClosed) return await this.#open(report, openText(report));
       const again = this.#learnAgain(report);
       // The second learning knows more about why a run differs.
       const agreeing = this.#agreeing(report, running).catch((problem) => again.then(() => Promise.reject(problem)));
@@ -99,7 +109,11 @@ export class Every {
       ]);
       const shown = await this.#shown(report);
       const proved = { isProved: why === undefined, notProved: why };
-      return { report: { ...report, result }, open: undefined, ...ofRuns, ...proved, shown };
+      const isCut = ofRuns.notRun.length > 0 || why === TIME_OVER || shown.some((each) => each.why === TIME_OVER);
+      return { report: { ...report, result }, open: undefined, ...ofRuns, ...proved, isCut, shown };
+    } catch (problem) {
+      if (!(problem instanceof NotLearnedAgain)) throw problem;
+      return await this.#open(problem.report, NOT_AGAIN);
     } finally {
       ending.abort();
       const { again, search } = this.threads;
@@ -110,11 +124,21 @@ export class Every {
   /** @param {LearningReport} report @param {AbortSignal} ending */
   async #second({ file, findings, result }, ending) {
     const { sabsim } = this.options;
-    const signal = this.signal === undefined ? ending : AbortSignal.any([ending, this.signal]);
+    const signal = AbortSignal.any([ending, this.#ending()]);
     const { search: thread } = this.threads ?? {};
-    const second = await comparedBySecond(file, result, { program: sabsim || undefined, signal, thread });
-    if (second.result !== undefined) needFound(findings, second.result);
-    return second;
+    try {
+      const second = await comparedBySecond(file, result, { program: sabsim || undefined, signal, thread });
+      if (second.result !== undefined) needFound(findings, second.result);
+      return second;
+    } catch (problem) {
+      if (!(problem instanceof TimeOver)) throw problem;
+      return { why: TIME_OVER };
+    }
+  }
+
+  /** @returns {AbortSignal} aborted when the time is over, or the caller ends all */
+  #ending() {
+    return this.signal === undefined ? this.over : AbortSignal.any([this.signal, this.over]);
   }
 
   /** What agents do before their first calls is searched in the order of the agents, so they begin in turn. */
@@ -123,9 +147,13 @@ export class Every {
     return { ...this.options, inTurn: true, isBrief: false, trace: true, checkEvery: 1, sabsim };
   }
 
-  /** @param {Runs} runs */
+  /** @param {Runs} runs that end when the time is over */
   async #take(runs) {
-    for await (const outcome of runs.outcomes()) this.outcomes.push(outcome);
+    try {
+      for await (const outcome of runs.outcomes()) this.outcomes.push(outcome);
+    } catch (problem) {
+      if (!(problem instanceof TimeOver)) throw problem;
+    }
   }
 
   /** @returns {Promise<LearningReport | string>} a text: why nothing could be learned */
@@ -134,9 +162,11 @@ export class Every {
     /** @type {"early" | "never"} */
     const choice = timeouts === "never" ? "never" : "early";
     const onProgress = (/** @type {number} */ found) => void (this.states = found);
-    const wanted = { module, args, place: { agents, buffers, noBlock }, timeouts: choice, limit: states, within };
+    const search = Math.max(SHARE_OF_SEARCH * within - (performance.now() - this.begun) / 1_000, 0);
+    const place = { agents, buffers, noBlock };
+    const wanted = { module, args, place, timeouts: choice, limit: states, within: search };
     try {
-      return await learnApart(wanted, { seconds, onProgress, signal: this.signal });
+      return await learnApart(wanted, { seconds, onProgress, signal: this.signal, over: this.over });
     } catch (problem) {
       if (problem instanceof DoesOtherwise) throw new NotAsLearned(problem.message);
       if (problem instanceof Unlearned) return problem.message;
@@ -145,12 +175,14 @@ export class Every {
   }
 
   /** @param {LearningReport} report */
-  async #learnAgain({ edges, isShared, nodes, plan }) {
-    const { args, fresh, module, seconds } = this.options;
+  async #learnAgain(report) {
+    const { edges, isShared, nodes, plan } = report;
+    const { over, options: { args, fresh, module, seconds } } = this;
     const given = { module, args, plan, isShared, isFresh: fresh === true, nodes, edges };
-    const differs = await learnAgain(given, { seconds, thread: this.threads?.again });
+    const differs = await learnAgain(given, { seconds, over, thread: this.threads?.again });
+    if (differs === TIME_OVER) throw new NotLearnedAgain(report);
     if (differs === undefined) return;
-    const keeps = fresh !== true && await learnAgain({ ...given, isFresh: true }, { seconds }) === undefined;
+    const keeps = fresh !== true && await learnAgain({ ...given, isFresh: true }, { seconds, over }) === undefined;
     throw new NotAsLearned("the code as it is written, loaded anew, does something else than was learned. "
       + `${differs}. ${keeps ? KEEPS : NOT_KNOWN}`);
   }
@@ -168,23 +200,44 @@ export class Every {
     for (const outcome of this.outcomes.slice(0, early)) only.take(outcome, agreement.needs(outcome));
     await running;
     for (const outcome of this.outcomes.slice(early)) only.take(outcome, agreement.needs(outcome));
-    return { realRuns: agreement.compared, made: this.outcomes.length, onlyRuns: [...only.found.values()] };
+    const made = this.outcomes.length;
+    const onlyRuns = [...only.found.values()];
+    return { realRuns: agreement.compared, made, notRun: this.#notRun(), onlyRuns };
   }
 
-  /** @param {LearningReport} report that isn't closed @returns {Promise<ShownFinding[]>} what real runs show of it */
-  async #shownSoFar({ findings }) {
-    return (await shownFindings(findings, this.options)).filter(({ isSame }) => isSame);
+  /** @returns {import("../seeds/ranges.mjs").SeedRange[]} the seeds whose runs weren't made */
+  #notRun() {
+    const { first, last } = this.options;
+    return seedsWithout([{ first, last }], this.outcomes.map(({ seed }) => ({ first: seed, last: seed })));
   }
 
-  /** @param {LearningReport} report */
+  /**
+   * @param {LearningReport} report
+   * @param {string} open why not every schedule was tried
+   * @returns {Promise<Omit<EveryResult, "milliseconds">>}
+   */
+  async #open(report, open) {
+    const shown = explained(await shownFindings(report.findings, this.options, this.#ending()));
+    return { report, open, ...NOTHING, shown };
+  }
+
+  /** @param {LearningReport} report that is closed */
   async #shown({ findings }) {
-    const found = await shownFindings(findings, this.options);
-    const other = firstNotShown(found);
-    if (other === undefined) return found.filter(({ isSame }) => isSame);
-    const { finding: { kind, text }, outcome: { ending, detail } } = other;
+    const found = await shownFindings(findings, this.options, this.#ending());
+    const { finding, outcome } = firstNotShown(found) ?? {};
+    if (finding === undefined || outcome === undefined) return explained(found);
+    const { kind, text } = finding;
     const what = text === "" ? kind : `${kind} (${text})`;
-    const how = detail === "" ? ending : `${ending}, ${detail.split("\n")[0]}`;
-    throw new NotAsLearned(`the search has found ${what}, but the run by its schedule ends so: ${how}`);
+    throw new NotAsLearned(`the search has found ${what}, but the run by its schedule ends so: ${endOf(outcome)}`);
+  }
+}
+
+/** There was no time for the second learning. */
+class NotLearnedAgain extends Error {
+  /** @param {LearningReport} report of the first one */
+  constructor(report) {
+    super(NOT_AGAIN);
+    this.report = report;
   }
 }
 

@@ -1,6 +1,9 @@
 // Shows what a search has found by runs of the code as it is, in real workers: each goes by the schedule that leads
 // there.
 
+import { SCRIPT_LIMITS } from "../../script/limits.mjs";
+import { TIME_OVER } from "../processes/time-over.mjs";
+import { countText, digits } from "../run/words/summary-words.mjs";
 import { Job } from "../seeds/job.mjs";
 
 /** @typedef {import("./learning/findings.mjs").Finding} Finding */
@@ -9,51 +12,106 @@ import { Job } from "../seeds/job.mjs";
 /**
  * @typedef {object} ShownFinding
  * @property {Finding} finding
- * @property {CheckedOutcome} outcome of the run by its schedule
+ * @property {CheckedOutcome} [outcome] of the run by its schedule, if there was one
  * @property {boolean} isSame whether that run fails in the same way
+ * @property {string} [why] why no run shows it, if none does
  */
 
 /** So many are shown. */
 export const MOST_SHOWN = 20;
 
+const NO_MORE = `only the first ${MOST_SHOWN} are shown by runs`;
+const AFTER_RACE = "with a race a real run may differ from the search";
+const SPINS = "a real run can't change agents in a loop of ordinary reads";
+
+/**
+ * @param {Finding} finding
+ * @param {{ maxMoves: number }} options of runs
+ * @returns {string | undefined} why no run can go by its schedule
+ */
+function whyNoRun({ calls, row }, { maxMoves }) {
+  const most = calls.reduce((one, other) => Math.max(one, other));
+  if (most > SCRIPT_LIMITS.calls) return `it needs ${countText(most, "call")} of agent ${calls.indexOf(most)}`;
+  if (row.length > maxMoves) return `it needs ${countText(row.length, "move")}, and ${digits(maxMoves)} are the most`;
+  return undefined;
+}
+
 /**
  * @param {Finding[]} findings
  * @param {import("../seeds/runs.mjs").RunsOptions} options of the runs
- * @returns {Promise<ShownFinding[]>} the first ones
+ * @param {AbortSignal} over aborted when there is no more time for it
+ * @returns {Promise<ShownFinding[]>} all of them, the first ones with their runs
  */
-export async function shownFindings(findings, options) {
-  const wanted = findings.slice(0, MOST_SHOWN).map(({ row, goesOn }, at) =>
+export async function shownFindings(findings, options, over) {
+  const first = findings.slice(0, MOST_SHOWN).filter((finding) => whyNoRun(finding, options) === undefined);
+  const outcomes = first.length === 0 || over.aborted ? [] : await outcomesOf(first, options, over);
+  return findings.map((finding, at) => {
+    const outcome = outcomes[first.indexOf(finding)];
+    if (outcome !== undefined) return { finding, outcome, isSame: isShownBy(finding, outcome), why: undefined };
+    return { finding, outcome, isSame: false, why: at < MOST_SHOWN ? whyNoRun(finding, options) ?? TIME_OVER : NO_MORE };
+  });
+}
+
+/**
+ * @param {Finding[]} findings
+ * @param {import("../seeds/runs.mjs").RunsOptions} options
+ * @param {AbortSignal} over
+ * @returns {Promise<CheckedOutcome[]>} of the runs by their schedules, as far as there is time for them
+ */
+async function outcomesOf(findings, options, over) {
+  const wanted = findings.map(({ row, goesOn }, at) =>
     ({ seed: at + 1, whole: true, needsTrace: true, wantsRow: true, row, isExact: !goesOn }));
-  if (wanted.length === 0) return [];
+  const stopped = new Promise((done) => {
+    over.addEventListener("abort", () => done(undefined));
+  });
   const job = new Job();
-  /** @type {ShownFinding[]} */
-  const found = [];
-  try {
+  /** @type {CheckedOutcome[]} */
+  const outcomes = [];
+  const make = async () => {
     const { sabsim, checkEvery } = options;
     const checking = { checkEvery: 1, checks: checkEvery > 0, sabsim: sabsim || undefined };
     await job.open({ ...options, inTurn: true, everywhere: true, trace: true, ...checking });
-    await job.run(wanted, (outcome) => {
-      const finding = findings[found.length];
-      found.push({ finding, outcome, isSame: isShownBy(finding, outcome) });
-    });
+    await job.run(wanted, (outcome) => void outcomes.push(outcome));
+  };
+  try {
+    await Promise.race([make(), stopped]);
   } finally {
     await job.close();
   }
-  return found;
+  return [...outcomes];
 }
+
+/** @param {ShownFinding[]} found @returns {boolean} whether a run shows a race */
+const isRaceShown = (found) => found.some(({ finding: { kind }, isSame }) => kind === "race" && isSame);
+
+/** @param {ShownFinding} shown @returns {boolean} whether its run stays in a loop of reads */
+const isHeldUp = ({ finding, outcome }) => finding.spins && outcome?.ending === "limit";
 
 /**
  * Behind a race, real runs may differ from a search that makes all accesses of a segment at once. So if a race is
  * shown, nothing else has to be. The first race has none before it, so it has to be shown, unless a real run goes on in
  * a loop of reads, where a search changes agents.
  * @param {ShownFinding[]} found
- * @returns {ShownFinding | undefined} the first that has to be shown and isn't
+ * @returns {ShownFinding | undefined} the first whose run has to show it and doesn't
  */
 export function firstNotShown(found) {
-  const isRaceShown = found.some(({ finding: { kind }, isSame }) => kind === "race" && isSame);
-  const hasToBe = (/** @type {ShownFinding} */ { finding, outcome }) => !(finding.spins && outcome.ending === "limit");
-  return isRaceShown ? undefined : found.find((each) => !each.isSame && hasToBe(each));
+  if (isRaceShown(found)) return undefined;
+  return found.find((each) => each.outcome !== undefined && !each.isSame && !isHeldUp(each));
 }
+
+/** @param {ShownFinding[]} found @returns {ShownFinding[]} each that no run shows with the reason */
+export function explained(found) {
+  const hasRace = isRaceShown(found);
+  return found.map((each) => {
+    const { isSame, outcome } = each;
+    if (isSame || outcome === undefined) return each;
+    if (hasRace) return { ...each, why: AFTER_RACE };
+    return { ...each, why: isHeldUp(each) ? SPINS : `the run by its schedule ends so: ${endOf(outcome)}` };
+  });
+}
+
+/** @param {CheckedOutcome} outcome @returns {string} how its run ended, in a line */
+export const endOf = ({ detail, ending }) => (detail === "" ? ending : `${ending}, ${detail.split("\n")[0]}`);
 
 /** @param {string} text @returns {string} without its numbers */
 export const plain = (text) => text.replace(/-?\d+/g, "#");

@@ -18,6 +18,9 @@ export const countOf = ({ first, last }) => last - first + 1;
 /** @param {SeedRange} range @returns {string} as `seeds 501 to 750` */
 export const rangeText = ({ first, last }) => (first === last ? `seed ${first}` : `seeds ${first} to ${last}`);
 
+/** @param {SeedRange[]} ranges @returns {string} as `seeds 3 to 7 and seed 9` */
+export const rangesText = (ranges) => ranges.map(rangeText).join(" and ");
+
 /**
  * The seeds of a shard: the shards' seeds follow each other, and of two shards one has at most one seed more.
  * @param {SeedRange} range with at least as many seeds as there are shards

@@ -1,5 +1,5 @@
 // A trial of every schedule of a module of agents: it fails if something is found, and if not every schedule could be
-// tried.
+// tried, or there was no time for all that follows.
 
 import { dataOf } from "../every/data.mjs";
 import { Every } from "../every/every.mjs";
@@ -17,6 +17,6 @@ export async function everyTried(options, caller) {
   const { signal, ...taken } = everyOptions(options, caller.folder);
   const data = dataOf(await new Every(taken, { signal, job: jobHere(taken) }).run());
   const text = everyText(data).trimEnd();
-  if (!data.closed || data.found.length > 0) throw new RunFailed(text, caller.place);
+  if (!data.isWhole || data.found.length > 0) throw new RunFailed(text, caller.place);
   return text;
 }

@@ -3,6 +3,8 @@
 import { begunThread } from "../../processes/thread.mjs";
 import { GRAPH_FLAGS } from "../../program/node/graph-flags.cjs";
 import { Refused } from "../../options/refused.mjs";
+import { framesOf } from "../../processes/place-of-thread.mjs";
+import { TIME_OVER } from "../../processes/time-over.mjs";
 import { PART, PROGRESS } from "./learning-progress.mjs";
 
 /** @typedef {import("../../processes/thread.mjs").Thread} Thread */
@@ -10,11 +12,17 @@ import { PART, PROGRESS } from "./learning-progress.mjs";
 
 const LEARNING = new URL("./learning-worker.mjs", import.meta.url);
 const AGAIN = new URL("./again-worker.mjs", import.meta.url);
+const LINE = new URL("./line-worker.mjs", import.meta.url);
+const LIBRARY = new URL("../../", import.meta.url).href;
 
 /** What a thread needs that uses node's parser. */
 const FLAGS = [...process.execArgv, ...GRAPH_FLAGS];
 
 const POLLS_EVERY = 100;
+
+/** So many milliseconds are left to what is at work when the time is over: to code of the agents, and to all of it. */
+const GRACE_OF_AGENTS = 1_000;
+const GRACE = 10_000;
 
 /** What doesn't come back, by the numbers of the parts. */
 const LATE = Object.freeze([
@@ -35,20 +43,25 @@ export class DoesOtherwise extends Error {}
 /**
  * Learns the agents of a module, and searches all their schedules.
  * @param {ApartLearning} wanted
- * @param {{ seconds: number, onProgress?: (states: number) => void, signal?: AbortSignal }} how for how long an agent
- * may make no call; what ends it
+ * @param {object} how
+ * @param {number} how.seconds for how long an agent may make no call
+ * @param {(states: number) => void} [how.onProgress]
+ * @param {AbortSignal} [how.signal] what ends it
+ * @param {AbortSignal} [how.over] aborted when the time of the whole command is over
  * @returns {Promise<LearningReport>}
  * @throws {Refused | Unlearned | DoesOtherwise}
  */
-export async function learnApart(wanted, { seconds, onProgress = () => {}, signal }) {
+export async function learnApart(wanted, { seconds, onProgress = () => {}, signal, over }) {
   const thread = begunThread(LEARNING, FLAGS);
-  const watch = new Watch(thread, seconds, onProgress);
+  const watch = new Watch(thread, seconds, { onProgress, over });
   thread.give(LEARNING, { ...wanted, progress: watch.words.buffer });
   const stop = () => void thread.stop();
   signal?.addEventListener("abort", stop);
   try {
-    const message = await next(thread, watch).catch((problem) => Promise.reject(signal?.reason ?? problem));
-    return reportIn(message);
+    const { message, ended } = await thread.next();
+    if (ended === undefined) return reportIn(message);
+    if (signal?.aborted) throw signal.reason;
+    throw new Unlearned(isStopped(ended) ? await watch.late(wanted.module) : ended);
   } finally {
     signal?.removeEventListener("abort", stop);
     watch.end();
@@ -61,24 +74,38 @@ class Watch {
   /**
    * @param {Thread} thread
    * @param {number} seconds for how long the code may run
-   * @param {(states: number) => void} [onProgress]
+   * @param {{ onProgress?: (states: number) => void, over?: AbortSignal }} [how]
    */
-  constructor(thread, seconds, onProgress = () => {}) {
+  constructor(thread, seconds, { onProgress = () => {}, over } = {}) {
     this.words = new Int32Array(new SharedArrayBuffer(4 * PROGRESS.WORDS));
     this.thread = thread;
     this.seconds = seconds;
+    this.over = over;
     this.calls = -1;
     this.since = performance.now();
+    /** @type {number | undefined} since when the time of all is over */
+    this.overSince = undefined;
+    /** For how many seconds the code had run that was ended. */
+    this.ran = seconds;
+    /** @type {import("../../processes/place-of-thread.mjs").StackFrame[] | undefined} where the code was then */
+    this.frames = undefined;
     this.timer = setInterval(() => {
       onProgress(this.words[PROGRESS.STATES]);
       this.#look();
     }, POLLS_EVERY);
   }
 
-  /** Why the thread was ended. */
-  get late() {
+  /**
+   * @param {string} [rewritten] the agents' module, if its code was rewritten
+   * @returns {Promise<string>} why the thread was ended
+   */
+  async late(rewritten) {
     const part = this.words[PROGRESS.RUNS];
-    return `${LATE[part]} didn't come back within ${this.seconds} s${part === PART.AGENT ? OF_AGENT : ""}`;
+    if (part === PART.NONE) return TIME_OVER;
+    const frames = (this.frames ?? []).filter(({ file }) => file.startsWith("file:") && !file.startsWith(LIBRARY));
+    const [line] = rewritten === undefined ? frames.map(writtenLine) : [await lineAt(rewritten, frames)];
+    const where = line === undefined ? "" : `; it is at ${line}`;
+    return `${LATE[part]} didn't come back within ${this.ran} s${part === PART.AGENT ? OF_AGENT : ""}${where}`;
   }
 
   end() {
@@ -88,9 +115,22 @@ class Watch {
   #look() {
     const { words } = this;
     const isSame = words[PROGRESS.RUNS] !== PART.NONE && words[PROGRESS.CALLS] === this.calls;
-    if (!isSame) this.since = performance.now();
+    const now = performance.now();
+    if (!isSame) this.since = now;
     this.calls = words[PROGRESS.CALLS];
-    if (performance.now() - this.since > 1_000 * this.seconds) void this.thread.stop();
+    if (this.over?.aborted) this.overSince ??= now;
+    const ran = now - this.since;
+    const isOver = this.overSince !== undefined && (ran > GRACE_OF_AGENTS || now - this.overSince > GRACE);
+    if (isOver && ran <= 1_000 * this.seconds) this.ran = Math.ceil(ran / 1_000);
+    if (isOver || ran > 1_000 * this.seconds) void this.#end();
+  }
+
+  /** Ends the thread, and asks it before where it is. */
+  async #end() {
+    if (this.frames !== undefined) return;
+    this.frames = [];
+    this.frames = await framesOf(this.thread.worker);
+    await this.thread.stop();
   }
 }
 
@@ -103,11 +143,26 @@ function reportIn({ report, refused, unlearned, differs, failed }) {
   return report;
 }
 
-/** @param {Thread} thread @param {Watch} watch */
-async function next(thread, watch) {
-  const { message, ended } = await thread.next();
-  if (ended !== undefined) throw new Unlearned(/exit code 1$/.test(ended) ? watch.late : ended);
-  return message;
+/** @param {import("../../processes/place-of-thread.mjs").StackFrame} frame of code as it is written */
+const writtenLine = ({ file, line, column }) => `${file.slice(file.lastIndexOf("/") + 1)}:${line}:${column}`;
+
+/** @param {string} ended why a thread is no more @returns {boolean} whether it was stopped from outside */
+const isStopped = (ended) => /exit code 1$/.test(ended);
+
+/**
+ * @param {string} module
+ * @param {import("../../processes/place-of-thread.mjs").StackFrame[]} frames of its rewritten code
+ * @returns {Promise<string | undefined>} the line of the module as it is written
+ */
+async function lineAt(module, frames) {
+  if (frames.length === 0) return undefined;
+  const thread = begunThread(LINE, FLAGS);
+  thread.give(LINE, { module, frames });
+  try {
+    return (await thread.next()).message?.line;
+  } finally {
+    await thread.stop();
+  }
 }
 
 /** @returns {Thread} one that learns again, once it is given what: it loads the recorder's modules ahead of that */
@@ -120,20 +175,25 @@ export function beginAgain() {
 /**
  * Learns each edge once more, in the code as it is written.
  * @param {Omit<import("./again-worker.mjs").AgainWorkerData, "progress">} given
- * @param {{ seconds?: number, thread?: Thread }} how for how long an agent may make no call; one that was begun for it
- * @returns {Promise<string | undefined>} how it differs
+ * @param {object} how
+ * @param {number} [how.seconds] for how long an agent may make no call
+ * @param {AbortSignal} [how.over] aborted when there is no more time for it
+ * @param {Thread} [how.thread] one that was begun for it
+ * @returns {Promise<string | undefined>} how it differs, or that its time was over
  */
-export async function learnAgain(given, { seconds = Infinity, thread = beginAgain() } = {}) {
+export async function learnAgain(given, { seconds = Infinity, over, thread = beginAgain() } = {}) {
   const watch = new Watch(thread, seconds);
+  const stop = () => void thread.stop();
+  over?.addEventListener("abort", stop);
   thread.give(AGAIN, { ...given, progress: watch.words.buffer });
   try {
-    const { differs, failed } = await next(thread, watch);
-    if (failed !== undefined) throw new Error(failed);
-    return differs;
-  } catch (problem) {
-    if (problem instanceof Unlearned) return `There ${problem.message}`;
-    throw problem;
+    const { message, ended } = over?.aborted ? { message: undefined, ended: TIME_OVER } : await thread.next();
+    if (ended !== undefined && over?.aborted) return TIME_OVER;
+    if (ended !== undefined) return `There ${isStopped(ended) ? await watch.late() : ended}`;
+    if (message.failed !== undefined) throw new Error(message.failed);
+    return message.differs;
   } finally {
+    over?.removeEventListener("abort", stop);
     watch.end();
     await thread.stop();
   }

@@ -19,6 +19,7 @@ import { problemOf } from "./thrown.mjs";
  * @property {string} text what was thrown, or what `check` found, or which lines race
  * @property {number} states how many have it
  * @property {number[]} row the agents in the order in which they move, as a run goes by it
+ * @property {number[]} calls of each agent how many it makes on the way
  * @property {number} changes of agents
  * @property {number} acts
  * @property {boolean} isEarly whether a timed wait ends while something else can move
@@ -150,27 +151,32 @@ export class Findings {
    * @returns {Finding}
    */
   #finding({ key, kind, text, states }, { state, agents, names, changes, isEarly }) {
-    const { row, spins } = this.#wayOf(agents);
+    const { calls, row, spins } = this.#wayOf(agents);
     const next = (this.#at(state).find((one) => one.key === key)?.next ?? []).map((agent) => names[agent]);
     const goesOn = kind === "race" || kind === "no way out";
-    return { kind, text, states, row: [...row, ...next], changes, acts: agents.length, isEarly, goesOn, spins };
+    const moves = { row: [...row, ...next], calls, changes, acts: agents.length };
+    return { kind, text, states, ...moves, isEarly, goesOn, spins };
   }
 
   /**
    * @param {number[]} agents in the order of their acts
-   * @returns {{ row: number[], spins: boolean }} those of acts that are calls; whether one stands in a loop of reads
+   * @returns {{ row: number[], calls: number[], spins: boolean }} those of acts that are calls; of each agent how many
+   * calls it makes; whether one stands in a loop of reads
    */
   #wayOf(agents) {
     const { world } = this.search;
     world.restart();
     const stands = () => world.nodes.some(({ isAlone }) => isAlone);
     let spins = stands();
+    const calls = world.nodes.map(() => 0);
     const row = agents.filter((agent) => {
       const isOfCall = world.nodes[agent].does < DOES.READ;
+      // An agent that waits has made its call before.
+      if (isOfCall && !world.waits(agent)) calls[agent] += 1;
       world.step(agent);
       spins ||= stands();
       return isOfCall;
     });
-    return { row, spins };
+    return { row, calls, spins };
   }
 }
