@@ -34,6 +34,8 @@ export interface FoundBySchedule {
   isEarly: boolean;
   /** How the real run by that schedule ended; null: it isn't shown. */
   detail: string[] | null;
+  /** Why it isn't shown; null if it is. */
+  notShown: string | null;
   /** What time must pass in that run. */
   onlyIf: string | null;
 }
@@ -44,6 +46,8 @@ export interface EverySchedule {
   closed: boolean;
   /** Why not. */
   open: string | null;
+  /** Whether all was done: every schedule was tried, and there was time for all that is done besides. */
+  isWhole: boolean;
   agents: number;
   /**
    * Whether states that differ only by an exchange of like agents count as one. That is so if no agent looks at its
@@ -72,17 +76,24 @@ export interface EverySchedule {
   ways: number;
   /** Behind how many of these the second learning has tried what the agent does then: of each moment 16 at least. */
   waysTried: number;
-  /** Moments that were compared with no others, and why. */
-  hidden: { why: string; nodes: number }[];
+  /** Moments that were compared with no others: why, how many, and the line of the first one. */
+  hidden: { why: string; nodes: number; line: string }[];
+  /** What can be changed in the module, so that every schedule can be tried, or moments can be compared. */
+  advice: string[];
   /** How many real runs agree with what was learned. */
   realRuns: number;
+  /** The seeds of those for which there was no time. */
+  notRun: { first: number; last: number }[];
   /** How many have no whole trace, and so weren't compared. */
   notCompared: number;
   /** Whether the proved search has found the same: the numbers of states and acts are its own then. */
   searchProved: boolean;
   /** Why there was no proved search; null if there was one, or if not every schedule was tried. */
   notProved: string | null;
-  /** The automaton with the most nodes, and the line whose answers are the most. */
-  widest: { automaton: number; nodes: number; line: string | null; answers: number } | null;
+  /**
+   * The automaton with the most nodes. Then the line whose results lead to the most nodes, to how many, and how many
+   * different results a moment there has at most.
+   */
+  widest: { automaton: number; nodes: number; line: string | null; follow: number; answers: number } | null;
   milliseconds: number;
 }

@@ -180,7 +180,10 @@ export type ExploreOptions = RunOptions & ManyRuns & (OfModule | OfProgram);
 /** How far every schedule is tried. */
 export interface OfEvery {
   // tools/sections.mjs makes this from the table of options: every
-  /** For how many seconds the search of every schedule goes on. A number above 0, and 3,600 at most; else 60. */
+  /**
+   * How many seconds the search of every schedule may take, with the runs of its seeds. A number above 0, and 3,600 at
+   * most; else 60.
+   */
   within?: number;
   /**
    * How many states the search of every schedule finds at most. A whole number from 1 to 20,000,000; else 1,000,000.

@@ -6,11 +6,14 @@ import type { ManyRuns, OfModule, OfProgram, RunOptions } from "./options.cjs";
 export interface OfTrial {
   // tools/sections.mjs makes this from the table of options: trial
   /**
-   * Tries every schedule of a module of agents, as `everySchedule` does. The test fails if something is found, and if
-   * not every schedule could be tried. Else false.
+   * Tries every schedule of a module of agents, as `everySchedule` does. The test fails if something is found, if not
+   * every schedule could be tried, and if its time was over before all was done. Else false.
    */
   all?: boolean;
-  /** For how many seconds the search of every schedule goes on. A number above 0, and 3,600 at most; else 60. */
+  /**
+   * How many seconds the search of every schedule may take, with the runs of its seeds. A number above 0, and 3,600 at
+   * most; else 60.
+   */
   within?: number;
   /**
    * How many states the search of every schedule finds at most. A whole number from 1 to 20,000,000; else 1,000,000.

@@ -2,6 +2,8 @@
 
 import { FinalStates } from "../run/ending/final-state.mjs";
 
+import { adviceOf } from "./advice.mjs";
+
 /** @typedef {import("./every.mjs").EveryResult} EveryResult */
 /** @typedef {import("./learning/learning-report.mjs").LearningReport} LearningReport */
 
@@ -41,14 +43,18 @@ import { FinalStates } from "../run/ending/final-state.mjs";
  * @property {number} edgesByOne of these, both times by the same history
  * @property {number} ways that lead to nodes that have several: each is an edge, behind the shortest way to its start
  * @property {number} waysTried behind so many of these the nodes were learned again
- * @property {{ why: string, nodes: number }[]} hidden moments that were compared with no others, and why
+ * @property {{ why: string, nodes: number, line: string }[]} hidden moments that were compared with no others: why, how
+ * many, and the line of the first one
+ * @property {string[]} advice what can be changed in the module, so that every schedule can be tried, or moments can be
+ * compared
  * @property {number} realRuns that agree with what was learned
  * @property {import("../seeds/ranges.mjs").SeedRange[]} notRun the seeds of those for which there was no time
  * @property {number} notCompared real runs that have no whole trace, and so weren't compared
  * @property {boolean} searchProved whether the proved search has found the same: the numbers are its own then
  * @property {string | null} notProved why there was no proved search
- * @property {{ automaton: number, nodes: number, line: string | null, answers: number } | null} widest the automaton
- * with the most nodes, and the line whose answers are the most
+ * @property {{ automaton: number, nodes: number, line: string | null, follow: number, answers: number } | null} widest
+ * the automaton with the most nodes; the line whose results lead to the most nodes, to how many, and how many different
+ * results a moment there has at most
  * @property {number} milliseconds
  */
 
@@ -61,14 +67,15 @@ const NOTHING = Object.freeze({
 /** @param {EveryResult} tried @returns {EveryData} */
 export function dataOf({ report, open, shown, onlyRuns, ...tried }) {
   const common = commonOf(open, tried);
-  if (report === undefined) return { ...NOTHING, agents: 0, areAlike: false, ...common };
+  const advice = adviceOf(open, report);
+  if (report === undefined) return { ...NOTHING, agents: 0, areAlike: false, advice, ...common };
   const { counts, depth = null, findings, hasLikes, hidden, plan, result, ways, widest } = report;
   const found = findings.map((finding) => dataOfFinding(finding, shown.find((each) => each.finding === finding)));
   return {
     ...common, agents: plan.agents, areAlike: hasLikes, states: result.states, acts: result.acts, depth,
     finals: finalsOf(report), finalCount: result.final.count, found: [...found, ...onlyRuns.map(dataOfRuns)],
     moments: counts.moments, edges: counts.edges,
-    edgesByOne: ways.edgesByOne, ways: ways.all, waysTried: ways.tried, hidden,
+    edgesByOne: ways.edgesByOne, ways: ways.all, waysTried: ways.tried, hidden, advice,
     widest: { ...widest, line: widest.line ?? null },
   };
 }
@@ -89,9 +96,9 @@ function commonOf(open, { realRuns, made, notRun, isProved, notProved, isCut, mi
  * @param {import("./showing.mjs").ShownFinding} [shown]
  * @returns {FoundData}
  */
-function dataOfFinding({ kind, text, states, acts, changes, isEarly }, { isSame, outcome, why } = { isSame: false }) {
-  const end = isSame ? endOf(outcome) : endOf();
-  return { kind, text, states, acts, changes, isEarly, runs: 0, seed: null, ...end, notShown: why ?? null };
+function dataOfFinding({ kind, text, states, acts, changes, isEarly }, shown) {
+  const end = endOf(shown?.isSame ? shown.outcome : undefined);
+  return { kind, text, states, acts, changes, isEarly, runs: 0, seed: null, ...end, notShown: shown?.why ?? null };
 }
 
 /** @param {import("../seeds/job.mjs").CheckedOutcome} [outcome] @returns {Pick<FoundData, "detail" | "onlyIf">} */

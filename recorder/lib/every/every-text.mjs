@@ -33,7 +33,7 @@ function closedLines(data) {
     indented(`${countText(states, "state")}, ${countText(acts, "act")}; ${finalText(data)}`),
     indented(learnedText(data)),
     ...notRunLines(data),
-    indented(mergedText(data)),
+    ...mergedLines(data).map(indented),
     ...alikeLines(data),
     "other numbers of agents, rounds or arguments weren't tried",
   ];
@@ -91,11 +91,18 @@ function learnedText({ edges, moments, notCompared, notProved, realRuns, searchP
 const notRunLines = ({ notRun }) =>
   (notRun.length === 0 ? [] : [indented(`its time was over, with the ${rangesText(notRun)} not run`)]);
 
-/** @param {EveryData} data */
-function mergedText({ hidden }) {
-  const text = "two moments counted as one only if all that the agent's code can still read was the same";
+/** @param {EveryData} data @returns {string[]} */
+const mergedLines = ({ hidden }) =>
+  ["two moments counted as one only if all that the agent's code can still read was the same", ...hiddenLines(hidden)];
+
+/** @param {EveryData["hidden"]} hidden @returns {string[]} the kinds of moments that couldn't be compared */
+function hiddenLines(hidden) {
+  if (hidden.length === 0) return [];
   const apart = hidden.reduce((sum, { nodes }) => sum + nodes, 0);
-  return apart === 0 ? text : `${text}; ${countText(apart, "moment")} couldn't be compared (${hidden[0].why})`;
+  const kinds = hidden.slice(0, MOST_LISTED).map(({ line, nodes, why }) => `${digits(nodes)} at ${line} first: ${why}`);
+  const more = hidden.length > MOST_LISTED ? [`and ${countText(hidden.length - MOST_LISTED, "more kind")}`] : [];
+  const title = `${countText(apart, "moment")} couldn't be compared with others, so each of them counted alone:`;
+  return [title, ...[...kinds, ...more].map(indented)];
 }
 
 /** @param {EveryData} data @returns {string[]} what counted as one state, if agents are alike */
@@ -103,13 +110,19 @@ const alikeLines = ({ areAlike }) => (areAlike ? [indented(ALIKE)] : []);
 
 /** @param {EveryData} data */
 function openLines(data) {
-  const { found, open, widest } = data;
+  const { advice, found, hidden, open, widest } = data;
   const some = found.length === 0 ? [] : [indented(`among those that were tried, ${foundText(found)}`)];
   const lines = [`not every schedule was tried: ${open}`, ...some, ...foundLines(data), ...alikeLines(data)];
-  if (widest === null) return lines;
-  const { answers, automaton, line, nodes } = widest;
-  const branches = line === null ? "" : `; ${countText(answers, "answer")} at ${line} lead on`;
-  return [...lines, indented(`the agents of automaton ${automaton} have ${countText(nodes, "node")}${branches}`)];
+  const large = widest === null ? [] : [widestText(widest)];
+  const changes = advice.map((sentence) => `to change: ${sentence}`);
+  return [...lines, ...[...hiddenLines(hidden), ...large, ...changes].map(indented)];
+}
+
+/** @param {NonNullable<EveryData["widest"]>} widest */
+function widestText({ answers, automaton, follow, line, nodes }) {
+  const agents = `the agents of automaton ${automaton} have ${countText(nodes, "node")}`;
+  if (line === null) return agents;
+  return `${agents}; the results at ${line} lead to ${digits(follow)} of them, up to ${digits(answers)} of one moment`;
 }
 
 /** @param {string} line */

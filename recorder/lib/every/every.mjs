@@ -62,8 +62,8 @@ export class Every {
   /**
    * @param {EveryRunOptions} options
    * @param {{ signal?: AbortSignal, over?: AbortSignal, job?: import("../seeds/runs.mjs").AnyJob }} how what ends it;
-   * what is aborted when the time is over that it may take, if that has begun; the first job of the real runs, if it has
-   * begun or is in this process
+   * what is aborted when the time is over that all may take, if that has begun; the first job of the real runs, if it
+   * has begun or is in this process
    */
   constructor(options, { signal, over = overAfter(options.within), job }) {
     this.options = options;

@@ -48,7 +48,8 @@ export async function shownFindings(findings, options, over) {
   return findings.map((finding, at) => {
     const outcome = outcomes[first.indexOf(finding)];
     if (outcome !== undefined) return { finding, outcome, isSame: isShownBy(finding, outcome), why: undefined };
-    return { finding, outcome, isSame: false, why: at < MOST_SHOWN ? whyNoRun(finding, options) ?? TIME_OVER : NO_MORE };
+    const why = at < MOST_SHOWN ? whyNoRun(finding, options) ?? TIME_OVER : NO_MORE;
+    return { finding, outcome, isSame: false, why };
   });
 }
 

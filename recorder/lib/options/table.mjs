@@ -121,11 +121,11 @@ export const OPTIONS = Object.freeze({
     + "merge.mjs joins their summaries"] },
   all: { kind: BOOLEAN, of: OF_TRIAL, ifNone: false,
     help: ["", "tries [every schedule](#every-schedule) of a module of agents. The seeds' runs are compared with what "
-    + "was learned; if not every schedule can be tried, it goes on with the seeds"],
+    + "was learned; if not every schedule can be tried, it goes on with the seeds. Status 4: not all was done"],
     inLibrary: "tries [every schedule](#every-schedule) of a module of agents, as `everySchedule` does. The test fails "
-    + "if something is found, and if not every schedule could be tried" },
-  within: { kind: above0(MOST_SECONDS), of: OF_EVERY, assumed: 60, help: ["S", "for how many seconds `--all` searches"],
-    inLibrary: "for how many seconds the search of every schedule goes on" },
+    + "if something is found, if not every schedule could be tried, and if its time was over before all was done" },
+  within: { kind: above0(MOST_SECONDS), of: OF_EVERY, assumed: 60, help: ["S", "how many seconds `--all` may take, with the runs of its seeds"],
+    inLibrary: "how many seconds the search of every schedule may take, with the runs of its seeds" },
   states: { kind: whole(1, MOST_STATES), of: OF_EVERY, assumed: 1_000_000,
     help: ["N", "how many states `--all` finds at most"],
     inLibrary: "how many states the search of every schedule finds at most" },

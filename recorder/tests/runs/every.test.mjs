@@ -258,13 +258,14 @@ test("moments that were merged wrongly behind one of nine ways are noticed", asy
 test("if not every schedule can be tried, it goes on with the seeds", async () => {
   const module = join(EXAMPLES, "mutex-three-state.agents.mjs");
   const done = await command(module, "--all", "--states", "500", "--seeds", "1..5");
-  assert.equal(done.status, 0, done.stderr);
+  assert.equal(done.status, 4, done.stderr);
   assert.match(done.stdout, /^not every schedule was tried: all of up to \d+ acts were, 500 states/);
-  assert.match(done.stdout, /the agents of automaton 0 have \d+ nodes; \d+ answers at [\w.-]+:\d+:\d+ lead on/);
+  assert.match(done.stdout, /automaton 0 have \d+ nodes; the results at [\w.-]+:\d+:\d+ lead to \d+ of them, up/);
+  assert.match(done.stdout, /\n {2}to change: fewer agents, rounds and different values make fewer states\n/);
   assert.match(done.stdout, /\n5 runs: 5 finished\n/);
   const json = await command(module, "--all", "--states", "500", "--seeds", "1..5", "--format", "json");
   const { every, runs } = JSON.parse(json.stdout);
-  assert.equal(every.closed, false);
+  assert.deepEqual([json.status, every.closed, every.isWhole], [4, false, false]);
   assert.equal(runs, 5);
 });
 
@@ -288,7 +289,16 @@ test("an agent that never comes back ends its thread", async (context) => {
   const module = moduleOf(context, LOADS("if (self === 1) for (;;);"));
   const done = await command(module, "--all", "--seeds", "1", "--everywhere", "--seconds", "1");
   assert.match(done.stdout,
-    /^not every schedule was tried: an agent that was called alone didn't come back within 1 s/);
+    /^not every schedule was tried: an agent .* didn't come back within 1 s: .*; it is at agents\.mjs:5:\d+\n/);
+  assert.match(done.stdout, /\n {2}to change: let the loop end, or call Atomics in each of its turns\n/);
+  assert.equal(done.status, 1);
+});
+
+test("no more runs are made if one fails and one hangs", async (context) => {
+  const some = "if (Atomics.add(words, 1, 1) === self) throw new Error('first');\n  for (;;);";
+  const module = moduleOf(context, LOADS(some));
+  const done = await command(module, "--all", "--seeds", "1..300", "--jobs", "1", "--everywhere", "--seconds", "1");
+  assert.match(done.stdout, /\nended, since runs fail and hang, with the seeds \d to 300 not run, after \d of 300 /);
   assert.equal(done.status, 1);
 });
 
@@ -296,7 +306,7 @@ test("an agent that catches everything is broken off", async (context) => {
   const module = moduleOf(context, LOADS("for (;;) try { Atomics.add(words, 0, 1); } catch {}"));
   const { closed, open } = await everySchedule({ ...FEW_WORKERS, module, seeds: 1, seconds: 1 });
   assert.equal(closed, false);
-  assert.match(open ?? "", /^an agent .* alone didn't come back within 1 s: .* catches everything that is thrown$/);
+  assert.match(open ?? "", /^an agent .* alone didn't come back within 1 s: .* everything that is thrown; it is at ag/);
 });
 
 test("options that don't go with it are refused by name", async () => {

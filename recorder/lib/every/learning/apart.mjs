@@ -53,7 +53,7 @@ export class DoesOtherwise extends Error {}
  */
 export async function learnApart(wanted, { seconds, onProgress = () => {}, signal, over }) {
   const thread = begunThread(LEARNING, FLAGS);
-  const watch = new Watch(thread, seconds, { onProgress, over });
+  const watch = new Watch(thread, seconds, onProgress, over);
   thread.give(LEARNING, { ...wanted, progress: watch.words.buffer });
   const stop = () => void thread.stop();
   signal?.addEventListener("abort", stop);
@@ -74,9 +74,10 @@ class Watch {
   /**
    * @param {Thread} thread
    * @param {number} seconds for how long the code may run
-   * @param {{ onProgress?: (states: number) => void, over?: AbortSignal }} [how]
+   * @param {(states: number) => void} [onProgress]
+   * @param {AbortSignal} [over] aborted when the time of the whole command is over
    */
-  constructor(thread, seconds, { onProgress = () => {}, over } = {}) {
+  constructor(thread, seconds, onProgress = () => {}, over = undefined) {
     this.words = new Int32Array(new SharedArrayBuffer(4 * PROGRESS.WORDS));
     this.thread = thread;
     this.seconds = seconds;

@@ -74,6 +74,16 @@ export class LearnedCode {
     return this.capture.line();
   }
 
+  /** @returns {number} the number of the place at which the agent is whose state was asked for last */
+  place() {
+    return this.capture.place;
+  }
+
+  /** @param {number} place @returns {string} its file, line and column */
+  lineOfPlace(place) {
+    return this.capture.lineOfPlace(place);
+  }
+
   /** @param {Error} error of an agent @returns {string} the same of where it was made */
   lineOf(error) {
     return this.capture.lineOf(error);

@@ -59,7 +59,9 @@ export class Learned {
     const key = wanted.isUnmerged ? undefined : code.key.bind(code);
     const agents = { count: plan.agents, args: wanted.args, canBlock: plan.canBlock, isShared };
     const lineOfError = (/** @type {Error} */ error) => code.lineOf(error);
-    const own = { agentNow: () => code.agentNow(), line: () => code.line(), lineOfError, key };
+    const own = {
+      agentNow: () => code.agentNow(), line: () => code.line(), place: () => code.place(), lineOfError, key,
+    };
     const learner = new Learner(asker, agents, own);
     // Each automaton has its own, so it need not be gone through.
     code.builtins.names.set(learner.number, "number");

@@ -37,10 +37,13 @@ const NAMES_REWRITTEN = "it throws an error whose message names code that was re
  * @typedef {object} AgentCode
  * @property {() => Function} agentNow the agent's function, from modules that keep what they keep at first
  * @property {() => string} line where the agent that runs now asks for something
+ * @property {() => number} [place] the number of the place at which an agent is, once its state was shown
  * @property {(error: Error) => string} [lineOfError] where an error of agents was made
  * @property {(asked: AskedNode) => string} [key] shows the state of the agent that asks, and throws CantShow if it
  * can't; without, no two histories are one node
  */
+
+/** @typedef {{ nodes: number, line: string }} HiddenKind how many nodes, and the line of the first one */
 
 /** @typedef {{ node: Node, answer: Answer } | undefined} NodeOrigin of a node: the first edge that has led there */
 
@@ -50,11 +53,12 @@ export class Learner {
    * @param {Agents} agents
    * @param {AgentCode} code
    */
-  constructor(asker, agents, { agentNow, line, lineOfError = line, key }) {
+  constructor(asker, agents, { agentNow, line, place = () => -1, lineOfError = line, key }) {
     this.asker = asker;
     this.agents = agents;
     this.agentNow = agentNow;
     this.line = line;
+    this.place = place;
     this.lineOfError = lineOfError;
     this.key = key;
     /** @type {Node[]} of all automata */
@@ -65,8 +69,10 @@ export class Learner {
     this.states = new Map();
     /** @type {Map<string, Node>} */
     this.ends = new Map();
-    /** @type {Map<string, number>} how many nodes can't be compared with others, by the reason */
+    /** @type {Map<string, HiddenKind>} of nodes that can't be compared with others, by the reason */
     this.hidden = new Map();
+    /** @type {number[]} by the numbers of nodes their places, as far as these are known */
+    this.places = [];
     this.runs = 0;
     this.looksAtNumber = false;
     /** Which agent runs now. */
@@ -213,7 +219,9 @@ export class Learner {
       return `${automaton} ${this.key(asked)}`;
     } catch (why) {
       if (!(why instanceof CantShow)) throw why;
-      this.hidden.set(why.message, (this.hidden.get(why.message) ?? 0) + 1);
+      const known = this.hidden.get(why.message);
+      if (known === undefined) this.hidden.set(why.message, { nodes: 1, line: this.line() });
+      else known.nodes += 1;
       return undefined;
     }
   }
@@ -266,6 +274,7 @@ class Growing {
     const isCompared = isOfCall || (asked.does === DOES.READ && (this.isHead || isLong));
     const key = isCompared ? this.#usefulKey(asked, isLong && !this.isHead) : undefined;
     const { node, isNew } = this.learner.node(this.automaton, asked, key, this.origin);
+    if (isNew && isCompared) this.learner.places[node.id] = this.learner.place();
     this.link(node);
     // A loop of reads that has come back to itself stops there.
     if (!isNew && this.made.has(node)) node.isAlone = true;

@@ -1,7 +1,7 @@
 // What the thread that learns and searches hands on.
 
 import { Positions, fileOf } from "../search/file.mjs";
-import { DOES, isCall, isEnd } from "../search/nodes.mjs";
+import { isCall } from "../search/nodes.mjs";
 import { Kinds, blocksIn, resultOf } from "../search/result.mjs";
 import { Findings } from "./findings.mjs";
 import { NodeWays } from "./node-ways.mjs";
@@ -50,7 +50,7 @@ export function learningReportOf(learned, search) {
     edges,
     ways: new NodeWays(edges).counts(),
     nodes: positions.nodes.flat().map(dataOf),
-    hidden: [...learner.hidden].map(([why, nodes]) => ({ why, nodes })),
+    hidden: [...learner.hidden].map(([why, kind]) => ({ why, ...kind })).sort((one, other) => other.nodes - one.nodes),
     runs: learner.runs, renewals: code.renewals,
     changesBuiltins: code.builtins.haveChanged(),
     widest: widestOf(learned, positions),
@@ -82,15 +82,35 @@ function edgesOf(positions) {
 }
 
 /**
- * What makes a search large: the automaton with the most nodes, and the line whose answers branch most.
+ * What makes a search large: the automaton with the most nodes, and the line whose results lead to the most nodes.
  * @param {import("./learned.mjs").Learned} learned
  * @param {Positions} positions
  */
-function widestOf({ learner }, positions) {
+function widestOf({ code, learner }, positions) {
   const nodes = positions.nodes.map(({ length }) => length);
   const automaton = nodes.indexOf(Math.max(...nodes));
-  const [widest] = positions.nodes.flat().filter((node) => !isEnd(node) && node.does !== DOES.WRITE)
-    .sort((one, other) => other.edges.size - one.edges.size);
-  const line = widest === undefined ? undefined : learner.lineOf(widest);
-  return { automaton, nodes: nodes[automaton], line, answers: widest?.edges.size ?? 0 };
+  const { answers, follow, place } = mostFollowed(learner, positions);
+  const line = place === undefined ? undefined : code.lineOfPlace(place);
+  return { automaton, nodes: nodes[automaton], line, follow, answers };
+}
+
+/**
+ * @param {import("./learner.mjs").Learner} learner
+ * @param {Positions} positions
+ * @returns {{ place: number | undefined, follow: number, answers: number }} the place whose results lead to the most
+ * nodes; to how many; how many different results one node there has at most
+ */
+function mostFollowed({ origins, places }, positions) {
+  const all = positions.nodes.flat();
+  /** @type {Map<number, number>} */
+  const follow = new Map();
+  for (const node of all) {
+    let from = origins.get(node)?.node;
+    while (from !== undefined && places[from.id] === undefined) from = origins.get(from)?.node;
+    if (from !== undefined) follow.set(places[from.id], (follow.get(places[from.id]) ?? 0) + 1);
+  }
+  const [most] = [...follow].sort(([, one], [, other]) => other - one);
+  if (most === undefined) return { place: undefined, follow: 0, answers: 0 };
+  const answers = all.reduce((sum, { edges, id }) => (places[id] === most[0] ? Math.max(sum, edges.size) : sum), 0);
+  return { place: most[0], follow: most[1], answers };
 }

@@ -2,6 +2,7 @@
 // still read, and all that can be reached from there.
 
 import { framesHere } from "../../agent/frames.mjs";
+import { mapGet, mapSet } from "../../primordials.mjs";
 import { readingIterators } from "./shown-iterators.mjs";
 import { CantShow, Walk } from "./walk.mjs";
 
@@ -31,6 +32,10 @@ export class Capture {
     this.builtins = builtins;
     this.texts = texts;
     this.flaw = flaw;
+    /** @type {Map<string, number>} the places at which agents were, each with its number */
+    this.places = new Map();
+    /** The number of the place at which an agent is whose state was asked for last. */
+    this.place = -1;
     this.how = { ...flaw, hasTags: [...texts.values()].some(({ hasTags }) => hasTags) };
   }
 
@@ -58,6 +63,7 @@ export class Capture {
     walk.put(asked);
     let first = 0;
     while (first < frames.length && !this.texts.has(frames[first].getFileName() ?? "")) first += 1;
+    this.#notePlace(frames[first]);
     needsDirect(frames.slice(0, first));
     for (const one of readingIterators()) {
       walk.put("|next");
@@ -74,6 +80,22 @@ export class Capture {
     if (!below.startsWith(LEARNING)) throw new CantShow("more functions than were seen");
     this.#putModules(walk);
     return walk.text();
+  }
+
+  /** @param {NodeJS.CallSite | undefined} site at which an agent asks for something */
+  #notePlace(site) {
+    if (site === undefined) return;
+    const place = `${site.getPosition()} ${site.getFileName()}`;
+    const known = mapGet(this.places, place) ?? this.places.size;
+    mapSet(this.places, place, known);
+    this.place = known;
+  }
+
+  /** @param {number} number of a place @returns {string} its file, line and column */
+  lineOfPlace(number) {
+    const place = [...this.places.keys()][number];
+    if (place === undefined) return NOT_KNOWN;
+    return this.#lineAt(place.slice(place.indexOf(" ") + 1), Number.parseInt(place, 10));
   }
 
   /** @returns {string} the file, line and column at which an agent asks for something now */
