@@ -124,7 +124,8 @@ export const OPTIONS = Object.freeze({
     + "was learned; if not every schedule can be tried, it goes on with the seeds. Status 4: not all was done"],
     inLibrary: "tries [every schedule](#every-schedule) of a module of agents, as `everySchedule` does. The test fails "
     + "if something is found, if not every schedule could be tried, and if its time was over before all was done" },
-  within: { kind: above0(MOST_SECONDS), of: OF_EVERY, assumed: 60, help: ["S", "how many seconds `--all` may take, with the runs of its seeds"],
+  within: { kind: above0(MOST_SECONDS), of: OF_EVERY, assumed: 60,
+    help: ["S", "how many seconds `--all` may take, with the runs of its seeds"],
     inLibrary: "how many seconds the search of every schedule may take, with the runs of its seeds" },
   states: { kind: whole(1, MOST_STATES), of: OF_EVERY, assumed: 1_000_000,
     help: ["N", "how many states `--all` finds at most"],
