@@ -22,7 +22,8 @@ test("an `init` or a `check` that never comes back is ended", async (context) =>
   for (const name of ["init", "check"]) {
     const module = moduleOf(context, `${COUNTS}export const ${name} = () => { for (;;); };\n`);
     const { closed, open } = await everySchedule({ ...FEW_WORKERS, module, seeds: 1, seconds: 1 });
-    assert.deepEqual([closed, open], [false, `\`${name}\` didn't come back within 1 s`]);
+    assert.equal(closed, false);
+    assert.match(open ?? "", new RegExp(`^\`${name}\` didn't come back within 1 s; it is at agents\\.mjs:\\d+:\\d+$`));
   }
 });
 

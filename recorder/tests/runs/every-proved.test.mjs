@@ -96,7 +96,7 @@ test("what the summary says must be what the proved search has found", () => {
 
 test("if no race is shown by its run, all that isn't shown is an error", () => {
   const shownAs = (/** @type {string} */ kind, /** @type {boolean} */ isSame) =>
-    /** @type {any} */ ({ finding: { kind }, isSame });
+    /** @type {any} */ ({ finding: { kind }, outcome: { ending: "finished", detail: "" }, isSame });
   const [race, lostRace] = [shownAs("race", true), shownAs("race", false)];
   const [deadlock, lostDeadlock] = [shownAs("deadlock", true), shownAs("deadlock", false)];
   for (const found of [[], [deadlock, race], [race, lostDeadlock], [race, lostRace]]) {
