@@ -34,7 +34,8 @@ export default function agent({ buffers }) {
 
 test("a finding that needs more calls than a script may have is no contradiction", async (context) => {
   const module = moduleOf(context, throwsAfter(1_200));
-  const { closed, found } = await everySchedule({ ...FEW_WORKERS, module, seeds: 1, limits: "allow" });
+  const options = { ...FEW_WORKERS, module, seeds: 1, limits: /** @type {const} */ ("allow"), within: 600 };
+  const { closed, found } = await everySchedule(options);
   assert.equal(closed, true);
   const [{ detail, kind, notShown }] = found;
   assert.deepEqual([kind, detail, notShown], ["threw", null, "it needs 1,200 calls of agent 0"]);
