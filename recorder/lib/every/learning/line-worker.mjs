@@ -4,6 +4,8 @@ import { basename } from "node:path";
 import { fileURLToPath } from "node:url";
 import { workerData } from "node:worker_threads";
 import { AgentModules } from "./agent-modules.mjs";
+import { Asker } from "./asking.mjs";
+import { installRealm } from "./realm.mjs";
 
 /** @typedef {import("../../processes/place-of-thread.mjs").StackFrame} StackFrame */
 
@@ -23,7 +25,7 @@ export function main() {
 
 /** @param {LineWorkerData} given @returns {string | undefined} the innermost file, line and column of the agents */
 function lineIn({ module, frames }) {
-  const graph = new AgentModules();
+  const graph = new AgentModules(installRealm(new Asker()));
   graph.take(module, true);
   const frame = frames.find(({ file }) => graph.texts.has(file));
   const text = frame && graph.texts.get(frame.file);
