@@ -89,6 +89,17 @@ const SHOWN_PLACES = {
   "new.target": ["function A() {} function F() { return () => (new.target === A ? 1 : 2); }\n"
     + "return Reflect.construct(F, [], v === 1 ? A : F);", "t()"],
   "super": ["const base = { m() { return v; } }; return { __proto__: base, m() { return super.m(); } };", "t.m()"],
+  "arrow with super": [
+    "class B { m() { return v; } } return new (class extends B { x = () => super.m(); })();", "t.x()",
+  ],
+  "method with super, of many": [
+    "const all = [1, 2].map((n) => { class B { m() { return n * v; } }\n"
+    + "return class extends B { m() { return super.m(); } }; }); return new all[v % 2]();", "t.m()",
+  ],
+  "constructor of a class of many": [
+    "const all = []; for (const n of [1, 2]) { class B { constructor() { this.n = n; ld(1); } }\n"
+    + "all.push(class extends B { constructor() { super(); ld(1); } }); } return all[v % 2];", "new t().n",
+  ],
   "label": ["one: { const a = v; if (a > 5) break one; return () => a; }", "t()"],
 };
 
@@ -99,9 +110,6 @@ const HIDDEN_PLACES = {
   "generator method": ["return new (class { * m() { yield v; } })();", "[...t.m()][0]"],
   "arguments": ["function f() { return () => arguments[0]; } return f(v);", "t()"],
   "parameter that is changed": ["const f = (a, b = () => a) => { a += 1; return b; }; return f(v);", "t()"],
-  "arrow with super": [
-    "class B { m() { return v; } } return new (class extends B { x = () => super.m(); })();", "t.x()",
-  ],
   "computed name of a field in a default": ["const f = (C = class { [`f${v}`] = 1; }) => C; return f();",
     "Number(Object.keys(new t())[0].slice(1))"],
 };

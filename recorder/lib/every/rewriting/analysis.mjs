@@ -130,7 +130,7 @@ export class Analysis {
     for (; at !== null && at.tree.type === "ArrowFunctionExpression"; at = at.outer) around.push(at);
     if (at === null || at.holder === undefined) this.refuse(tree, "`super` outside of a method");
     if (this.isOnce(at)) this.homes.add(at.holder);
-    else for (const info of [...around, at]) info.usesSuper = true;
+    else for (const info of [...around, at]) info.superOf = at.holder;
   }
 
   /** @param {Info} info of a method @returns {boolean} whether there is one object that has it, or one class */

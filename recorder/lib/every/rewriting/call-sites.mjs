@@ -23,7 +23,7 @@ import { isConstant } from "./tree.mjs";
 /** What can be going on at a place while something that it called runs. */
 const CALLERS = new Set([
   "Identifier", "MemberExpression", "CallExpression", "NewExpression", "ThisExpression", "AssignmentExpression",
-  "UpdateExpression", "TaggedTemplateExpression", "PrivateIdentifier",
+  "UpdateExpression", "TaggedTemplateExpression", "PrivateIdentifier", "Super",
 ]);
 
 /** What calls a getter, a setter, or a trap of a proxy. */
@@ -51,6 +51,7 @@ export class CallSites {
   #judged(offset) {
     const info = this.#functionAt(offset);
     if (info === undefined) return unknown("code at the top level of a module");
+    if (info.makes && info.tree.type === "ClassBody" && offset === info.start + 1) return constructorOf(info);
     if (info.isHidden) return unknown("a generator, an async function, a constructor of a derived class or the like");
     // A place around all of a function is one of the function outside.
     const isHidden = this.analysis.hidden.some(([from, to]) =>
@@ -140,6 +141,14 @@ function makesKey({ type, argument, end, left, object, computed, property }, off
 
 /** @param {Binding} binding @returns {[number, number]} */
 const placeOf = ({ scope, index }) => [scope.id, index];
+
+/**
+ * The constructor that a derived class has by itself stands where its braces begin. It has nothing more to read.
+ * @param {Info} info of the class
+ * @returns {CallSite}
+ */
+const constructorOf = ({ id }) =>
+  ({ fn: id, makes: true, alive: [], kept: [], isAccess: false, isKeyed: false, isAccessor: false });
 
 /** @param {string} why @returns {CallSite} */
 const unknown = (why) =>

@@ -28,6 +28,8 @@ export function visitClass(one, tree, here) {
   for (const name of ["this", "new.target"]) own.declare(name, "pseudo");
   const parts = { keys, methods: { scope, within: info }, fields: { scope: own, within: makes } };
   for (const member of tree.body.body) visitMemberOfClass(one, tree, member, parts);
+  // The constructor that nobody wrote calls what it inherits from.
+  if (tree.superClass && here.within === null && one.loops === 0) one.homes.add(tree);
 }
 
 /**
@@ -95,5 +97,5 @@ function visitConstructor(one, tree, cls) {
   if (!cls.superClass) return;
   // It calls what its class inherits from.
   if (one.isOnce(info)) one.homes.add(cls);
-  else one.hide(info);
+  else info.superOf = cls;
 }

@@ -16,12 +16,17 @@ export function writeClass(writer, tree, info) {
   const { body: { body, start }, superClass } = tree;
   const own = writer.infoOf(tree);
   writer.write(superClass, info);
+  const home = writer.home(tree);
   const keys = body.flatMap((/** @type {Tree} */ member) => writeMember(writer, member, info, own));
   const shown = `${readerOf(body)}, ${methodsOf(writer, body)}, ${writer.cells(own)}`;
   const isHome = writer.analysis.homes.has(tree);
   const more = `{ keys: [${keys.join(", ")}], isHidden: ${own.isOpaque}, isHome: ${isHome} }`;
   if (stampsObjects(tree)) writer.edits.before(start + 1, STAMP_CHECK);
-  writer.edits.before(start + 1, `static { $R.cls(${newId()}, this, ${shown}, ${more}); }`);
+  const makes = isHome && superClass && body.every((/** @type {Tree} */ { kind }) => kind !== "constructor");
+  if (makes) own.makes = true;
+  const constructs = makes ? ` constructor(...$a) { const $f = $R.enter(${own.id}, null);
+    try { super(...$a); } finally { $R.leave($f); } }`.replace(/\s+/g, " ") : "";
+  writer.edits.before(start + 1, `static { $R.cls(${newId()}, ${home}this, ${shown}, ${more}); }${constructs}`);
 }
 
 /**
@@ -116,7 +121,7 @@ function methodsOf(writer, members) {
 /** @param {CodeWriter} writer @param {Tree} tree an object with methods @param {Info | null} info */
 export function writeMethods(writer, tree, info) {
   const isHome = writer.analysis.homes.has(tree);
-  writer.edits.before(tree.start, `$R.obj(${newId()}, (`);
+  writer.edits.before(tree.start, `$R.obj(${newId()}, ${writer.home(tree)}(`);
   writer.edits.after(tree.end, `), ${methodsOf(writer, tree.properties)}${isHome ? ", true" : ""})`);
   if (info !== null) EXPRESSIONS.ObjectExpression(writer, tree, info);
   else {

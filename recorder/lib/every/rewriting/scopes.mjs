@@ -79,7 +79,9 @@ export class Info {
     this.isOpaque = false;
     /** @type {Tree | undefined} the class or the object whose method it is */
     this.holder = undefined;
-    /** Whether it uses `super`, and there may be many of it, each of an object of its own. */
+    /** @type {Tree | undefined} the class or the object of its `super`, if there may be many of these */
+    this.superOf = undefined;
+    /** Whether that isn't shown. */
     this.usesSuper = false;
     /** @type {Map<Tree, Set<Binding>> | undefined} what is alive after each expression, when it was looked for */
     this.alive = undefined;

@@ -10,7 +10,7 @@ import { childrenOf, isConstant, isFunction, runsCode } from "./tree.mjs";
 /** @typedef {import("./writer.mjs").Write} Write */
 /** @typedef {import("./writer.mjs").WriteAnywhere} WriteAnywhere */
 
-/** @type {Record<string, WriteAnywhere>} statements with names: these are made visible where there is no frame, too */
+/** @type {Record<string, WriteAnywhere>} statements with names, and loops: they are rewritten without a frame, too */
 export const WITHOUT_FRAME = {
   BlockStatement: (writer, tree, info) => {
     showNames(writer, tree, info, tree.start + 1);
@@ -36,6 +36,8 @@ export const WITHOUT_FRAME = {
     writeEach(writer, tree, info);
   },
   ForInStatement: writeEach,
+  DoWhileStatement: writeLoop,
+  WhileStatement: writeLoop,
 };
 
 /** @type {Write} */
@@ -50,7 +52,6 @@ export const STATEMENTS = {
   BreakStatement: nothing,
   ContinueStatement: nothing,
   DebuggerStatement: nothing,
-  DoWhileStatement: inside,
   EmptyStatement: nothing,
   ExpressionStatement: inside,
   IfStatement: inside,
@@ -59,7 +60,6 @@ export const STATEMENTS = {
   ThrowStatement: inside,
   TryStatement: writeTry,
   VariableDeclaration: inside,
-  WhileStatement: inside,
 };
 
 /**
@@ -100,11 +100,16 @@ function showCases(writer, { start, end, cases }, own, info) {
   writer.edits.after(end, " }");
 }
 
+/** @type {WriteAnywhere} what isn't in braces has no variables of its own for each round */
+function writeLoop(writer, tree, info) {
+  writer.withoutVariables(() => writer.writeAll([tree.test, tree.body], info));
+}
+
 /** @type {WriteAnywhere} */
 function writeFor(writer, tree, info) {
   const own = writer.analysis.own.get(tree);
   if (own !== undefined && writer.isSeen(own, info)) showHead(writer, tree, own, info);
-  writer.writeAll([tree.init, tree.test, tree.update, tree.body], info);
+  writer.withoutVariables(() => writer.writeAll([tree.init, tree.test, tree.update, tree.body], info));
 }
 
 /**
@@ -143,8 +148,10 @@ function writeEach(writer, tree, info) {
       edits.after(tree.body.end, "}");
     }
   }
-  writer.write(tree.left, null);
-  writer.writeAll([tree.right, tree.body], info);
+  writer.withoutVariables(() => {
+    writer.write(tree.left, null);
+    writer.writeAll([tree.right, tree.body], info);
+  });
 }
 
 /** @type {Write} */

@@ -38,6 +38,8 @@ export class CodeWriter {
      * @type {import("./source-edits.mjs").SourceEdit | undefined}
      */
     this.declared = undefined;
+    /** @type {Map<Tree, string>} the variables that have classes and objects with a `super` */
+    this.homes = new Map();
   }
 
   /**
@@ -171,9 +173,27 @@ export class CodeWriter {
   }
 
   /** @param {Info} info @returns {string} the cells of what it captures */
-  cells({ captured, isOpaque, start }) {
-    if (captured.size === 0 || isOpaque) return "null";
-    return `[${[...captured].map((one) => cellOf(one, start)).join(", ")}]`;
+  cells({ captured, isOpaque, start, superOf }) {
+    const home = superOf && this.homes.get(superOf);
+    if (isOpaque || (captured.size === 0 && home === undefined)) return "null";
+    const cells = [...captured].map((one) => cellOf(one, start));
+    return `[${[...cells, ...(home === undefined ? [] : [shownBy(home)])].join(", ")}]`;
+  }
+
+  /**
+   * What a class or an object with a `super` is: a variable has it, of which there is one for each of them.
+   * @param {Tree} tree
+   * @returns {string} what is before its value
+   */
+  home(tree) {
+    const using = this.analysis.functions.filter(({ superOf }) => superOf === tree);
+    const name = using.length === 0 ? undefined : this.variable();
+    if (name !== undefined) this.homes.set(tree, name);
+    for (const info of using) {
+      info.usesSuper = name === undefined;
+      if (info.usesSuper && info.makes) info.isHidden = true;
+    }
+    return name === undefined ? "" : `${name} = `;
   }
 
   /**
@@ -299,7 +319,10 @@ export class CodeWriter {
   }
 }
 
+/** @param {string} name that keeps its value @returns {string} a cell of its own for it */
+const shownBy = (name) => `[$R.environment(() => ${name}), 0]`;
+
 /** @param {import("./scopes.mjs").Binding} binding @param {number} place @returns {string} what shows it there */
 function cellOf({ index, name, scope }, place) {
-  return scope.isVisibleAt(place) ? `[$e${scope.id}, ${index}]` : `[$R.environment(() => ${name}), 0]`;
+  return scope.isVisibleAt(place) ? `[$e${scope.id}, ${index}]` : shownBy(name);
 }
