@@ -42,12 +42,8 @@ export class Analysis {
     this.privateOthers = new Set();
     /** Whether it has templates with tags, each with strings that are always the same object. */
     this.hasTags = false;
-    /** @type {Set<Tree>} classes and objects of the top level in which there is a `super` */
-    this.homes = new Set();
     /** @type {Tree[]} each `url` of `import.meta` */
     this.metaUrls = [];
-    /** How many loops at the top level are around what is gone over. */
-    this.loops = 0;
     this.tree = tree;
     this.root = this.newScope(tree, null, null, "module");
     this.#visitModule();
@@ -118,7 +114,7 @@ export class Analysis {
   }
 
   /**
-   * A method with `super` depends on the object to which it belongs. At the top level there is one, which is shown.
+   * A method with `super` depends on the object to which it belongs.
    * @param {Tree} tree
    * @param {EnclosingScope} here
    */
@@ -129,14 +125,7 @@ export class Analysis {
     let at = here.within;
     for (; at !== null && at.tree.type === "ArrowFunctionExpression"; at = at.outer) around.push(at);
     if (at === null || at.holder === undefined) this.refuse(tree, "`super` outside of a method");
-    if (this.isOnce(at)) this.homes.add(at.holder);
-    else for (const info of [...around, at]) info.superOf = at.holder;
-  }
-
-  /** @param {Info} info of a method @returns {boolean} whether there is one object that has it, or one class */
-  isOnce({ holder, outer }) {
-    const isOfClass = holder !== undefined && this.infos.has(holder);
-    return this.loops === 0 && (isOfClass ? outer?.outer === null : outer === null);
+    for (const info of [...around, at]) info.superOf = at.holder;
   }
 
   /** @param {Tree} tree @param {EnclosingScope} here @param {Tree} [holder] the class or object whose method it is */
@@ -215,9 +204,7 @@ export class Analysis {
       else this.visitPattern(tree.left, inside, false);
     }
     if (tree.update) this.unused.add(tree.update);
-    if (here.within === null) this.loops += 1;
     this.visitAll([tree.test, tree.update, tree.body], inside);
-    if (here.within === null) this.loops -= 1;
     if (tree.type === "ForInStatement") this.hidden.push([tree.right.end, tree.end]);
   }
 

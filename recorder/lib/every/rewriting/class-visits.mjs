@@ -28,8 +28,6 @@ export function visitClass(one, tree, here) {
   for (const name of ["this", "new.target"]) own.declare(name, "pseudo");
   const parts = { keys, methods: { scope, within: info }, fields: { scope: own, within: makes } };
   for (const member of tree.body.body) visitMemberOfClass(one, tree, member, parts);
-  // The constructor that nobody wrote calls what it inherits from.
-  if (tree.superClass && here.within === null && one.loops === 0) one.homes.add(tree);
 }
 
 /**
@@ -94,8 +92,6 @@ function visitConstructor(one, tree, cls) {
     binding.isAlwaysShown = true;
     info.needed.push(binding);
   }
-  if (!cls.superClass) return;
   // It calls what its class inherits from.
-  if (one.isOnce(info)) one.homes.add(cls);
-  else info.superOf = cls;
+  if (cls.superClass) info.superOf = cls;
 }

@@ -16,18 +16,22 @@ export function writeClass(writer, tree, info) {
   const { body: { body, start }, superClass } = tree;
   const own = writer.infoOf(tree);
   writer.write(superClass, info);
+  const isDerived = superClass && body.every((/** @type {Tree} */ { kind }) => kind !== "constructor");
+  if (isDerived) own.superOf = tree;
   const home = writer.home(tree);
+  own.makes = Boolean(isDerived && home);
   const keys = body.flatMap((/** @type {Tree} */ member) => writeMember(writer, member, info, own));
   const shown = `${readerOf(body)}, ${methodsOf(writer, body)}, ${writer.cells(own)}`;
-  const isHome = writer.analysis.homes.has(tree);
-  const more = `{ keys: [${keys.join(", ")}], isHidden: ${own.isOpaque}, isHome: ${isHome} }`;
+  const more = `{ keys: [${keys.join(", ")}], isHidden: ${own.isOpaque} }`;
+  const made = home === undefined ? "this" : `${home} = this`;
+  const constructs = own.makes ? constructorOf(own.id, writer.cells(own)) : "";
   if (stampsObjects(tree)) writer.edits.before(start + 1, STAMP_CHECK);
-  const makes = isHome && superClass && body.every((/** @type {Tree} */ { kind }) => kind !== "constructor");
-  if (makes) own.makes = true;
-  const constructs = makes ? ` constructor(...$a) { const $f = $R.enter(${own.id}, null);
-    try { super(...$a); } finally { $R.leave($f); } }`.replace(/\s+/g, " ") : "";
-  writer.edits.before(start + 1, `static { $R.cls(${newId()}, ${home}this, ${shown}, ${more}); }${constructs}`);
+  writer.edits.before(start + 1, `static { $R.cls(${newId()}, ${made}, ${shown}, ${more}); }${constructs}`);
 }
+
+/** @param {number} id @param {string} cells @returns {string} the constructor that a derived class has by itself */
+const constructorOf = (id, cells) =>
+  ` constructor(...$a) { const $f = $R.enter(${id}, ${cells}); try { super(...$a); } finally { $R.leave($f); } }`;
 
 /**
  * @param {CodeWriter} writer
@@ -120,9 +124,9 @@ function methodsOf(writer, members) {
 
 /** @param {CodeWriter} writer @param {Tree} tree an object with methods @param {Info | null} info */
 export function writeMethods(writer, tree, info) {
-  const isHome = writer.analysis.homes.has(tree);
-  writer.edits.before(tree.start, `$R.obj(${newId()}, ${writer.home(tree)}(`);
-  writer.edits.after(tree.end, `), ${methodsOf(writer, tree.properties)}${isHome ? ", true" : ""})`);
+  const home = writer.home(tree);
+  writer.edits.before(tree.start, `$R.obj(${newId()}, ${home === undefined ? "(" : `${home} = (`}`);
+  writer.edits.after(tree.end, `), ${methodsOf(writer, tree.properties)})`);
   if (info !== null) EXPRESSIONS.ObjectExpression(writer, tree, info);
   else {
     for (const one of tree.properties) {

@@ -79,7 +79,7 @@ export class Info {
     this.isOpaque = false;
     /** @type {Tree | undefined} the class or the object whose method it is */
     this.holder = undefined;
-    /** @type {Tree | undefined} the class or the object of its `super`, if there may be many of these */
+    /** @type {Tree | undefined} the class or the object of its `super` */
     this.superOf = undefined;
     /** Whether that isn't shown. */
     this.usesSuper = false;

@@ -183,17 +183,17 @@ export class CodeWriter {
   /**
    * What a class or an object with a `super` is: a variable has it, of which there is one for each of them.
    * @param {Tree} tree
-   * @returns {string} what is before its value
+   * @returns {string | undefined} the variable, if there can be one
    */
   home(tree) {
     const using = this.analysis.functions.filter(({ superOf }) => superOf === tree);
-    const name = using.length === 0 ? undefined : this.variable();
+    const name = using.length > 0 ? this.variable() : undefined;
     if (name !== undefined) this.homes.set(tree, name);
     for (const info of using) {
       info.usesSuper = name === undefined;
       if (info.usesSuper && info.makes) info.isHidden = true;
     }
-    return name === undefined ? "" : `${name} = `;
+    return name;
   }
 
   /**

@@ -107,11 +107,6 @@ export class Runtime {
     if (!this.functions.has(fn)) this.functions.set(fn, made);
   }
 
-  /** @param {object} home of methods with `super`, which can be read by them only */
-  #showAlways(home) {
-    this.modules.push({ environment: new Environment(() => home), indexes: [0] });
-  }
-
   /**
    * @param {object} holder of methods
    * @param {string} id
@@ -162,14 +157,13 @@ export class Runtime {
    * @param {((object: object) => unknown[] | null) | null} read
    * @param {Method[]} methods
    * @param {CapturedCell[] | null} cells of what its code captures
-   * @param {{ keys: unknown[], isHidden: boolean, isHome: boolean }} more the names of fields that were computed; whether
-   * it captures something that can't be shown; whether it is always shown
+   * @param {{ keys: unknown[], isHidden: boolean }} more the names of fields that were computed, and whether it captures
+   * something that can't be shown
    */
-  #takeClass(id, cls, read, methods, cells, { keys, isHidden, isHome }) {
+  #takeClass(id, cls, read, methods, cells, { keys, isHidden }) {
     this.#register(cls, { id: `c${id}`, cells, keys, isHidden });
     this.#registerMethods(cls, `c${id}`, methods.filter(({ isStatic }) => isStatic));
     this.#registerMethods(cls.prototype, `c${id}`, methods.filter(({ isStatic }) => !isStatic));
-    if (isHome) this.#showAlways(cls);
     if (read !== null) this.readers.push({ cls, read });
   }
 
@@ -194,10 +188,9 @@ export class Runtime {
         return this.key;
       },
       cls: this.#takeClass.bind(this),
-      /** @param {number} id @param {object} object @param {Method[]} methods @param {boolean} [isHome] */
-      obj: (id, object, methods, isHome) => {
+      /** @param {number} id @param {object} object @param {Method[]} methods */
+      obj: (id, object, methods) => {
         this.#registerMethods(object, `o${id}`, methods);
-        if (isHome) this.#showAlways(object);
         return object;
       },
     };
