@@ -157,8 +157,8 @@ export class Runtime {
    * @param {((object: object) => unknown[] | null) | null} read
    * @param {Method[]} methods
    * @param {CapturedCell[] | null} cells of what its code captures
-   * @param {{ keys: unknown[], isHidden: boolean }} more the names of fields that were computed, and whether it captures
-   * something that can't be shown
+   * @param {{ keys: unknown[], isHidden: boolean }} more the names of fields that were computed, and whether it
+   * captures something that can't be shown
    */
   #takeClass(id, cls, read, methods, cells, { keys, isHidden }) {
     this.#register(cls, { id: `c${id}`, cells, keys, isHidden });
