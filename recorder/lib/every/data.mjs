@@ -49,6 +49,8 @@ import { adviceOf } from "./advice.mjs";
  * compared
  * @property {number} realRuns that agree with what was learned
  * @property {import("../seeds/ranges.mjs").SeedRange[]} notRun the seeds of those for which there was no time
+ * @property {boolean} freshened whether each of them has loaded the modules anew though that wasn't asked for: the
+ * modules keep something from run to run
  * @property {number} notCompared real runs that have no whole trace, and so weren't compared
  * @property {boolean} searchProved whether the proved search has found the same: the numbers are its own then
  * @property {string | null} notProved why there was no proved search
@@ -84,9 +86,9 @@ export function dataOf({ report, open, shown, onlyRuns, ...tried }) {
  * @param {string | undefined} open
  * @param {Omit<EveryResult, "report" | "open" | "shown" | "onlyRuns">} tried
  */
-function commonOf(open, { realRuns, made, notRun, isProved, notProved, isCut, milliseconds }) {
+function commonOf(open, { realRuns, made, notRun, isProved, notProved, isCut, isFreshened, milliseconds }) {
   const closed = open === undefined;
-  const runs = { realRuns, notRun, notCompared: made - realRuns };
+  const runs = { realRuns, notRun, freshened: isFreshened, notCompared: made - realRuns };
   const proved = { searchProved: isProved, notProved: notProved ?? null };
   return { closed, open: open ?? null, isWhole: closed && !isCut, ...runs, ...proved, milliseconds };
 }

@@ -10,6 +10,8 @@ const MOST_LISTED = 8;
 
 const ALIKE = "states that differ only by an exchange of like agents counted as one: no agent looks at its number";
 
+const FRESHENED = "the modules keep something from run to run, so each real run has loaded them anew";
+
 /** What agents can do wrong, in the words of the first line. */
 const WORDS = Object.freeze({
   deadlock: "deadlock", threw: "throw", race: "race", check: "fail check", "no way out": "go on for ever",
@@ -32,6 +34,7 @@ function closedLines(data) {
     ...foundLines(data),
     indented(`${countText(states, "state")}, ${countText(acts, "act")}; ${finalText(data)}`),
     indented(learnedText(data)),
+    ...(data.freshened ? [indented(FRESHENED)] : []),
     ...notRunLines(data),
     ...mergedLines(data).map(indented),
     ...alikeLines(data),

@@ -37,10 +37,12 @@ import { endOf, explained, firstNotShown, shownFindings } from "./showing.mjs";
  * @property {boolean} isProved whether the proved search has found the same: the report's result is its own then
  * @property {string | undefined} notProved why there was no proved search
  * @property {boolean} isCut whether there was no time for something of a search that is closed
+ * @property {boolean} isFreshened whether each real run has loaded the modules anew though that wasn't asked for
  * @property {ShownFinding[]} shown what was found: each with the run that shows it, or with why none does
  * @property {number} milliseconds
  */
 
+/** @typedef {Omit<EveryResult, "isFreshened" | "milliseconds">} TriedOnce */
 /** @typedef {Pick<EveryResult, "realRuns" | "made" | "notRun" | "onlyRuns">} RealRuns */
 
 /** What there is of a search that isn't closed. */
@@ -51,7 +53,6 @@ const NOTHING = Object.freeze({
 /** So much of the time a search may take: what comes behind it needs some, too. */
 const SHARE_OF_SEARCH = 0.75;
 
-const KEEPS = "Its modules keep something from run to run: with --fresh, which begins them anew, it does as learned";
 const NOT_KNOWN = "It may go by chance, by a clock, or by something that isn't shown";
 const PRELOADED = "not every schedule can be tried if --require or --import of node loads code first: nobody sees what "
   + "that keeps";
@@ -77,16 +78,33 @@ export class Every {
     this.outcomes = [];
     /** @type {{ again: Thread, search: Thread | undefined } | undefined} */
     this.threads = undefined;
+    /** Whether the agents' modules keep something from run to run. */
+    this.keepsMore = false;
+    this.isFreshened = false;
   }
 
   /** @returns {Promise<EveryResult>} */
   async run() {
     if (preloads()) throw new Refused(PRELOADED);
-    const tried = await this.#tried();
-    return { ...tried, milliseconds: performance.now() - this.begun };
+    const tried = await this.#tried().catch((problem) => this.#triedFreshly(problem));
+    return { ...tried, isFreshened: this.isFreshened, milliseconds: performance.now() - this.begun };
   }
 
-  /** @returns {Promise<Omit<EveryResult, "milliseconds">>} */
+  /**
+   * Modules that keep something from run to run do as learned only if each run loads them anew.
+   * @param {unknown} problem of the first try
+   * @returns {Promise<TriedOnce>}
+   */
+  async #triedFreshly(problem) {
+    if (!(problem instanceof NotAsLearned) || !this.keepsMore || this.options.fresh === true) throw problem;
+    this.options = { ...this.options, fresh: true };
+    this.isFreshened = true;
+    this.job = undefined;
+    this.outcomes = [];
+    return await this.#tried();
+  }
+
+  /** @returns {Promise<TriedOnce>} */
   async #tried() {
     const { job } = this;
     const real = new Runs({ ...this.#ofRuns(), wanted: { needsTrace: true } }, { signal: this.#ending(), job });
@@ -99,6 +117,7 @@ export class Every {
     try {
       const report = await this.#report();
       if (typeof report === "string") return { report: undefined, open: report, ...NOTHING, shown: [] };
+      this.keepsMore = report.renewals > 0;
       if (report.changesBuiltins) throw new NotAsLearned(CHANGES_BUILTINS);
       if (!report.isClosed) return await this.#open(report, openText(report));
       const again = this.#learnAgain(report);
@@ -182,9 +201,8 @@ export class Every {
     const differs = await learnAgain(given, { seconds, over, thread: this.threads?.again });
     if (differs === TIME_OVER) throw new NotLearnedAgain(report);
     if (differs === undefined) return;
-    const keeps = fresh !== true && await learnAgain({ ...given, isFresh: true }, { seconds, over }) === undefined;
     throw new NotAsLearned("the code as it is written, loaded anew, does something else than was learned. "
-      + `${differs}. ${keeps ? KEEPS : NOT_KNOWN}`);
+      + `${differs}. ${NOT_KNOWN}`);
   }
 
   /**
@@ -214,7 +232,7 @@ export class Every {
   /**
    * @param {LearningReport} report
    * @param {string} open why not every schedule was tried
-   * @returns {Promise<Omit<EveryResult, "milliseconds">>}
+   * @returns {Promise<TriedOnce>}
    */
   async #open(report, open) {
     const shown = explained(await shownFindings(report.findings, this.options, this.#ending()));

@@ -178,13 +178,14 @@ export default function agent({ agent: self }) {
   await demandNotAsLearned({ module });
 });
 
-test("agents that keep something from run to run aren't as they were learned", async () => {
-  const problem = await everySchedule({ module: agentsPath("remembers"), seeds: 20 }).catch((error) => error);
-  assert.ok(problem instanceof NotAsLearned, problem);
-  assert.match(problem.message, /does something else than was learned\. .* keep something from run to run: with --f/);
+test("real runs of modules that keep something from run to run load them anew", async () => {
+  const options = { module: agentsPath("remembers"), seeds: 20 };
+  const { closed, found, freshened, realRuns } = await everySchedule(options);
+  assert.deepEqual({ closed, freshened, realRuns }, { closed: true, freshened: true, realRuns: 20 });
+  assert.deepEqual(found.map(({ kind }) => kind), ["race"]);
   const done = await command(agentsPath("remembers"), "--all", "--seeds", "1..20");
-  assert.equal(done.status, 3);
-  assert.match(done.stderr, /^record: .*does something else than was learned/);
+  assert.equal(done.status, 1);
+  assert.match(done.stdout, /\n {2}the modules keep something from run to run, so each real run has loaded them anew\n/);
 });
 
 test("an agent that goes by the depth of its stack isn't as it was learned", async (context) => {
@@ -197,8 +198,9 @@ test("an agent that goes by the depth of its stack isn't as it was learned", asy
 });
 
 test("with new workers for each run they are as they were learned", async () => {
-  const { closed, found, realRuns } = await everySchedule({ module: agentsPath("remembers"), fresh: true, seeds: 5 });
-  assert.deepEqual({ closed, realRuns }, { closed: true, realRuns: 5 });
+  const options = { module: agentsPath("remembers"), fresh: true, seeds: 5 };
+  const { closed, found, freshened, realRuns } = await everySchedule(options);
+  assert.deepEqual({ closed, freshened, realRuns }, { closed: true, freshened: false, realRuns: 5 });
   assert.deepEqual(found.map(({ kind }) => kind), ["race"]);
 });
 
