@@ -46,7 +46,7 @@ test("random modules are learned as the reference has them, and some are judged 
   const said = [];
   const { counts } = await randomJudged({ from: 0, to: 60, isLearned: true }, (line) => said.push(line));
   assert.equal(counts.false, undefined, said.join("\n"));
-  assert.ok(counts.closed > 5, said.join("\n"));
+  assert.ok(counts.closed > counts.drawn / 2, said.join("\n"));
   const few = await randomJudged({ from: 60, to: 66 }, (line) => said.push(line));
   assert.deepEqual([few.counts.false, few.counts.contradiction, few.counts.broken], Array(3), said.join("\n"));
 });
