@@ -218,7 +218,6 @@ export class Analysis {
     if (here.within === null) this.loops += 1;
     this.visitAll([tree.test, tree.update, tree.body], inside);
     if (here.within === null) this.loops -= 1;
-    if (tree.type === "ForInStatement") this.hidden.push([tree.right.end, tree.end]);
   }
 
   /** @param {Tree} tree @param {EnclosingScope} here */
@@ -287,7 +286,8 @@ export class Analysis {
     } else if (left.type === "MemberExpression") this.visit(left, here);
     else {
       this.visitPattern(left, here, false);
-      if (runsCode(left)) this.hidden.push([left.start, tree.end]);
+      // What is taken apart is nowhere else.
+      this.hidden.push([left.start, right.start]);
     }
     this.visit(right, here);
   }
