@@ -3,10 +3,14 @@
 import util from "node:util";
 import { parentPort, workerData } from "node:worker_threads";
 import { AgentModules } from "../../lib/every/learning/agent-modules.mjs";
+import { NodePlatform } from "../../lib/every/learning/node-platform.mjs";
 import { Runtime } from "../../lib/every/state/runtime.mjs";
 
 const PRELUDE = new URL("../../lib/every/state/prelude.mjs", import.meta.url).href;
 const TypedArray = Object.getPrototypeOf(Int8Array);
+const PLATFORM = new NodePlatform((what) => {
+  throw new Error(what);
+});
 
 class OwnArray extends Array {}
 class OtherSpecies extends Array { static get [Symbol.species]() { return Array; } }
@@ -154,7 +158,7 @@ function* compared(loops, engine, count) {
   }
 }
 
-const graph = new AgentModules();
+const graph = new AgentModules(PLATFORM);
 graph.take(PRELUDE);
 const { arrayLoops, typedLoops, mapLoops, setLoops, arrayMakers } = /** @type {any} */ (
   graph.made(new Runtime().calls).get(PRELUDE));

@@ -1,7 +1,7 @@
 // How statements are rewritten.
 
 import { positionOutsideComments } from "./comments.mjs";
-import { childrenOf, isClass, isConstant, isFunction, isLoop, runsCode } from "./tree.mjs";
+import { childrenOf, isClass, isConstant, isFunction, runsCode } from "./tree.mjs";
 
 /** @typedef {import("./tree.mjs").Tree} Tree */
 /** @typedef {import("./scopes.mjs").Info} Info */
@@ -212,7 +212,7 @@ const jumpText = ({ type, label }) => `${type === "BreakStatement" ? "break" : "
 function jumpsTo(tree) {
   if (tree.type === "LabeledStatement") return [`break ${tree.label.name}`, `continue ${tree.label.name}`];
   if (tree.type === "SwitchStatement") return ["break "];
-  return isLoop(tree) ? ["break ", "continue "] : [];
+  return /^(?:For|While|DoWhile)/.test(tree.type) ? ["break ", "continue "] : [];
 }
 
 /** @param {CodeWriter} writer @param {Tree} tree @param {Leaving} leaving */
