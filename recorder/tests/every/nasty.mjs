@@ -14,10 +14,19 @@ function partsOf(text, head) {
 /** @param {string} name of a file beside this one @returns {string} */
 const textOf = (name) => readFileSync(new URL(name, import.meta.url), "utf8");
 
+/** @param {string} file @returns {Record<string, string>} bodies by their names */
+const bodiesIn = (file) => Object.freeze(Object.fromEntries(
+  textOf(file).trimEnd().split(/\n(?! )/).map((row) => /^(.*?):\s+([^]*)$/.exec(row)?.slice(1) ?? []),
+));
+
 /** Each is the body of an agent's function, by its name. `ld(i)` loads word i, `out(value)` stores word 2. */
-export const BODIES = /** @type {Record<string, string>} */ (Object.freeze(Object.fromEntries(
-  textOf("bodies.txt").trimEnd().split(/\n(?! )/).map((row) => /^(.*?):\s+([^]*)$/.exec(row)?.slice(1) ?? []),
-)));
+export const BODIES = bodiesIn("bodies.txt");
+
+/** Bodies of which each moment can be shown. */
+export const MERGED = bodiesIn("merged.txt");
+
+/** Bodies in which the engine calls `f`, or its like, and has more to do afterwards. */
+export const CALLED_BY_ENGINE = bodiesIn("called-by-engine.txt");
 
 /** What the agents of modules do, after the line `AGENT` with the body of the one that loads. */
 const AGENT = `export const setup = { agents: 2, buffers: [16] };

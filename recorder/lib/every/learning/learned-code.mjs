@@ -7,6 +7,7 @@ import { Refused } from "../../options/refused.mjs";
 import { NamedBuiltins } from "../state/named-builtins.mjs";
 import { Capture } from "../state/capture.mjs";
 import { beginInstalled } from "../state/installed.mjs";
+import { installLoops } from "../state/installed-loops.mjs";
 import { guardOwn } from "../state/own-objects.mjs";
 import { Runtime } from "../state/runtime.mjs";
 import { CantShow } from "../state/walk.mjs";
@@ -129,7 +130,7 @@ export function loadCode(url, asker, platform, flaw) {
   const runtime = new Runtime();
   const own = new AgentModules(platform);
   own.take(PRELUDE);
-  installLoops(own.made(runtime.calls).get(PRELUDE)?.loops);
+  installLoops(/** @type {any} */ (own.made(runtime.calls).get(PRELUDE)));
   const graph = new AgentModules(platform);
   graph.take(url, true);
   const builtins = new NamedBuiltins();
@@ -145,11 +146,4 @@ export function loadCode(url, asker, platform, flaw) {
   const capture = new Capture(runtime, builtins, texts, flaw);
   asker.lineHere = capture.line.bind(capture);
   return new LearnedCode(url, asker, graph, runtime, builtins, capture);
-}
-
-/** @param {Record<string, Function>} loops over arrays, which stand for the engine's */
-function installLoops(loops) {
-  for (const [name, value] of Object.entries(loops)) {
-    Object.defineProperty(Array.prototype, name, { value, writable: true, configurable: true });
-  }
 }

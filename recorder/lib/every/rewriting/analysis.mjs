@@ -205,7 +205,6 @@ export class Analysis {
     }
     if (tree.update) this.unused.add(tree.update);
     this.visitAll([tree.test, tree.update, tree.body], inside);
-    if (tree.type === "ForInStatement") this.hidden.push([tree.right.end, tree.end]);
   }
 
   /** @param {Tree} tree @param {EnclosingScope} here */
@@ -274,7 +273,8 @@ export class Analysis {
     } else if (left.type === "MemberExpression") this.visit(left, here);
     else {
       this.visitPattern(left, here, false);
-      if (runsCode(left)) this.hidden.push([left.start, tree.end]);
+      // What is taken apart is nowhere else.
+      this.hidden.push([left.start, right.start]);
     }
     this.visit(right, here);
   }

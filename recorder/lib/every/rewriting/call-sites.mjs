@@ -1,6 +1,7 @@
 // What a function can still read at a place of its text at which it has called something: names, and values that are
 // kept in its frame. A place of which that isn't known says why.
 
+import { positionOutsideComments } from "./comments.mjs";
 import { aliveIn } from "./live.mjs";
 import { isConstant } from "./tree.mjs";
 
@@ -94,12 +95,12 @@ export class CallSites {
     for (const [tree, out] of info.alive) {
       // The end as well: a call that was rewritten begins where its callee ends.
       if (tree.start > offset || offset > tree.end) continue;
-      if (canCallAt(tree, offset)) {
+      if (canCallAt(tree, offset, this.analysis.source)) {
         isCall = true;
         isAccess &&= ACCESSES.has(tree.type);
-        isKeyed ||= makesKey(tree, offset);
         for (const one of out) alive.add(one);
       }
+      isKeyed ||= makesKey(tree, offset);
       if (offset < tree.end && (least === undefined || tree.end - tree.start <= least.end - least.start)) least = tree;
     }
     const isCaller = least === undefined || CALLERS.has(least.type);
@@ -111,11 +112,15 @@ export class CallSites {
 /**
  * @param {Tree} tree
  * @param {number} offset
+ * @param {string} source
  * @returns {boolean} whether what it calls may be going on at a place in it
  */
-function canCallAt(tree, offset) {
+function canCallAt(tree, offset, source) {
   switch (tree.type) {
-    case "CallExpression": return firstOfCall(tree.callee) <= offset && offset <= tree.callee.end;
+    case "CallExpression": {
+      const { callee } = tree;
+      return firstOfCall(callee) <= offset && offset <= positionOutsideComments(source, "(", callee.end);
+    }
     case "NewExpression": return offset <= tree.callee.end;
     case "TaggedTemplateExpression": return offset <= tree.tag.end;
     case "MemberExpression": case "UpdateExpression": return true;
@@ -124,19 +129,33 @@ function canCallAt(tree, offset) {
   }
 }
 
-/** @param {Tree} callee @returns {number} the first place at which the engine says that it is called */
+/**
+ * The first place at which the engine says that it is called. What is neither a name nor a member is called at the
+ * parenthesis of its arguments.
+ * @param {Tree} callee
+ * @returns {number}
+ */
 function firstOfCall({ type, computed, property, start, end }) {
-  if (type !== "MemberExpression") return start;
-  return computed ? end : property.start;
+  if (type === "Identifier" || type === "Super") return start;
+  return type === "MemberExpression" && !computed ? property.start : end;
 }
 
-/** @param {Tree} tree @param {number} offset @returns {boolean} whether it may make a key a text at a place in it */
-function makesKey({ type, argument, end, left, object, computed, property }, offset) {
+/**
+ * Whether it may make a key a text at a place in it. If a member is read and written, or deleted, the engine says that it
+ * does so at the place of a call in the key.
+ * @param {Tree} tree
+ * @param {number} offset
+ */
+function makesKey({ type, argument, end, left, right, object, operator, computed, property }, offset) {
+  if (offset >= end) return false;
   if (type === "MemberExpression") {
-    return computed && !isConstant(property) && object.end <= offset && offset < end;
+    return computed && !isConstant(property) && object.end <= offset && offset < property.start;
   }
-  const target = type === "AssignmentExpression" ? left : argument;
-  return target?.type === "MemberExpression" && target.computed && !isConstant(target.property);
+  const isTarget = type === "AssignmentExpression" || type === "UpdateExpression" || operator === "delete";
+  const target = isTarget ? left ?? argument : undefined;
+  if (target?.type !== "MemberExpression" || !target.computed || isConstant(target.property)) return false;
+  if (type !== "AssignmentExpression") return true;
+  return offset < right.start && (operator !== "=" || left.end <= offset);
 }
 
 /** @param {Binding} binding @returns {[number, number]} */

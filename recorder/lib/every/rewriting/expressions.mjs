@@ -3,7 +3,7 @@
 import { positionOutsideComments } from "./comments.mjs";
 import { NAME_OF_KEY } from "./function-names.mjs";
 import { engineName, keyOfShorthand } from "./naming.mjs";
-import { childrenOf, isClass, isConstant, isMethod, isPattern, runsCode } from "./tree.mjs";
+import { childrenOf, hasOptional, isClass, isConstant, isMethod, isPattern, runsCode } from "./tree.mjs";
 
 /** @typedef {import("./tree.mjs").Tree} Tree */
 /** @typedef {import("./scopes.mjs").Info} Info */
@@ -48,12 +48,12 @@ export const EXPRESSIONS = {
   BinaryExpression: operands(({ left, right }) => (left.type === "PrivateIdentifier" ? [right] : [left, right])),
   ArrayExpression: operands(({ elements }) => elements),
   TemplateLiteral: (writer, { end, expressions }, info) => {
-    // Each is made a text at once.
+    // Each is made a text at once. The engine would say that it does so at the place of a call in it.
     const last = expressions.map(runsCode).lastIndexOf(true);
-    for (const one of expressions.slice(0, Math.max(last, 0))) {
-      if (isConstant(one)) continue;
-      writer.keep(info, one, end, ["`${(", ")}`"]);
-    }
+    expressions.forEach((/** @type {Tree} */ one, /** @type {number} */ at) => {
+      if (at < last && !isConstant(one)) writer.keep(info, one, end, ["$R.text((", "))"]);
+      else if (runsCode(one)) writer.within(one, "$R.text((", "))");
+    });
     writer.writeAll(expressions, info);
   },
   TaggedTemplateExpression: (writer, tree, info) => {
@@ -64,40 +64,34 @@ export const EXPRESSIONS = {
     operands(() => (isOfMember ? expressions : [tag, ...expressions]))(writer, tree, info);
     if (isOfMember) writer.write(tag, info);
   },
-  SpreadElement: (writer, tree, info) => {
-    // What goes through it has more to do.
-    hide(writer, tree.start, tree.end);
-    writer.write(tree.argument, info);
+  SpreadElement: (writer, { argument }, info) => {
+    // What goes through it has more to do: it is gone through before that.
+    writer.within(argument, "$R.listed((", "))");
+    writer.write(argument, info);
   },
   NewExpression: (writer, tree, info) => {
-    if (!["Identifier", "MemberExpression"].includes(tree.callee.type)) hide(writer, tree.start, tree.end);
-    spreadFirst(writer, tree);
     if (tree.arguments.some(runsCode)) keepCallee(writer, tree, info, "constructible");
     operands(({ arguments: given }) => given)(writer, tree, info);
     writer.write(tree.callee, info);
   },
-  MemberExpression: operands(({ object, property, computed }) => (computed ? [object, property] : [object])),
-  ChainExpression: (writer, tree) => writer.hide(tree),
+  MemberExpression: (writer, tree, info) => {
+    const { object, property, computed } = tree;
+    const isInChain = computed && hasOptional(object);
+    // The rest of a chain is left out together with what it is of.
+    if (isInChain && runsCode(property)) hide(writer, property.start, property.end);
+    if (isInChain) writer.writeAll([object, property], info);
+    else operands(() => (computed ? [object, property] : [object]))(writer, tree, info);
+  },
   ObjectExpression: writeObject,
+  ChainExpression: inside,
   CallExpression: writeCall,
   AssignmentExpression: writeAssignment,
   UpdateExpression: writeUpdate,
-  VariableDeclarator: (writer, { id, init }, info) => writer.writeAll([id, init], info),
+  VariableDeclarator: (writer, { id, init }, info) => {
+    beginIterating(writer, id, init);
+    writer.writeAll([id, init], info);
+  },
 };
-
-/**
- * What goes through a spread argument would be called at the place of the whole call: it is gone through before that.
- * @param {CodeWriter} writer
- * @param {Tree} tree a call, or its like
- */
-function spreadFirst({ edits }, { arguments: given }) {
-  for (const { argument, type } of given) {
-    if (type !== "SpreadElement") continue;
-    // In an argument the engine says something else of what can't be gone through: it names `$R` here.
-    edits.before(argument.start, "[...$R.given(");
-    edits.after(argument.end, ")]");
-  }
-}
 
 /** @type {Write} */
 function writeObject(writer, tree, info) {
@@ -122,28 +116,34 @@ function writeObject(writer, tree, info) {
     if (keys.has(one)) writer.keep(info, one, tree.end, ["$R.key((", "))"]);
     else writer.keep(info, one, tree.end);
   });
+  const lastKey = values[last];
+  // The engine would say that it makes it one at the place of a call in it.
+  if (keys.has(lastKey)) writer.within(lastKey, "$R.key((", "))");
   for (const one of properties) {
     if (one.computed) writer.write(one.key, info);
     if (isMethod(one)) writer.write(one.value, info, true);
-    else if (one.type === "SpreadElement") writer.write(one, info);
+    else if (one.type === "SpreadElement") {
+      hide(writer, one.start, one.end);
+      writer.write(one.argument, info);
+    }
     else if (!one.shorthand) writer.write(one.value, info);
   }
 }
 
+/** @param {Tree} callee @returns {boolean} whether it is in a chain, or one in parentheses, that passes its object on */
+const isChain = (callee) => callee.type === "ChainExpression" || hasOptional(callee);
+
 /** @type {Write} */
 function writeCall(writer, tree, info) {
   const { callee, arguments: given } = tree;
-  if (!["Identifier", "MemberExpression", "Super"].includes(callee.type)) hide(writer, tree.start, tree.end);
-  // What stands in parentheses passes its object on to the call.
-  if (!given.some(runsCode) || callee.type === "ChainExpression") {
+  if (!given.some(runsCode)) {
     writer.writeAll([callee, ...given], info);
     return;
   }
-  spreadFirst(writer, tree);
   const object = callee.type === "MemberExpression" ? callee.object : undefined;
   if (object?.type === "Identifier" && writer.isGlobal(object)) writer.keepOperands(info, given, tree.end);
-  else if (callee.type === "Super" || object?.type === "Super" || tree.optional || callee.optional) {
-    hide(writer, tree.start, tree.end);
+  else if (callee.type === "Super" || object?.type === "Super" || tree.optional || isChain(callee)) {
+    hide(writer, positionOutsideComments(writer.source, "(", callee.end) + 1, tree.end);
   } else if (object !== undefined && isPrivateMethod(writer, callee)) {
     // What a private method is can't change.
     writer.keep(info, object, tree.end);
@@ -197,6 +197,17 @@ function writeCallOfMember(writer, tree, info) {
   writer.writeAll(given, info);
 }
 
+/**
+ * What a pattern goes through would be asked for its iterator at the place of a call that it comes from.
+ * @param {CodeWriter} writer
+ * @param {Tree} pattern or a name
+ * @param {Tree | null} value
+ */
+function beginIterating(writer, pattern, value) {
+  if (pattern.type !== "ArrayPattern" || value?.type === "ArrayExpression" || !runsCode(value)) return;
+  writer.within(/** @type {Tree} */ (value), "$R.iterable((", "))");
+}
+
 const LOGICAL = new Set(["||=", "&&=", "??="]);
 
 /** @type {Write} */
@@ -206,13 +217,12 @@ function writeAssignment(writer, tree, info) {
   if (left.type === "MemberExpression" && !writer.analysis.unused.has(tree)) hide(writer, tree.start, right.start);
   const binary = operator === "=" || LOGICAL.has(operator) ? undefined : operator.slice(0, -1);
   if (isPattern(left)) {
-    // What is taken apart is nowhere else.
-    hide(writer, tree.start, tree.end);
+    beginIterating(writer, left, right);
     writer.writeAll([left, right], info);
   } else if (left.type === "Identifier") {
-    if (binary !== undefined && runsCode(right)) {
-      const old = writer.room(info, left.end, tree.end);
-      replaceOperator(writer, tree, `= (${old} = ${left.name}) ${binary} (`);
+    if (binary !== undefined && !isConstant(right)) {
+      const old = runsCode(right) ? `(${writer.room(info, left.end, tree.end)} = ${left.name})` : left.name;
+      replaceOperator(writer, tree, `= ${old} ${binary} (`);
     }
     writer.write(right, info);
   } else if (binary !== undefined && left.object.type !== "Super") writeChange(writer, tree, info, binary);
@@ -220,13 +230,17 @@ function writeAssignment(writer, tree, info) {
 }
 
 /**
+ * Makes `a += b` be `a = a + (b)`: the engine would say of the sum that it is at the place of a call before it.
  * @param {CodeWriter} writer
  * @param {Tree} tree an assignment
  * @param {string} text up to the value; a parenthesis closes it
  */
-function replaceOperator({ edits, source }, { left, operator, end }, text) {
+function replaceOperator(writer, { left, right, operator, end }, text) {
+  const { edits, source } = writer;
   edits.replace(positionOutsideComments(source, operator, left.end), operator.length, text);
   edits.after(end, ")");
+  // Both values may be made numbers there.
+  hide(writer, left.end, right.start);
 }
 
 /**
@@ -239,9 +253,9 @@ function replaceOperator({ edits, source }, { left, operator, end }, text) {
 function writeChange(writer, tree, info, binary) {
   const { left, right, end } = tree;
   const member = keepMember(writer, left, info, end);
-  if (runsCode(right)) {
-    const old = writer.room(info, left.end, end);
-    replaceOperator(writer, tree, `= (${old} = ${member}) ${binary} (`);
+  if (!isConstant(right)) {
+    const old = runsCode(right) ? `(${writer.room(info, left.end, end)} = ${member})` : member;
+    replaceOperator(writer, tree, `= ${old} ${binary} (`);
   }
   writer.write(right, info);
 }

@@ -1,7 +1,7 @@
 // How statements are rewritten.
 
 import { positionOutsideComments } from "./comments.mjs";
-import { childrenOf, isConstant, isFunction, runsCode } from "./tree.mjs";
+import { childrenOf, isClass, isConstant, isFunction, runsCode } from "./tree.mjs";
 
 /** @typedef {import("./tree.mjs").Tree} Tree */
 /** @typedef {import("./scopes.mjs").Info} Info */
@@ -27,15 +27,11 @@ export const WITHOUT_FRAME = {
   },
   SwitchStatement: writeSwitch,
   ForStatement: writeFor,
-  ForOfStatement: (writer, tree, info) => {
-    if (info !== null) {
-      const room = writer.room(info, tree.right.end, tree.end);
-      writer.edits.before(tree.right.start, `$R.iterable($f, ${room.slice("$f.t[".length, -1)}, (`);
-      writer.edits.after(tree.right.end, "))");
-    }
-    writeEach(writer, tree, info);
+  ForOfStatement: (writer, tree, info) => writeEach(writer, tree, info, "iterated"),
+  ForInStatement: (writer, tree, info) => {
+    if (info !== null) makeOfList(writer, tree);
+    writeEach(writer, tree, info, "keysIn");
   },
-  ForInStatement: writeEach,
   DoWhileStatement: writeLoop,
   WhileStatement: writeLoop,
 };
@@ -133,24 +129,37 @@ function showHead({ edits, environment, source }, { init, test, update }, own, i
   if (update) edits.before(update.start, `${shows}, `);
 }
 
-/** @type {WriteAnywhere} */
-function writeEach(writer, tree, info) {
-  const { analysis, edits } = writer;
-  const own = analysis.own.get(tree);
-  // What an element is put into is evaluated when that is there, which isn't shown.
-  if (tree.left.type !== "VariableDeclaration" && runsCode(tree.left)) {
-    analysis.hidden.push([tree.left.start, tree.left.end]);
+/** @param {CodeWriter} writer @param {Tree} tree a `for..in`, which becomes a loop over a list of its keys */
+function makeOfList({ edits, source }, { left }) {
+  edits.replace(positionOutsideComments(source, "in", left.end), "in".length, "of");
+  // A loop can't go `for (async of`.
+  if (left.type !== "Identifier") return;
+  edits.before(left.start, "(");
+  edits.after(left.end, ")");
+}
+
+/**
+ * @param {CodeWriter} writer
+ * @param {Tree} tree
+ * @param {Info | null} info
+ * @param {"iterated" | "keysIn"} how it gets what it goes through
+ */
+function writeEach(writer, tree, info, how) {
+  const { body, left, right } = tree;
+  if (info !== null) {
+    const room = writer.room(info, right.end, tree.end);
+    writer.within(right, `$R.${how}($f, ${room.slice("$f.t[".length, -1)}, (`, "))");
+    // What the loop has got is nowhere else yet.
+    writer.analysis.hidden.push([left.start, left.end]);
   }
+  const own = writer.analysis.own.get(tree);
   if (own !== undefined && writer.isSeen(own, info)) {
-    if (tree.body.type === "BlockStatement") showNames(writer, tree, info, tree.body.start + 1);
-    else {
-      edits.before(tree.body.start, `{ const $e${own.id} = ${writer.environment(own, info)};`);
-      edits.after(tree.body.end, "}");
-    }
+    if (body.type === "BlockStatement") showNames(writer, tree, info, body.start + 1);
+    else writer.within(body, `{ const $e${own.id} = ${writer.environment(own, info)};`, "}");
   }
   writer.withoutVariables(() => {
-    writer.write(tree.left, null);
-    writer.writeAll([tree.right, tree.body], info);
+    writer.write(left, null);
+    writer.writeAll([right, body], info);
   });
 }
 
@@ -160,48 +169,70 @@ function writeTry(writer, tree, info) {
   writer.writeAll([tree.block, tree.handler, tree.finalizer], info);
 }
 
+/** @typedef {{ how: string, what: string }} Leaving where the frame has how a `try` was left, and with which value */
+
 /**
- * How a `try` was left is kept while its `finally` runs.
+ * How a `try` was left is kept while its `finally` runs. Whatever is thrown goes through a `catch` around the rest.
  * @type {Write}
  */
 function keepLeaving(writer, tree, info) {
   const { edits } = writer;
-  const { block, handler, finalizer } = tree;
+  const { block, handler, finalizer, start } = tree;
   const how = writer.room(info, finalizer.start, finalizer.end);
   const what = writer.room(info, finalizer.start, finalizer.end);
-  noteLeaving(writer, block, tree, how, what);
-  edits.before(block.start + 1, ` ${how} = "throws";`);
-  writer.atEnd(block, ` ${how} = "ends"; ${what} = undefined;`);
+  for (const part of [block, handler?.body]) if (part) noteLeaving(writer, part, { how, what });
+  const ends = ` ${how} = "ends"; ${what} = undefined;`;
+  const threw = ` catch ($x) { ${how} = "threw"; ${what} = $x; throw $x; } `;
   if (handler) {
-    noteLeaving(writer, handler.body, tree, how, what);
-    edits.before(handler.body.start + 1, ` ${how} = $R.unknown;`);
-    writer.atEnd(handler.body, ` ${how} = "ends"; ${what} = undefined;`);
-  } else edits.after(block.end, ` catch ($x) { ${how} = "threw"; ${what} = $x; throw $x; }`);
+    edits.before(start, "try { ");
+    edits.after(handler.end, `${ends} }${threw}`);
+  } else {
+    writer.atEnd(block, ends);
+    edits.after(block.end, threw);
+  }
 }
 
 /**
+ * Notes each statement that leaves a part of a `try`.
  * @param {CodeWriter} writer
- * @param {Tree} tree in which the block of a `try` is left
- * @param {Tree} whole that `try`
- * @param {string} how
- * @param {string} what
+ * @param {Tree} part
+ * @param {Leaving} leaving
  */
-function noteLeaving(writer, tree, whole, how, what) {
-  const { analysis, edits, source } = writer;
-  /** @param {Tree} one */
-  const note = (one) => {
-    if (isFunction(one)) return;
-    const { type, argument, end } = one;
-    if (type === "ReturnStatement" && argument) {
-      edits.before(argument.start, `((${what} = (`);
-      edits.after(argument.end, `)), (${how} = "return"), ${what})`);
-    } else if (type === "ReturnStatement") {
-      edits.after(end - (source[end - 1] === ";" ? 1 : 0), ` (${how} = "returns", ${what} = undefined)`);
-    }
-    const isJump = type === "BreakStatement" || type === "ContinueStatement";
-    const { start, end: behind } = whole.finalizer;
-    if (isJump || (type === "TryStatement" && one.finalizer)) analysis.hidden.push([start, behind]);
-    else if (type !== "ReturnStatement") childrenOf(one).forEach(note);
+function noteLeaving(writer, part, leaving) {
+  /** @param {Tree} tree @param {string[]} inside the jumps that lead to what is in the part */
+  const note = (tree, inside) => {
+    const { type } = tree;
+    if (isFunction(tree) || isClass(tree)) return;
+    if (type === "ReturnStatement") noteReturn(writer, tree, leaving);
+    else if (type === "BreakStatement" || type === "ContinueStatement") {
+      const jump = jumpText(tree);
+      if (!inside.includes(jump)) noteJump(writer, tree, leaving, jump);
+    } else childrenOf(tree).forEach((child) => note(child, [...inside, ...jumpsTo(tree)]));
   };
-  note(tree);
+  note(part, []);
+}
+
+/** @param {Tree} tree a jump @returns {string} */
+const jumpText = ({ type, label }) => `${type === "BreakStatement" ? "break" : "continue"} ${label?.name ?? ""}`;
+
+/** @param {Tree} tree @returns {string[]} the jumps in it that lead to it */
+function jumpsTo(tree) {
+  if (tree.type === "LabeledStatement") return [`break ${tree.label.name}`, `continue ${tree.label.name}`];
+  if (tree.type === "SwitchStatement") return ["break "];
+  return /^(?:For|While|DoWhile)/.test(tree.type) ? ["break ", "continue "] : [];
+}
+
+/** @param {CodeWriter} writer @param {Tree} tree @param {Leaving} leaving */
+function noteReturn({ edits, source }, { argument, end }, { how, what }) {
+  if (argument) {
+    edits.before(argument.start, `((${what} = (`);
+    edits.after(argument.end, `)), (${how} = "return"), ${what})`);
+  } else {
+    edits.after(end - (source[end - 1] === ";" ? 1 : 0), ` (${how} = "returns", ${what} = undefined)`);
+  }
+}
+
+/** @param {CodeWriter} writer @param {Tree} tree @param {Leaving} leaving @param {string} jump */
+function noteJump(writer, tree, { how, what }, jump) {
+  writer.within(tree, `{ ${how} = "${jump}"; ${what} = undefined; `, " }");
 }

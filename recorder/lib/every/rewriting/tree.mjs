@@ -39,6 +39,12 @@ export function runsCode(tree) {
   return RUNS.test(tree.type) || childrenOf(tree).some(runsCode);
 }
 
+/** @param {Tree} tree in a chain @returns {boolean} whether that may end before the tree's end */
+export function hasOptional({ type, optional, object, callee }) {
+  if (type !== "MemberExpression" && type !== "CallExpression") return false;
+  return optional || hasOptional(object ?? callee);
+}
+
 /** @param {Tree} tree @returns {boolean} whether it has the same value each time */
 export function isConstant({ type, argument, expressions }) {
   if (type === "UnaryExpression") return isConstant(argument);

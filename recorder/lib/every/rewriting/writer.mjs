@@ -74,12 +74,6 @@ export class CodeWriter {
     for (const tree of trees) this.write(tree, info);
   }
 
-  /** @param {Tree} tree whose inside can't be shown */
-  hide(tree) {
-    this.analysis.hidden.push([tree.start, tree.end]);
-    this.writeAll(childrenOf(tree), null);
-  }
-
   /**
    * Gives a frame room for a value.
    * @param {Info} info
@@ -107,14 +101,19 @@ export class CodeWriter {
   keep(info, tree, to, around = this.#kept(tree)) {
     const [before, after] = around;
     const room = this.room(info, tree.end, to);
-    this.edits.before(tree.start, `(${room} = ${before}`);
-    this.edits.after(tree.end, `${after})`);
+    this.within(tree, `(${room} = ${before}`, `${after})`);
     return room;
   }
 
   /** @param {Tree} tree @returns {[string, string]} what stands around it */
   #kept(tree) {
     return givingName(isClass(tree) ? this.names.get(tree) : undefined);
+  }
+
+  /** @param {Tree} tree @param {string} before what goes before it @param {string} after and behind it */
+  within(tree, before, after) {
+    this.edits.before(tree.start, before);
+    this.edits.after(tree.end, after);
   }
 
   /**
@@ -130,13 +129,8 @@ export class CodeWriter {
     });
     for (const one of operands.slice(0, Math.max(last, 0))) {
       if (one === null || !this.isKept(one)) continue;
-      if (one.type !== "SpreadElement") {
-        this.keep(info, one, end);
-        continue;
-      }
-      const room = this.room(info, one.end, end);
-      this.edits.before(one.argument.start, `(${room} = [...(`);
-      this.edits.after(one.argument.end, ")])");
+      // What is written in a spread element makes a list of it.
+      this.keep(info, one.type === "SpreadElement" ? one.argument : one, end);
     }
   }
 
@@ -305,8 +299,7 @@ export class CodeWriter {
   #noteKeys({ properties }) {
     for (const { key, value } of properties) {
       if (this.names.get(value) !== NAME_OF_KEY || isClass(value)) continue;
-      this.edits.before(key.start, "$R.named((");
-      this.edits.after(key.end, "))");
+      this.within(key, "$R.named((", "))");
     }
   }
 

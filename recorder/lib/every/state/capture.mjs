@@ -8,9 +8,6 @@ import { CantShow, Walk } from "./walk.mjs";
 
 /** @typedef {import("../rewriting/rewrite.mjs").Rewritten} Rewritten */
 
-/** Functions that the engine calls while it has more to do, which isn't shown. */
-const CALLED_BY_ENGINE = new Set(["next", "return", "throw", "valueOf", "toString", "toJSON", "then"]);
-
 /** @typedef {{ name: string, id: number, isAccessor: boolean }} Called a function of the agents that runs */
 
 const NOT_KNOWN = "a place that isn't known";
@@ -19,6 +16,7 @@ const ELEMENTS = new URL("../../agent/ordinary/watched-elements.mjs", import.met
 const ATOMICS = new URL("../../agent/atomics.mjs", import.meta.url).href;
 const LEARNING = new URL("../learning/", import.meta.url).href;
 const STATE = new URL("./", import.meta.url).href;
+const ITERATORS = new URL("./shown-iterators.mjs", import.meta.url).href;
 
 export class Capture {
   /**
@@ -137,8 +135,6 @@ export class Capture {
     const name = site?.getFunctionName() ?? "";
     const text = this.texts.get(site?.getFileName() ?? "");
     if (site === undefined || text === undefined) throw new CantShow(`a function of the engine that calls ${name}`);
-    const isCalledByEngine = CALLED_BY_ENGINE.has(site.getMethodName() ?? "") || name.includes("[Symbol");
-    if (isCalledByEngine) throw new CantShow(`${name}, which the engine calls`);
     const position = site.getPosition();
     const place = text.at(position);
     if (place.unknown !== undefined) throw new CantShow(place.unknown);
@@ -171,22 +167,24 @@ export class Capture {
   }
 }
 
+/** @param {NodeJS.CallSite | undefined} site @returns {string} */
+const fileOf = (site) => site?.getFileName() ?? "";
+
 /**
- * Above the agents' own functions may only be what a call of Atomics, or the read of an element, begins with: others of
- * the recorder's functions have more to do.
+ * Above the agents' own functions may only be what a call of Atomics, or the read of an element, begins with, and a step
+ * of a loop that is shown: others of the recorder's functions have more to do.
  * @param {NodeJS.CallSite[]} frames
  */
 function needsDirect(frames) {
-  const own = frames.filter((site) => {
-    const file = site.getFileName() ?? "";
-    return !file.startsWith(LEARNING) && !file.startsWith(STATE);
-  });
-  const [first] = own;
-  const file = first?.getFileName() ?? "";
-  const isCall = file === ATOMICS;
-  const isElement = file === ELEMENTS && /\bget$/.test(first.getFunctionName() ?? "");
-  if (own.length !== 1 || !(isCall || isElement)) {
-    const name = first?.getFunctionName() ?? "a function";
-    throw new CantShow(`${name} of ${file.replace(LIBRARY, "")}, which may have more to do`);
-  }
+  const isOfRecorder = (/** @type {string} */ file) => file.startsWith(LEARNING) || file.startsWith(STATE);
+  const at = frames.findIndex((site) => !isOfRecorder(fileOf(site)));
+  const rest = frames.slice(at + 1);
+  const isCall = fileOf(frames[at]) === ATOMICS && rest.length === 0;
+  const isElement = fileOf(frames[at]) === ELEMENTS && /\bget$/.test(frames[at].getFunctionName() ?? "");
+  const isStep = rest.every((site) => fileOf(site) === ITERATORS);
+  if (isCall || (isElement && isStep)) return;
+  const first = isElement ? rest.find((site) => fileOf(site) !== ITERATORS) : frames[at];
+  const name = first?.getFunctionName() ?? "a function";
+  throw new CantShow(`${name} of ${fileOf(first).replace(LIBRARY, "")}, which may have more to do`);
 }
+

@@ -1,43 +1,254 @@
-// The engine's own loops over arrays, in JavaScript: it can be shown then how far they are. They are rewritten as the
-// agents' modules are, and stand for the engine's while agents are learned.
+// The engine's own loops that call a function of the agents, in JavaScript: it can be shown then how far they are. They
+// are rewritten as the agents' modules are, and stand for the engine's while agents are learned. What isn't an ordinary
+// array, map or set is left to the engine's.
 
-/** @type {Record<string, (this: any, f: any, that?: any) => any>} */
-export const loops = {
-  forEach(f, that) {
-    for (let k = 0, n = this.length; k < n; k += 1) if (k in this) f.call(that, this[k], k, this);
+import { types } from "node:util";
+
+const { apply } = Reflect;
+const { isMap, isProxy, isSet } = types;
+const { getOwnPropertyDescriptor, getPrototypeOf, hasOwn } = Object;
+const { isArray, prototype: arrays } = Array;
+const { max, min, trunc } = Math;
+const { prototype: typedArrays } = getPrototypeOf(Int8Array);
+const { get: lengthOf } = /** @type {any} */ (getOwnPropertyDescriptor(typedArrays, "length"));
+const { get: tagOf } = /** @type {any} */ (getOwnPropertyDescriptor(typedArrays, Symbol.toStringTag));
+const { prototype: maps } = Map;
+const { prototype: sets } = Set;
+const { entries } = maps;
+const { values } = sets;
+const EngineArray = Array;
+const ofArrays = methodsOf(arrays);
+const ofTyped = methodsOf(typedArrays);
+const { from } = Array;
+const { forEach: eachOfMap } = maps;
+const { forEach: eachOfSet } = sets;
+
+/** @typedef {(this: any, f: any, that?: any) => any} Loop */
+
+/** @param {any} owner */
+function methodsOf(owner) {
+  const { every, filter, find, findIndex, findLast, findLastIndex, flatMap, forEach, map, reduce, reduceRight, some }
+    = owner;
+  return {
+    every, filter, find, findIndex, findLast, findLastIndex, flatMap, forEach, map, reduce, reduceRight, some,
+  };
+}
+
+/** @param {unknown} list @param {unknown} f */
+const isOrdinary = (list, f) => typeof f === "function" && isArray(list) && !isProxy(list);
+
+/** @param {unknown} list @param {unknown} f @returns {boolean} whether a copy of the list is an ordinary array too */
+const makesOrdinary = (list, f) => isOrdinary(list, f) && getPrototypeOf(list) === arrays
+  && !hasOwn(/** @type {object} */ (list), "constructor");
+
+/** @param {unknown} list @param {unknown} f */
+const isTyped = (list, f) => typeof f === "function" && apply(tagOf, list, []) !== undefined
+  && apply(lengthOf, list, []) > 0;
+
+/** @param {any} list @returns {number} */
+const lengthIn = (list) => max(0, min(trunc(+list.length) || 0, Number.MAX_SAFE_INTEGER));
+
+/** @type {Record<string, Loop>} */
+export const arrayLoops = {
+  forEach(f, that = undefined) {
+    if (!isOrdinary(this, f)) return apply(ofArrays.forEach, this, [f, that]);
+    for (let k = 0, n = this.length; k < n; k += 1) if (k in this) apply(f, that, [this[k], k, this]);
   },
-  map(f, that) {
+  map(f, that = undefined) {
+    if (!makesOrdinary(this, f)) return apply(ofArrays.map, this, [f, that]);
     const n = this.length;
-    const made = new Array(n);
-    for (let k = 0; k < n; k += 1) if (k in this) made[k] = f.call(that, this[k], k, this);
+    const made = new EngineArray(n);
+    for (let k = 0; k < n; k += 1) if (k in this) made[k] = apply(f, that, [this[k], k, this]);
     return made;
   },
-  filter(f, that) {
+  filter(f, that = undefined) {
+    if (!makesOrdinary(this, f)) return apply(ofArrays.filter, this, [f, that]);
     const kept = [];
     for (let k = 0, n = this.length; k < n; k += 1) {
       if (!(k in this)) continue;
       const one = this[k];
-      if (f.call(that, one, k, this)) kept.push(one);
+      if (apply(f, that, [one, k, this])) kept[kept.length] = one;
     }
     return kept;
   },
-  some(f, that) {
-    for (let k = 0, n = this.length; k < n; k += 1) if (k in this && f.call(that, this[k], k, this)) return true;
+  flatMap(f, that = undefined) {
+    if (!makesOrdinary(this, f)) return apply(ofArrays.flatMap, this, [f, that]);
+    const made = [];
+    for (let k = 0, n = this.length; k < n; k += 1) {
+      if (!(k in this)) continue;
+      const one = apply(f, that, [this[k], k, this]);
+      if (!isArray(one)) made[made.length] = one;
+      else for (let j = 0, m = lengthIn(one); j < m; j += 1) if (j in one) made[made.length] = one[j];
+    }
+    return made;
+  },
+  some(f, that = undefined) {
+    if (!isOrdinary(this, f)) return apply(ofArrays.some, this, [f, that]);
+    for (let k = 0, n = this.length; k < n; k += 1) if (k in this && apply(f, that, [this[k], k, this])) return true;
     return false;
   },
-  every(f, that) {
-    for (let k = 0, n = this.length; k < n; k += 1) if (k in this && !f.call(that, this[k], k, this)) return false;
+  every(f, that = undefined) {
+    if (!isOrdinary(this, f)) return apply(ofArrays.every, this, [f, that]);
+    for (let k = 0, n = this.length; k < n; k += 1) if (k in this && !apply(f, that, [this[k], k, this])) return false;
     return true;
   },
-  find(f, that) {
+  find(f, that = undefined) {
+    if (!isOrdinary(this, f)) return apply(ofArrays.find, this, [f, that]);
     for (let k = 0, n = this.length; k < n; k += 1) {
       const one = this[k];
-      if (f.call(that, one, k, this)) return one;
+      if (apply(f, that, [one, k, this])) return one;
     }
     return undefined;
   },
-  findIndex(f, that) {
-    for (let k = 0, n = this.length; k < n; k += 1) if (f.call(that, this[k], k, this)) return k;
+  findIndex(f, that = undefined) {
+    if (!isOrdinary(this, f)) return apply(ofArrays.findIndex, this, [f, that]);
+    for (let k = 0, n = this.length; k < n; k += 1) if (apply(f, that, [this[k], k, this])) return k;
     return -1;
+  },
+  findLast(f, that = undefined) {
+    if (!isOrdinary(this, f)) return apply(ofArrays.findLast, this, [f, that]);
+    for (let k = this.length - 1; k >= 0; k -= 1) {
+      const one = this[k];
+      if (apply(f, that, [one, k, this])) return one;
+    }
+    return undefined;
+  },
+  findLastIndex(f, that = undefined) {
+    if (!isOrdinary(this, f)) return apply(ofArrays.findLastIndex, this, [f, that]);
+    for (let k = this.length - 1; k >= 0; k -= 1) if (apply(f, that, [this[k], k, this])) return k;
+    return -1;
+  },
+  reduce(f, ...first) {
+    if (!isOrdinary(this, f)) return apply(ofArrays.reduce, this, [f, ...first]);
+    const n = this.length;
+    let k = 0;
+    let value = first[0];
+    if (first.length === 0) {
+      while (k < n && !(k in this)) k += 1;
+      if (k >= n) throw new TypeError("Reduce of empty array with no initial value");
+      value = this[k];
+      k += 1;
+    }
+    for (; k < n; k += 1) if (k in this) value = apply(f, undefined, [value, this[k], k, this]);
+    return value;
+  },
+  reduceRight(f, ...first) {
+    if (!isOrdinary(this, f)) return apply(ofArrays.reduceRight, this, [f, ...first]);
+    let k = this.length - 1;
+    let value = first[0];
+    if (first.length === 0) {
+      while (k >= 0 && !(k in this)) k -= 1;
+      if (k < 0) throw new TypeError("Reduce of empty array with no initial value");
+      value = this[k];
+      k -= 1;
+    }
+    for (; k >= 0; k -= 1) if (k in this) value = apply(f, undefined, [value, this[k], k, this]);
+    return value;
+  },
+};
+
+/** @type {Record<string, Loop>} */
+export const typedLoops = {
+  forEach(f, that = undefined) {
+    if (!isTyped(this, f)) return apply(ofTyped.forEach, this, [f, that]);
+    for (let k = 0, n = apply(lengthOf, this, []); k < n; k += 1) apply(f, that, [this[k], k, this]);
+  },
+  some(f, that = undefined) {
+    if (!isTyped(this, f)) return apply(ofTyped.some, this, [f, that]);
+    for (let k = 0, n = apply(lengthOf, this, []); k < n; k += 1) if (apply(f, that, [this[k], k, this])) return true;
+    return false;
+  },
+  every(f, that = undefined) {
+    if (!isTyped(this, f)) return apply(ofTyped.every, this, [f, that]);
+    for (let k = 0, n = apply(lengthOf, this, []); k < n; k += 1) if (!apply(f, that, [this[k], k, this])) return false;
+    return true;
+  },
+  find(f, that = undefined) {
+    if (!isTyped(this, f)) return apply(ofTyped.find, this, [f, that]);
+    for (let k = 0, n = apply(lengthOf, this, []); k < n; k += 1) {
+      const one = this[k];
+      if (apply(f, that, [one, k, this])) return one;
+    }
+    return undefined;
+  },
+  findIndex(f, that = undefined) {
+    if (!isTyped(this, f)) return apply(ofTyped.findIndex, this, [f, that]);
+    for (let k = 0, n = apply(lengthOf, this, []); k < n; k += 1) if (apply(f, that, [this[k], k, this])) return k;
+    return -1;
+  },
+  findLast(f, that = undefined) {
+    if (!isTyped(this, f)) return apply(ofTyped.findLast, this, [f, that]);
+    for (let k = apply(lengthOf, this, []) - 1; k >= 0; k -= 1) {
+      const one = this[k];
+      if (apply(f, that, [one, k, this])) return one;
+    }
+    return undefined;
+  },
+  findLastIndex(f, that = undefined) {
+    if (!isTyped(this, f)) return apply(ofTyped.findLastIndex, this, [f, that]);
+    for (let k = apply(lengthOf, this, []) - 1; k >= 0; k -= 1) if (apply(f, that, [this[k], k, this])) return k;
+    return -1;
+  },
+  reduce(f, ...first) {
+    if (!isTyped(this, f)) return apply(ofTyped.reduce, this, [f, ...first]);
+    const n = apply(lengthOf, this, []);
+    let k = first.length === 0 ? 1 : 0;
+    let value = first.length === 0 ? this[0] : first[0];
+    for (; k < n; k += 1) value = apply(f, undefined, [value, this[k], k, this]);
+    return value;
+  },
+  reduceRight(f, ...first) {
+    if (!isTyped(this, f)) return apply(ofTyped.reduceRight, this, [f, ...first]);
+    const n = apply(lengthOf, this, []);
+    let k = first.length === 0 ? n - 2 : n - 1;
+    let value = first.length === 0 ? this[n - 1] : first[0];
+    for (; k >= 0; k -= 1) value = apply(f, undefined, [value, this[k], k, this]);
+    return value;
+  },
+};
+
+/** @type {Record<string, Loop>} */
+export const mapLoops = {
+  forEach(f, that = undefined) {
+    if (typeof f !== "function" || !isMap(this)) return apply(eachOfMap, this, [f, that]);
+    for (const [key, value] of apply(entries, this, [])) apply(f, that, [value, key, this]);
+  },
+};
+
+/** @type {Record<string, Loop>} */
+export const setLoops = {
+  forEach(f, that = undefined) {
+    if (typeof f !== "function" || !isSet(this)) return apply(eachOfSet, this, [f, that]);
+    for (const value of apply(values, this, [])) apply(f, that, [value, value, this]);
+  },
+};
+
+/** @param {any} items @returns {boolean} whether a loop goes through them as `Array.from` does */
+const isGoneThrough = (items) => typeof items === "string" || isMap(items) || isSet(items)
+  || (isArray(items) && !isProxy(items)) || apply(tagOf, items, []) !== undefined;
+
+/** @param {any} items @returns {boolean} whether they have nothing but a length and elements */
+function isArrayLike(items) {
+  if (typeof items !== "object" || items === null) return false;
+  for (let at = items; at !== null; at = getPrototypeOf(at)) {
+    if (isProxy(at) || hasOwn(at, Symbol.iterator)) return false;
+  }
+  return true;
+}
+
+/** @type {Record<string, (this: any, items: any, f?: any, that?: any) => any>} */
+export const arrayMakers = {
+  from(items, f = undefined, that = undefined) {
+    if (this !== EngineArray || typeof f !== "function") return apply(from, this, [items, f, that]);
+    if (isArrayLike(items)) {
+      const n = lengthIn(items);
+      const made = new EngineArray(n);
+      for (let k = 0; k < n; k += 1) made[k] = apply(f, that, [items[k], k]);
+      return made;
+    }
+    if (!isGoneThrough(items)) return apply(from, this, [items, f, that]);
+    const made = [];
+    for (const one of items) made[made.length] = apply(f, that, [one, made.length]);
+    return made;
   },
 };

@@ -4,8 +4,8 @@
 import { apply, construct, defineProperty, getPrototypeOf, hasOwn, proxyOf } from "../../primordials.mjs";
 import { types } from "node:util";
 import { Installed, numberOf } from "./installed.mjs";
+import { iterable, keysIn, listed } from "./loop-steps.mjs";
 import { own } from "./own-objects.mjs";
-import { shownIteratorOf } from "./shown-iterators.mjs";
 
 /** @typedef {[Environment, number]} CapturedCell a name: what it is among, and its position there */
 
@@ -140,13 +140,16 @@ export class Runtime {
       module: (read, indexes) => void this.modules.push({ environment: new Environment(read), indexes }),
       callable,
       constructible,
-      given: (/** @type {unknown} */ value) => value,
       iterable,
+      iterated: kept(iterable),
+      keysIn: kept(keysIn),
+      listed,
       key,
       method,
       own,
       /** @param {unknown} object that gets another limit of stacks: Error has the same of a module each time */
       ownLimit: (object) => (this.isMaking && object === EngineError ? object : own(object)),
+      text: (/** @type {any} */ value) => `${value}`,
       ...this.#makers(),
     };
   }
@@ -250,12 +253,12 @@ const key = (value) => Reflect.ownKeys({ [value]: 0 })[0];
 
 /**
  * What a loop goes through: its iterator is kept in the frame, where it can be shown.
- * @param {RewrittenFrame} frame
- * @param {number} id
- * @param {any} given
+ * @template Given
+ * @param {(given: Given) => Iterable<unknown>} make
  */
-function iterable(frame, id, given) {
-  const shown = shownIteratorOf(given);
-  frame.t[id] = shown ?? UNKNOWN_VALUE;
-  return shown ?? given;
-}
+const kept = (make) => (/** @type {RewrittenFrame} */ frame, /** @type {number} */ id, /** @type {Given} */ given) => {
+  frame.t[id] = UNKNOWN_VALUE;
+  const shown = make(given);
+  frame.t[id] = shown;
+  return shown;
+};

@@ -4,6 +4,7 @@ import { types } from "node:util";
 import { anyWatchedOf } from "../../agent/ordinary/watched.mjs";
 import { blockNumber } from "../../agent/ordinary/context.mjs";
 import { hexOf } from "../search/raw-elements.mjs";
+import { LoopSteps } from "./loop-steps.mjs";
 import { UNKNOWN_VALUE } from "./runtime.mjs";
 import { iterationOf } from "./shown-iterators.mjs";
 
@@ -187,6 +188,11 @@ export class Walk {
   #object(object) {
     this.out.push("{");
     if (object === UNKNOWN_VALUE) throw new CantShow("how a `try` was left, or how far a loop is");
+    if (object instanceof LoopSteps) {
+      this.out.push("steps");
+      for (const one of object.shown()) this.value(one);
+      return;
+    }
     const watched = anyWatchedOf(object);
     const isMemory = watched === undefined && (types.isAnyArrayBuffer(object) || ArrayBuffer.isView(object));
     if (watched !== undefined) this.#watched(watched);

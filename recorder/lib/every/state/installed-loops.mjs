@@ -1,0 +1,20 @@
+// Puts the loops of the prelude in the place of the engine's: they have the same names and lengths.
+
+import { replace } from "../../agent/ordinary/patch.mjs";
+import { TypedArray } from "../../primordials.mjs";
+
+/** @typedef {Record<string, Function>} Stands by the names of what they stand for */
+
+/** @param {object} owner @param {Stands} stands */
+function install(owner, stands) {
+  for (const [name, stand] of Object.entries(stands)) replace(owner, name, () => stand);
+}
+
+/** @param {{ arrayLoops: Stands, typedLoops: Stands, mapLoops: Stands, setLoops: Stands, arrayMakers: Stands }} loops */
+export function installLoops({ arrayLoops, typedLoops, mapLoops, setLoops, arrayMakers }) {
+  install(Array.prototype, arrayLoops);
+  install(TypedArray.prototype, typedLoops);
+  install(Map.prototype, mapLoops);
+  install(Set.prototype, setLoops);
+  install(Array, arrayMakers);
+}

@@ -1,0 +1,131 @@
+// What loops of rewritten code go through if none of the language's own iterators is at hand: an iterator of the agents'
+// own, or the keys of a `for..in`.
+
+import { types } from "node:util";
+import { apply, getPrototypeOf, isObject } from "../../primordials.mjs";
+import { shownIteratorOf } from "./shown-iterators.mjs";
+
+/** What a loop goes through. */
+export class LoopSteps {
+  [Symbol.iterator]() {
+    return this;
+  }
+
+  /** @returns {IteratorResult<unknown>} */
+  next() {
+    return { done: true, value: undefined };
+  }
+
+  /** @returns {unknown[]} what is the same only if it does the same from now on */
+  shown() {
+    return [];
+  }
+}
+
+/** Goes through what an iterator of the agents' own gives. */
+class OthersSteps extends LoopSteps {
+  /** @param {any} real the iterator */
+  constructor(real) {
+    super();
+    this.real = real;
+    this.step = real.next;
+  }
+
+  next() {
+    return apply(this.step, this.real, []);
+  }
+
+  get return() {
+    const method = this.real.return;
+    if (typeof method !== "function") return method;
+    return () => apply(method, this.real, []);
+  }
+
+  shown() {
+    return ["others", this.real, this.step];
+  }
+}
+
+/** The keys that a `for..in` has found: one that isn't there any more when its turn comes is left out. */
+class Keys extends LoopSteps {
+  /** @param {any} object */
+  constructor(object) {
+    super();
+    this.object = object;
+    /** @type {string[]} */
+    this.keys = [];
+    for (const key in object) this.keys.push(key);
+    this.at = 0;
+  }
+
+  next() {
+    while (this.at < this.keys.length) {
+      const value = this.keys[this.at];
+      this.at += 1;
+      if (value in this.object) return { done: false, value };
+    }
+    return { done: true, value: undefined };
+  }
+
+  shown() {
+    return ["keys", this.object, ...this.keys.slice(this.at)];
+  }
+}
+
+/** What the engine's `for..in` gives, if code of the agents may take part in it. Nothing shows how far it is. */
+class HiddenKeys extends LoopSteps {
+  /** @param {object} object */
+  constructor(object) {
+    super();
+    this.real = keysFrom(object);
+  }
+
+  next() {
+    return this.real.next();
+  }
+
+  shown() {
+    return [this.real];
+  }
+}
+
+/** @param {object} object */
+function* keysFrom(object) {
+  for (const key in object) yield key;
+}
+
+/** @param {unknown} object @returns {boolean} whether it is a proxy, or inherits from one */
+function hasProxy(object) {
+  for (let at = object; isObject(at); at = getPrototypeOf(at)) if (types.isProxy(at)) return true;
+  return false;
+}
+
+/**
+ * @param {any} given what a `for..of`, or its like, goes through
+ * @returns {Iterable<unknown>} what stands for it
+ */
+export function iterable(given) {
+  const shown = shownIteratorOf(given);
+  // Of one that agents hold the `next` can be replaced, and a loop has read that before.
+  if (shown === given && shown !== undefined) return new OthersSteps(shown);
+  if (shown !== undefined) return shown;
+  const method = given === undefined || given === null ? undefined : given[Symbol.iterator];
+  // The engine's own text names what was to be gone through, which isn't known here.
+  if (typeof method !== "function") throw new TypeError("$R isn't iterable");
+  const real = apply(method, given, []);
+  if (!isObject(real)) throw new TypeError("Result of the Symbol.iterator method is not an object");
+  return new OthersSteps(real);
+}
+
+/** @param {unknown} given what is spread @returns {unknown[]} all that it has */
+export function listed(given) {
+  const list = [];
+  for (const one of iterable(given)) list[list.length] = one;
+  return list;
+}
+
+/** @param {unknown} given what a `for..in` goes through @returns {LoopSteps} what gives its keys */
+export function keysIn(given) {
+  const object = given === undefined || given === null ? {} : Object(given);
+  return hasProxy(object) ? new HiddenKeys(object) : new Keys(object);
+}
