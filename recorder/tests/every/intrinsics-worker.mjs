@@ -13,7 +13,11 @@ import { Runtime } from "../../lib/every/state/runtime.mjs";
 import { Walk } from "../../lib/every/state/walk.mjs";
 
 const language = /** @type {string[]} */ (runInContext("Object.getOwnPropertyNames(globalThis)", createContext({})));
-installRealm(new Asker());
+// The agents get none.
+const exit = process.exit.bind(process);
+const constructors = constructorsOf(globalThis, "");
+const asker = new Asker();
+installRealm(asker);
 installShown();
 const runtime = new Runtime();
 const builtins = new NamedBuiltins();
@@ -50,6 +54,23 @@ const PROTOTYPES = ["one", "Object.setPrototypeOf(one, Object.prototype)", "Obje
   "Reflect.setPrototypeOf(one, Array.prototype), one",
   "Object.getOwnPropertyDescriptor(Object.prototype, '__proto__').set.call(one, Error.prototype), one"];
 
+/**
+ * @template Result
+ * @param {() => Result} body
+ * @param {Result} refused what it returns if the realm refuses what the body does
+ * @returns {Result}
+ */
+function unlessRefused(body, refused) {
+  try {
+    return body();
+  } catch (thrown) {
+    if (/** @type {any} */ (thrown)?.isBrokenOff !== true) throw thrown;
+    asker.isBroken = false;
+    asker.refused = undefined;
+    return refused;
+  }
+}
+
 /** @param {string} code of an object @param {string} change that is made to it */
 function made(code, change) {
   const text = `"use strict"; ${HELPERS} const one = (${code}); try { return (${change}); } catch { return one; }`;
@@ -63,14 +84,14 @@ function made(code, change) {
  */
 function shown(name, row) {
   return PROTOTYPES.map((change) => {
-    const texts = row.split(" | ").map((code) => textOf(made(code, change)));
+    const texts = row.split(" | ").map((code) => unlessRefused(() => textOf(made(code, change)), undefined));
     return { name, change, texts };
   });
 }
 
 /** @param {string} name @returns {boolean} whether this node has it */
 function isHere(name) {
-  return name.includes(" ") || /^[a-z]/.test(name) || runInThisContext(`typeof ${name}`) === "function";
+  return /^[a-z]/.test(name) || unlessRefused(() => runInThisContext(`typeof ${name}`), "function") === "function";
 }
 
 /** @param {any} owner @param {string} prefix @returns {string[]} the names of its constructors */
@@ -84,5 +105,5 @@ function constructorsOf(owner, prefix) {
 }
 
 const results = [...ROWS].filter(([name]) => isHere(name)).flatMap(([name, row]) => shown(name, row));
-parentPort?.postMessage({ results, rows: [...ROWS.keys()], language, constructors: constructorsOf(globalThis, "") });
-process.exit(0);
+parentPort?.postMessage({ results, rows: [...ROWS.keys()], language, constructors });
+exit(0);

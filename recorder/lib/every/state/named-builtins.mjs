@@ -82,6 +82,8 @@ export class NamedBuiltins {
   take(modules) {
     this.add(globalThis, "globalThis");
     for (const [object, name] of intrinsics()) this.add(object, name);
+    // A proxy stands for the function.
+    this.add(Date.prototype, "globalThis.Date.prototype");
     for (const [name, module] of Object.entries(modules)) this.add(module, name);
     for (let at = 0; at < this.queue.length; at += 1) this.#addMembers(...this.queue[at]);
     const objects = this.queue.map(([object]) => object);
@@ -91,8 +93,7 @@ export class NamedBuiltins {
 
   /** @param {object} object @param {string} name */
   #addMembers(object, name) {
-    // What stands for a class of the engine's is a proxy of that.
-    if (types.isProxy(object) && typeof object !== "function") return;
+    if (types.isProxy(object)) return;
     this.add(Reflect.getPrototypeOf(object), `${name}.__proto__`);
     for (const key of Reflect.ownKeys(object)) {
       this.add(key, `key of ${name}`);
