@@ -127,7 +127,10 @@ const { exports: { agent: ways }, builtins } = loadCode(workerData.url, asker, p
 const isKnown = (/** @type {object} */ object) => builtins.nameOf(object) !== undefined;
 const looks = differing();
 const unknown = unknownIn(isKnown);
-const kept = [...builtins.names].flatMap(([object, name]) => (stateOf(object) ? [`${name}: ${stateOf(object)}`] : []));
+const kept = [...builtins.names].flatMap(([one, name]) => {
+  const state = typeof one === "symbol" ? undefined : stateOf(one);
+  return state ? [`${name}: ${state}`] : [];
+});
 // Clocks refuse while an agent runs.
 asker.run = { answer: () => undefined };
 /** @type {[string, () => unknown][]} */

@@ -94,8 +94,13 @@ async function differing(given, load) {
   const asker = new Asker();
   asker.onCall = showing(new Int32Array(given.progress));
   const platform = installRealm(asker);
-  const agentNow = given.isFresh ? madeAnew(module, platform) : await asItIs(module, load);
-  asker.begin(plan.buffers, basesOf(plan.buffers).bases);
+  const agentOf = given.isFresh ? madeAnew(module, platform) : await asItIs(module, load);
+  const { bases } = basesOf(plan.buffers);
+  // Each run has buffers of its own: what a module keeps by those of an earlier one is out of reach.
+  const agentNow = () => {
+    asker.begin(plan.buffers, bases);
+    return agentOf();
+  };
   const agents = { count: plan.agents, args, canBlock: plan.canBlock, isShared };
   const learner = new Learner(asker, agents, { agentNow, line: () => "" });
   return new Again(learner, given, ways).run();

@@ -87,7 +87,7 @@ export class AgentModules {
 
   /**
    * Makes all modules anew.
-   * @param {object} calls what rewritten code calls
+   * @param {{ namespace?: (exports: object, url: string) => void }} calls what rewritten code calls
    * @returns {Map<string, Record<string, any>>} what each exports, by their URLs
    */
   made(calls) {
@@ -96,6 +96,7 @@ export class AgentModules {
     for (const own of exports.values()) this.namespaces.add(own);
     const begun = this.modules.map(({ url, make, imports }) => {
       const own = /** @type {Record<string, any>} */ (exports.get(url));
+      calls.namespace?.(own, url);
       const others = imports.map((one) => (typeof one === "string" ? exports.get(one) : one));
       /** @type {(getters: Getters, stars: number[]) => void} */
       const exported = (getters, stars) => fillNamespace(own, getters, stars.map((at) => others[at]));

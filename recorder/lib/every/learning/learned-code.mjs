@@ -10,7 +10,8 @@ import { beginInstalled } from "../state/installed.mjs";
 import { installLoops } from "../state/installed-loops.mjs";
 import { guardOwn } from "../state/own-objects.mjs";
 import { Runtime } from "../state/runtime.mjs";
-import { CantShow } from "../state/walk.mjs";
+import { knowFirstPrototypes } from "../state/first-prototypes.mjs";
+import { CantShow } from "../state/object-kinds.mjs";
 import { keyOf } from "./asked-nodes.mjs";
 import { AgentModules } from "./agent-modules.mjs";
 import { hadOtherNext } from "./iterators.mjs";
@@ -141,9 +142,10 @@ export function loadCode(url, asker, platform, flaw) {
     add: (object, name) => void builtins.names.set(object, name),
     refuse: (why) => asker.refuse(why),
   });
+  knowFirstPrototypes(builtins);
   runtime.installed = beginInstalled();
   const texts = new Map([...own.texts, ...graph.texts]);
-  const capture = new Capture(runtime, builtins, texts, flaw);
+  const capture = new Capture(runtime, builtins, texts, () => asker.buffers, flaw);
   asker.lineHere = capture.line.bind(capture);
   return new LearnedCode(url, asker, graph, runtime, builtins, capture);
 }

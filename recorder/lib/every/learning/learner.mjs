@@ -3,7 +3,7 @@
 
 import { leftOpen } from "../../agent/answer.mjs";
 import { defineProperty } from "../../primordials.mjs";
-import { CantShow } from "../state/walk.mjs";
+import { CantShow } from "../state/object-kinds.mjs";
 import { DONE, DOES, isCall, nodeOf } from "../search/nodes.mjs";
 import { nodeText } from "../search/node-texts.mjs";
 import { CantLearn, askedEnd, isSame, keyOf } from "./asked-nodes.mjs";

@@ -7,8 +7,12 @@ import { recordedAtomics } from "../../agent/atomics.mjs";
 import { blockNumber } from "../../agent/ordinary/context.mjs";
 import { watchOrdinary } from "../../agent/ordinary/watch.mjs";
 import { simulateChance, simulateTime } from "../../agent/time.mjs";
-import { previewEntries } from "../../program/node/internals.mjs";
+import { getPromiseDetails, previewEntries } from "../../program/node/internals.mjs";
 import { watchInstalled } from "../state/installed.mjs";
+import { watchBinding } from "../state/bound-functions.mjs";
+import { watchPrototypes } from "../state/first-prototypes.mjs";
+import { knowPromises } from "../state/promises.mjs";
+import { watchWeak } from "../state/weak-entries.mjs";
 import { standForIterators } from "../state/shown-iterators.mjs";
 import { checkEngineWrites } from "./engine-writes.mjs";
 import { knowNext } from "./iterators.mjs";
@@ -61,6 +65,10 @@ export function installRealm(asker) {
  */
 export function installShown() {
   standForIterators(previewEntries);
+  knowPromises(getPromiseDetails);
+  watchPrototypes();
+  watchWeak();
+  watchBinding();
   knowNext();
   syncBuiltinESMExports();
 }

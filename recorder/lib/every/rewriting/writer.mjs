@@ -268,7 +268,8 @@ export class CodeWriter {
     const frame = info.isHidden ? null : info;
     // The number in the comment is found in the function's text.
     const enters = `const $f = $R.enter(${info.id}, ${this.cells(info)}); try {`;
-    const begins = `${frame ? enters : `/*$R.enter(${info.id},*/`}${this.#environmentsOf(tree, frame)}`;
+    const shown = `${this.#argumentsOf(tree)}${this.#environmentsOf(tree, frame)}`;
+    const begins = `${frame ? enters : `/*$R.enter(${info.id},*/`}${shown}`;
     if (tree.body.type === "BlockStatement") {
       edits.before(tree.body.start + 1, begins);
       this.declaring(tree.body.start + 1, () => {
@@ -285,6 +286,12 @@ export class CodeWriter {
         this.write(tree.body, frame);
       });
     }
+  }
+
+  /** @param {Tree} tree a function @returns {string} what its `arguments` get, if it uses them */
+  #argumentsOf(tree) {
+    const given = this.analysis.own.get(tree)?.names.get("arguments");
+    return given?.kind === "pseudo" && given.references.length > 0 ? " $R.likeArrays(arguments);" : "";
   }
 
   /** @param {Tree} tree a function @param {Info | null} frame @returns {string} what makes its names visible */

@@ -4,7 +4,8 @@
 import { framesHere } from "../../agent/frames.mjs";
 import { mapGet, mapSet } from "../../primordials.mjs";
 import { readingIterators } from "./shown-iterators.mjs";
-import { CantShow, Walk } from "./walk.mjs";
+import { CantShow } from "./object-kinds.mjs";
+import { Walk } from "./walk.mjs";
 
 /** @typedef {import("../rewriting/rewrite.mjs").Rewritten} Rewritten */
 
@@ -23,23 +24,24 @@ export class Capture {
    * @param {import("./runtime.mjs").Runtime} runtime
    * @param {import("./named-builtins.mjs").NamedBuiltins} builtins
    * @param {Map<string, Rewritten>} texts the rewritten modules, by the names of their scripts
+   * @param {() => object[]} buffers that agents are given
    * @param {{ hides?: string }} [flaw] what is left out on purpose, so that tests see that they notice it
    */
-  constructor(runtime, builtins, texts, flaw = {}) {
+  constructor(runtime, builtins, texts, buffers, flaw = {}) {
     this.runtime = runtime;
     this.builtins = builtins;
     this.texts = texts;
+    this.buffers = buffers;
     this.flaw = flaw;
     /** @type {Map<string, number>} the places at which agents were, each with its number */
     this.places = new Map();
     /** The number of the place at which an agent is whose state was asked for last. */
     this.place = -1;
-    this.how = { ...flaw, hasTags: [...texts.values()].some(({ hasTags }) => hasTags) };
   }
 
   /** @returns {Walk} */
   #walk() {
-    return new Walk(this.runtime, this.builtins, this.how);
+    return new Walk(this.runtime, this.builtins, this.flaw);
   }
 
   /** @returns {string} what the modules keep */
@@ -116,12 +118,17 @@ export class Capture {
     return `${file.slice(file.lastIndexOf("/") + 1)}:${this.texts.get(file)?.lineOf(position)}`;
   }
 
-  /** @param {Walk} walk */
+  /**
+   * What modules keep, also by the buffers: each agent gets them.
+   * @param {Walk} walk
+   */
   #putModules(walk) {
     for (const { environment, indexes } of this.runtime.modules) {
       walk.put("|module");
       for (const index of indexes) walk.cell([environment, index]);
     }
+    walk.put("|buffers");
+    for (const buffer of this.buffers()) walk.value(buffer);
   }
 
   /**

@@ -3,6 +3,7 @@
 
 import { EventEmitter } from "node:events";
 import { types } from "node:util";
+import { CONSTRUCTORS } from "../../../script/kinds.mjs";
 import { isObject } from "../../primordials.mjs";
 import { intrinsics } from "./intrinsics.mjs";
 
@@ -10,8 +11,8 @@ import { intrinsics } from "./intrinsics.mjs";
 const PLAIN = [
   Object, Array, Map, Set, WeakMap, WeakSet, Function, Date, RegExp, ArrayBuffer, SharedArrayBuffer, Error, RangeError,
   TypeError, SyntaxError, ReferenceError, EvalError, URIError, AggregateError, DataView, TextEncoder, TextDecoder,
-  EventEmitter,
-];
+  EventEmitter, Boolean, Number, String, Symbol, BigInt, Promise, Reflect.getPrototypeOf(Int8Array), ...CONSTRUCTORS,
+].map((one) => /** @type {Function} */ (one));
 
 const KINDS = /** @type {const} */ (["value", "get", "set"]);
 
@@ -47,7 +48,7 @@ function hasChanged({ object, prototype, isExtensible, members }) {
 
 export class NamedBuiltins {
   constructor() {
-    /** @type {Map<object, string>} by the objects */
+    /** @type {Map<object | symbol, string>} by the objects and symbols */
     this.names = new Map();
     this.plain = new Set(PLAIN.map(({ prototype }) => prototype));
     /** @type {KnownObject[]} what they had at first */
@@ -58,17 +59,18 @@ export class NamedBuiltins {
     this.given = new Set();
   }
 
-  /** @param {unknown} object @param {string} path by which it is reached */
+  /** @param {any} object or a symbol @param {string} path by which it is reached */
   add(object, path) {
-    if (!isObject(object) || this.names.has(object)) return;
+    const isSymbol = typeof object === "symbol" && Symbol.keyFor(object) === undefined;
+    if (!(isSymbol || isObject(object)) || this.names.has(object)) return;
     // Keys may be alike, as symbols with the same description are.
     const name = this.given.has(path) ? `${path} (${this.names.size})` : path;
     this.given.add(name);
     this.names.set(object, name);
-    this.queue.push([object, name]);
+    if (!isSymbol) this.queue.push([object, name]);
   }
 
-  /** @param {object} object @returns {string | undefined} */
+  /** @param {object | symbol} object @returns {string | undefined} */
   nameOf(object) {
     return this.names.get(object);
   }
@@ -80,6 +82,8 @@ export class NamedBuiltins {
   take(modules) {
     this.add(globalThis, "globalThis");
     for (const [object, name] of intrinsics()) this.add(object, name);
+    // A proxy stands for the function.
+    this.add(Date.prototype, "globalThis.Date.prototype");
     for (const [name, module] of Object.entries(modules)) this.add(module, name);
     for (let at = 0; at < this.queue.length; at += 1) this.#addMembers(...this.queue[at]);
     const objects = this.queue.map(([object]) => object);
@@ -92,6 +96,7 @@ export class NamedBuiltins {
     if (types.isProxy(object)) return;
     this.add(Reflect.getPrototypeOf(object), `${name}.__proto__`);
     for (const key of Reflect.ownKeys(object)) {
+      this.add(key, `key of ${name}`);
       const descriptor = /** @type {any} */ (Reflect.getOwnPropertyDescriptor(object, key));
       for (const kind of KINDS) {
         const part = kind === "value" ? "" : `.${kind}`;

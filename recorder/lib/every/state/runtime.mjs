@@ -1,11 +1,14 @@
 // What rewritten modules tell about themselves while they run: their frames, the names that these have, and what their
 // functions capture.
 
-import { apply, construct, defineProperty, getPrototypeOf, hasOwn, proxyOf } from "../../primordials.mjs";
+import {
+  apply, construct, defineProperty, getPrototypeOf, hasOwn, proxyOf, weakHas, weakSet,
+} from "../../primordials.mjs";
 import { types } from "node:util";
 import { Installed, numberOf } from "./installed.mjs";
 import { iterable, keysIn, listed } from "./loop-steps.mjs";
 import { own } from "./own-objects.mjs";
+import { likeArrays } from "./shown-iterators.mjs";
 
 /** @typedef {[Environment, number]} CapturedCell a name: what it is among, and its position there */
 
@@ -62,6 +65,8 @@ export class Runtime {
      * @type {{ cls: Function, read: (object: object) => unknown[] | null }[]} what shows the private fields of classes
      */
     this.readers = [];
+    /** @type {WeakMap<object, string>} the URLs of the modules whose exports an object has */
+    this.namespaces = new WeakMap();
     /** Functions that the engine may call anywhere. */
     this.installed = new Installed();
     /** How many of these are of the modules themselves. */
@@ -104,7 +109,7 @@ export class Runtime {
 
   /** @param {Function} fn @param {RewrittenFunction} made */
   #register(fn, made) {
-    if (!this.functions.has(fn)) this.functions.set(fn, made);
+    if (!weakHas(this.functions, fn)) weakSet(this.functions, fn, made);
   }
 
   /**
@@ -138,8 +143,11 @@ export class Runtime {
       environment: (read) => new Environment(read),
       /** @param {(index: number) => unknown} read @param {number[]} indexes */
       module: (read, indexes) => void this.modules.push({ environment: new Environment(read), indexes }),
+      /** @param {object} exports of a module @param {string} url */
+      namespace: (exports, url) => weakSet(this.namespaces, exports, url),
       callable,
       constructible,
+      likeArrays,
       iterable,
       iterated: kept(iterable),
       keysIn: kept(keysIn),

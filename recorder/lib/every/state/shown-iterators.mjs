@@ -28,8 +28,8 @@ const isMapIterator = types.isMapIterator;
 const isSetIterator = types.isSetIterator;
 const codePointAt = uncurried(String.prototype.codePointAt);
 const { fromCodePoint } = String;
-const ofArrays = /** @type {any} */ (getPrototypeOf([][iterator]()));
-const ofStrings = /** @type {any} */ (getPrototypeOf(""[iterator]()));
+const ofArrays = /** @type {any} */ (getPrototypeOf([].values()));
+const ofStrings = /** @type {any} */ (getPrototypeOf(""[Symbol.iterator]()));
 const ofMaps = /** @type {any} */ (getPrototypeOf(new Map().entries()));
 const ofSets = /** @type {any} */ (getPrototypeOf(new Set().values()));
 const { next: nextOfArrays } = ofArrays;
@@ -191,6 +191,17 @@ export function shownIteratorOf(given) {
   return undefined;
 }
 
+/** @type {Function | undefined} what makes the iterators of arrays */
+let valuesOfArrays;
+
+/**
+ * Each function's `arguments` get what makes the iterators of arrays from the engine.
+ * @param {IArguments} given
+ */
+export function likeArrays(given) {
+  if (valuesOfArrays !== undefined) put(given, iterator, valuesOfArrays);
+}
+
 /** @param {object} made @returns {any} */
 const shownOf = (made) => (isObject(made) && iterationOf(made) !== undefined ? made : undefined);
 
@@ -252,6 +263,7 @@ export function standForIterators(previewEntries) {
     for (const name of lists) replace(owner, name, iteratingArrays(name));
     put(owner, iterator, owner.values);
   }
+  valuesOfArrays = Array.prototype.values;
   replace(String.prototype, iterator, iteratingStrings);
   for (const [owner, kind, first] of /** @type {const} */ ([[Map, "map", "entries"], [Set, "set", "values"]])) {
     const { prototype } = owner;

@@ -3,47 +3,29 @@
 import { types } from "node:util";
 import { anyWatchedOf } from "../../agent/ordinary/watched.mjs";
 import { blockNumber } from "../../agent/ordinary/context.mjs";
+import { slotOf } from "../../primordials.mjs";
 import { hexOf } from "../search/raw-elements.mjs";
+import { boundOf } from "./bound-functions.mjs";
+import { hadOtherPrototype } from "./first-prototypes.mjs";
 import { LoopSteps } from "./loop-steps.mjs";
+import { CantShow, boxedIn, bytesIn, isResizable, objectKind, numberText, patternOf, timeOf } from "./object-kinds.mjs";
+import { settledOf } from "./promises.mjs";
 import { UNKNOWN_VALUE } from "./runtime.mjs";
 import { iterationOf } from "./shown-iterators.mjs";
+import { templateNumber } from "./templates.mjs";
+import { weakEntriesOf } from "./weak-entries.mjs";
 
 /** @typedef {import("./runtime.mjs").CapturedCell} CapturedCell */
 /**
- * @typedef {{ object: any, seen: Set<unknown>, hasValues: boolean }} Weak a WeakMap or a WeakSet, and which keys were
- * found
+ * @typedef {{ object: object, shown: Set<unknown>, hasValues: boolean }} Weak a WeakMap or a WeakSet, and its keys that
+ * were shown
  */
 
-/** Something that can't be shown. */
-export class CantShow extends Error {}
-
-/**
- * @param {object} prototype
- * @param {string} name
- * @returns {(object: any) => any} what reads that of an object, whatever this has of its own
- */
-function reader(prototype, name) {
-  const { get, value } = /** @type {PropertyDescriptor} */ (Reflect.getOwnPropertyDescriptor(prototype, name));
-  return (object) => Reflect.apply(get ?? value, object, []);
-}
-
-const { get: weakMapGet, has: weakMapHas } = WeakMap.prototype;
 const TypedArray = Reflect.getPrototypeOf(Int8Array.prototype) ?? Int8Array.prototype;
-const OF_ARRAYS = ["length", "byteOffset", "buffer"].map((name) => reader(TypedArray, name));
-const OF_VIEWS = ["byteLength", "byteOffset", "buffer"].map((name) => reader(DataView.prototype, name));
+const OF_ARRAYS = ["length", "byteOffset", "buffer"].map((name) => slotOf(TypedArray, name));
+const OF_VIEWS = ["byteLength", "byteOffset", "buffer"].map((name) => slotOf(DataView.prototype, name));
 const tagOf = /** @type {PropertyDescriptor} */ (Reflect.getOwnPropertyDescriptor(TypedArray, Symbol.toStringTag)).get;
-const timeOf = reader(Date.prototype, "getTime");
-const sourceOf = reader(RegExp.prototype, "source");
-const FLAGS = [
-  "hasIndices", "global", "ignoreCase", "multiline", "dotAll", "unicode", "unicodeSets", "sticky",
-].map((name) => reader(RegExp.prototype, name));
-const isResizable = reader(ArrayBuffer.prototype, "resizable");
-// They are watched when the agents' code is there.
-const EngineBytes = Uint8Array;
-const FLOAT = new Float64Array(1);
-const FLOAT_BYTES = new Uint8Array(FLOAT.buffer);
 const stackOfErrors = /** @type {PropertyDescriptor} */ (Reflect.getOwnPropertyDescriptor(new Error("stack"), "stack"));
-const { has: weakSetHas } = WeakSet.prototype;
 const entriesOf = Map.prototype.entries;
 const valuesOf = Set.prototype.values;
 
@@ -51,11 +33,9 @@ export class Walk {
   /**
    * @param {import("./runtime.mjs").Runtime} runtime
    * @param {import("./named-builtins.mjs").NamedBuiltins} builtins
-   * @param {{ hides?: string, hasTags?: boolean }} how what is left out on purpose, so that tests see that they notice
-   * it; and whether the modules have templates with tags
+   * @param {{ hides?: string }} how what is left out on purpose, so that tests see that they notice it
    */
-  constructor(runtime, builtins, { hides, hasTags = false }) {
-    this.hasTags = hasTags;
+  constructor(runtime, builtins, { hides }) {
     this.runtime = runtime;
     this.builtins = builtins;
     this.hides = hides;
@@ -70,8 +50,8 @@ export class Walk {
     this.queue = [];
     /** @type {Weak[]} */
     this.weak = [];
-    /** @type {[Function, object][]} functions with prototypes that nothing was put into */
-    this.bare = [];
+    /** @type {Map<object, Function>} functions, by their prototypes that nothing was put into */
+    this.bare = new Map();
   }
 
   /** @returns {string} what was walked, with all that can be reached from it */
@@ -81,7 +61,7 @@ export class Walk {
       else at -= 1;
     }
     // Whether such a prototype is one that can be reached in another way.
-    for (const [fn, prototype] of this.bare) {
+    for (const [prototype, fn] of this.bare) {
       if (this.seen.has(prototype)) this.out.push(`b${this.seen.get(fn)}=${this.seen.get(prototype)}`);
     }
     return this.out.join(" ");
@@ -111,9 +91,8 @@ export class Walk {
   #symbol(symbol) {
     const key = Symbol.keyFor(symbol);
     if (key !== undefined) return `y${JSON.stringify(key)}`;
-    const name = symbol.description?.replace(/^Symbol\./, "") ?? "";
-    const isWellKnown = /** @type {any} */ (Symbol)[name] === symbol;
-    if (isWellKnown) return `Y${name}`;
+    const name = this.builtins.nameOf(symbol);
+    if (name !== undefined) return `Y${name}`;
     const isKnown = this.seen.has(symbol);
     const number = this.#number(symbol);
     return isKnown ? `y#${number}` : `y@${number}${JSON.stringify(symbol.description)}`;
@@ -125,6 +104,11 @@ export class Walk {
     if (name !== undefined) {
       if (name === "globalThis.RegExp") throw new CantShow("the function RegExp, which keeps what was found last");
       this.out.push(`k${name}`);
+      return;
+    }
+    const url = this.runtime.namespaces.get(object);
+    if (url !== undefined) {
+      this.out.push(`N${JSON.stringify(url)}`);
       return;
     }
     const known = this.seen.get(object);
@@ -167,26 +151,54 @@ export class Walk {
     this.value(value);
   }
 
-  /** What a WeakMap has for an object that can be reached. @returns {boolean} whether there was something new */
+  /**
+   * What a WeakMap has for objects that can be reached. Agents can get at one only if it was met here, if it was
+   * there before their code, if it is the prototype of a function, or if it is of their code's text. For all others
+   * there is no key any more that a WeakMap could be asked with. A function may be called by a place of the text that
+   * has no other name for it, as a private method is.
+   * @returns {boolean} whether there was something new
+   */
   #walkWeak() {
     const { length } = this.out;
     for (const weak of this.weak) {
-      const { object, seen, hasValues } = weak;
-      for (const key of [...this.seen.keys(), ...this.builtins.names.keys()]) {
-        const has = hasValues ? weakMapHas : weakSetHas;
-        if (seen.has(key) || !has.call(object, /** @type {object} */ (key))) continue;
-        seen.add(key);
-        this.out.push(`w${this.seen.get(object)}`);
+      const entries = weakEntriesOf(weak.object).filter(([key]) => !weak.shown.has(key));
+      const met = entries.flatMap(([key, value]) => {
+        const place = this.#placeOf(key);
+        return place === undefined ? [] : [{ key, value, place }];
+      });
+      for (const { key, value } of met.sort((one, other) => (one.place < other.place ? -1 : 1))) {
+        weak.shown.add(key);
+        this.out.push(`w${this.seen.get(weak.object)}`);
         this.value(key);
-        if (hasValues) this.value(weakMapGet.call(object, /** @type {object} */ (key)));
+        if (weak.hasValues) this.value(value);
       }
     }
-    return this.out.length > length;
+    if (this.out.length > length) return true;
+    for (const { object, shown } of this.weak) {
+      const isAny = weakEntriesOf(object).some(([key]) => typeof key === "function" && !shown.has(key));
+      if (isAny) throw new CantShow("a WeakMap or a WeakSet with a function that isn't known");
+    }
+    return false;
+  }
+
+  /** @param {any} key @returns {string | undefined} what it comes by in the order of keys, if it can be reached */
+  #placeOf(key) {
+    const number = this.seen.get(key) ?? this.seen.get(this.bare.get(key));
+    if (number !== undefined) return `${String(number).padStart(9, "0")}${this.seen.has(key) ? "" : "b"}`;
+    const name = this.builtins.nameOf(key) ?? this.runtime.namespaces.get(key);
+    if (name !== undefined) return `k${name}`;
+    const template = templateNumber(key);
+    return template === undefined ? undefined : `T${String(template).padStart(9, "0")}`;
   }
 
   /** @param {any} object */
   #object(object) {
     this.out.push("{");
+    const template = templateNumber(object);
+    if (template !== undefined) {
+      this.out.push(`T${template}`);
+      return;
+    }
     if (object === UNKNOWN_VALUE) throw new CantShow("how a `try` was left, or how far a loop is");
     if (object instanceof LoopSteps) {
       this.out.push("steps");
@@ -207,15 +219,29 @@ export class Walk {
   }
 
   /** @param {import("../../agent/ordinary/watched.mjs").Watched} watched */
-  #watched({ real, place: { block, kind, offset, length } }) {
+  #watched({ real, buffer, place: { block, kind, offset, length } }) {
     this.out.push("view", block, kind, offset, length);
-    const own = Reflect.ownKeys(real).length;
-    if (own !== (types.isTypedArray(real) ? length : 0)) throw new CantShow("a typed array with properties");
+    this.value(buffer);
+    this.#others(real, types.isTypedArray(real) ? length : 0);
+  }
+
+  /** @param {object} object with elements @param {number} length how many they are */
+  #others(object, length) {
+    const keys = Reflect.ownKeys(object);
+    for (const key of keys.slice(length)) this.#property(object, key);
   }
 
   /** @param {Function} fn */
   #function(fn) {
     const made = this.runtime.functions.get(fn);
+    const bound = made === undefined ? boundOf(fn) : undefined;
+    if (bound !== undefined) {
+      this.out.push("bound", bound.given.length);
+      this.value(bound.target);
+      for (const one of bound.given) this.value(one);
+      for (const key of Reflect.ownKeys(fn)) this.#property(fn, key);
+      return;
+    }
     if (made === undefined) throw new CantShow(`the function ${fn.name}, which isn't of the modules`);
     if (made.isHidden === true) throw new CantShow("a function with a `super` or with names that aren't shown");
     this.out.push(made.id);
@@ -237,25 +263,34 @@ export class Walk {
     const isOwn = Reflect.getPrototypeOf(prototype) !== Object.prototype || !Reflect.isExtensible(prototype);
     if (isOwn || Reflect.ownKeys(prototype).length > 1 || maker?.value !== fn) return false;
     if (maker.enumerable || !maker.writable || !maker.configurable) return false;
-    this.bare.push([fn, prototype]);
+    if (this.#isStamped(prototype)) return false;
+    this.bare.set(prototype, fn);
     return true;
   }
 
   /** @param {any} object */
   #content(object) {
-    if (types.isModuleNamespaceObject(object)) throw new CantShow("a module's namespace");
-    if (types.isMap(object)) this.#entries("Map", entriesOf.call(object));
-    else if (types.isSet(object)) this.#entries("Set", valuesOf.call(object));
-    else if (types.isDate(object)) this.out.push("Date", timeOf(object));
-    else if (types.isRegExp(object)) {
-      this.out.push("RegExp", JSON.stringify(sourceOf(object)), FLAGS.map((flag) => (flag(object) ? 1 : 0)).join(""));
-    } else if (iterationOf(object) !== undefined) this.#iteration(object);
-    else if (types.isNativeError(object)) this.out.push("Error");
-    else if (types.isWeakMap(object) || types.isWeakSet(object)) {
-      if (this.hasTags) throw new CantShow("a WeakMap or WeakSet, whose keys may be strings of templates with tags");
-      this.out.push("weak");
-      this.weak.push({ object, seen: new Set(), hasValues: types.isWeakMap(object) });
-    } else needsPlain(object);
+    const kind = objectKind(object);
+    if (kind !== "iterator" && hadOtherPrototype(object)) throw new CantShow("an object that had another prototype");
+    if (kind !== "") this.out.push(kind);
+    switch (kind) {
+      case "Map": case "Set": this.#entries(object, kind === "Map"); return;
+      case "Date": this.out.push(numberText(timeOf(object))); return;
+      case "RegExp": this.out.push(patternOf(object)); return;
+      case "Promise": this.#settled(object); return;
+      case "boxed": this.value(boxedIn(object)); return;
+      case "iterator": this.#iteration(object); return;
+      case "WeakMap": this.weak.push({ object, shown: new Set(), hasValues: true }); return;
+      case "WeakSet": this.weak.push({ object, shown: new Set(), hasValues: false }); return;
+      default:
+    }
+  }
+
+  /** @param {Promise<unknown>} promise */
+  #settled(promise) {
+    const { isRejected, value } = settledOf(promise);
+    this.out.push(isRejected ? "rejected" : "fulfilled");
+    this.value(value);
   }
 
   /** @param {object} object an iterator */
@@ -265,13 +300,16 @@ export class Walk {
     this.value(of);
   }
 
-  /** @param {string} kind @param {Iterable<any>} entries */
-  #entries(kind, entries) {
-    this.out.push(kind);
-    for (const each of entries) {
-      if (kind === "Set") this.value(each);
-      else each.forEach((/** @type {unknown} */ one) => this.value(one));
+  /** @param {any} object a Map or a Set @param {boolean} isMap */
+  #entries(object, isMap) {
+    let count = 0;
+    for (const each of isMap ? entriesOf.call(object) : valuesOf.call(object)) {
+      this.out.push("-");
+      count += 1;
+      if (isMap) each.forEach((/** @type {unknown} */ one) => this.value(one));
+      else this.value(each);
     }
+    this.out.push(`=${count}`);
   }
 
   /** @param {any} object a buffer, or a view on one */
@@ -280,12 +318,12 @@ export class Walk {
       const [length, offset, buffer] = OF_ARRAYS.map((read) => read(object));
       this.out.push(String(tagOf?.call(object)), offset, length);
       this.value(buffer);
-      if (Reflect.ownKeys(object).length !== length) throw new CantShow("a typed array with properties");
+      this.#others(object, length);
       return;
     }
-    if (Reflect.ownKeys(object).length > 0) throw new CantShow("a buffer, or a DataView, with properties");
+    this.#others(object, 0);
     if (ArrayBuffer.isView(object)) {
-      bytesOf(OF_VIEWS[2](object));
+      bytesIn(OF_VIEWS[2](object));
       const [length, offset, buffer] = OF_VIEWS.map((read) => read(object));
       this.out.push("DataView", offset, length);
       this.value(buffer);
@@ -299,7 +337,7 @@ export class Walk {
   /** @param {ArrayBuffer} buffer */
   #buffer(buffer) {
     if (isResizable(buffer)) throw new CantShow("a buffer that can be resized");
-    const bytes = bytesOf(buffer);
+    const bytes = bytesIn(buffer);
     this.out.push(hexOf(bytes, 0, bytes.length), bytes.length);
   }
 
@@ -327,11 +365,13 @@ export class Walk {
     }
   }
 
+  /** @param {object} object @returns {boolean} whether it has private fields */
+  #isStamped(object) {
+    return this.runtime.readers.some(({ read }) => read(object) !== null);
+  }
+
   /** @param {object} object */
   #properties(object) {
-    if (Array.isArray(object) && Object.isFrozen(object) && Object.hasOwn(object, "raw")) {
-      throw new CantShow("the strings of a template with a tag");
-    }
     const isError = types.isNativeError(object);
     for (const key of Reflect.ownKeys(object)) {
       if (isError && key === "stack") this.#stack(object);
@@ -361,28 +401,4 @@ export class Walk {
       this.value(set);
     }
   }
-}
-
-/** @param {number} value @returns {number | string} for two NaNs not the same if arrays would show other bits */
-function numberText(value) {
-  if (Object.is(value, -0)) return "-0";
-  if (value === value) return value;
-  FLOAT[0] = value;
-  return `NaN${hexOf(FLOAT_BYTES, 0, 8)}`;
-}
-
-/** @param {ArrayBufferLike} buffer @returns {Uint8Array} its bytes */
-function bytesOf(buffer) {
-  try {
-    return new EngineBytes(buffer);
-  } catch {
-    throw new CantShow("a buffer that was given away");
-  }
-}
-
-/** @param {object} object that is none of the kinds that are shown */
-function needsPlain(object) {
-  const isOther = types.isGeneratorObject(object) || types.isPromise(object) || types.isExternal(object)
-    || types.isBoxedPrimitive(object) || types.isMapIterator(object) || types.isSetIterator(object);
-  if (isOther) throw new CantShow(`a ${Object.prototype.toString.call(object)}`);
 }

@@ -1,0 +1,85 @@
+// Objects that got another prototype than their first. What an object of the engine's or of node's keeps out of sight
+// is known by its first prototype, which its constructor gives it: so it is noted when such an object gets another one.
+// That makes the walk of values complete for all that the engine or node can make, however it is called.
+
+import { types } from "node:util";
+import { methodOf, replace } from "../../agent/ordinary/patch.mjs";
+import {
+  apply, defineProperty, getOwnPropertyDescriptor, getPrototypeOf, isObject, uncurried,
+} from "../../primordials.mjs";
+
+/** @typedef {import("./named-builtins.mjs").NamedBuiltins} NamedBuiltins */
+
+const noted = new WeakSet();
+const add = uncurried(WeakSet.prototype.add);
+const has = uncurried(WeakSet.prototype.has);
+const { isProxy } = types;
+const { prototype: functions } = Function;
+
+/** @type {NamedBuiltins | undefined} what was there before the agents' code */
+let known;
+
+/** Whether it isn't known any more which objects may have got another prototype. */
+let isAny = false;
+
+/** @param {NamedBuiltins} builtins */
+export function knowFirstPrototypes(builtins) {
+  known = builtins;
+}
+
+/** @param {object} object @returns {boolean} whether it may keep more than its prototype says */
+export const hadOtherPrototype = (object) => isAny || has(noted, object);
+
+/** @param {object} object @returns {boolean} whether by its prototypes it may keep something out of sight */
+function mayKeepMore(object) {
+  for (let owner = getPrototypeOf(object); owner !== null; owner = getPrototypeOf(owner)) {
+    if (isProxy(owner) || has(noted, owner)) return true;
+    if (known?.plain.has(owner)) return false;
+    if (known?.nameOf(owner) !== undefined) return true;
+  }
+  return false;
+}
+
+/** @param {unknown} next what a class is to derive from @returns {boolean} whether it may make other objects then */
+function makesMore(next) {
+  if (typeof next !== "function" || next === functions || known?.nameOf(next) === undefined) return false;
+  return known.plain.has(getOwnPropertyDescriptor(next, "prototype")?.value) === false;
+}
+
+/**
+ * An object is about to get another prototype.
+ * @param {unknown} object
+ * @param {unknown} next
+ */
+function note(object, next) {
+  if (!isObject(object)) return;
+  // What is behind a proxy gets it.
+  if (isProxy(object) || (typeof object === "function" && makesMore(next))) isAny = true;
+  else if (mayKeepMore(object)) add(noted, object);
+}
+
+/** @param {Function} engine what gives an object another prototype */
+const givingPrototype = (engine) => methodOf((self, given) => {
+  note(given[0], given[1]);
+  return apply(engine, self, given);
+}, engine);
+
+/** @param {Function} engine what makes an object, maybe with the prototype of another function than is called */
+const constructing = (engine) => methodOf((self, given) => {
+  const made = apply(engine, self, given);
+  if (given.length > 2 && given[0] !== given[2]) add(noted, made);
+  return made;
+}, engine);
+
+/** Sees what gets another prototype. It is called once, before any of the agents' code is loaded. */
+export function watchPrototypes() {
+  for (const owner of [Object, Reflect]) replace(owner, "setPrototypeOf", givingPrototype);
+  replace(Reflect, "construct", constructing);
+  const found = /** @type {PropertyDescriptor} */ (getOwnPropertyDescriptor(Object.prototype, "__proto__"));
+  const { set } = /** @type {{ set: Function }} */ (/** @type {unknown} */ (found));
+  const holder = { set: methodOf((self, given) => {
+    note(self, given[0]);
+    return apply(set, self, given);
+  }, set) };
+  defineProperty(Object.prototype, "__proto__", { ...found, set: /** @type {any} */ (holder.set) });
+}
