@@ -2,8 +2,10 @@
 
 import assert from "node:assert/strict";
 import { test } from "node:test";
+import { pathToFileURL } from "node:url";
+import { learnAgain, learnApart } from "../../lib/every/learning/apart.mjs";
 import { isShownBy } from "../../lib/every/showing.mjs";
-import { NotAsLearned, Refused, everySchedule } from "../../recorder.mjs";
+import { Refused, everySchedule } from "../../recorder.mjs";
 import { COUNTS, FEW_WORKERS, moduleOf } from "../helpers/common.mjs";
 
 test("an `init` that fails leaves nothing to search", async (context) => {
@@ -27,13 +29,18 @@ test("an `init` or a `check` that never comes back is ended", async (context) =>
   }
 });
 
-test("an agent that never comes back in the code as it is written isn't as it was learned", async (context) => {
+test("an agent that never comes back in the second learning is ended there, and is learned anew", async (context) => {
   const module = moduleOf(context, `${COUNTS.replace("void", "void spin() ??")}let runs = 0;
 function spin() { runs += 1; if (runs > 1) for (;;); }
 `);
-  const message = /than was learned\. There an agent .* didn't come back within 1 s: .* keep something /;
-  const options = { ...FEW_WORKERS, module, seeds: 1, seconds: 1 };
-  await assert.rejects(everySchedule(options), { constructor: NotAsLearned, message });
+  const over = new AbortController().signal;
+  const url = pathToFileURL(module).href;
+  const wanted = { module: url, args: [], place: {}, timeouts: /** @type {const} */ ("early"), limit: 100, within: 60 };
+  const { edges, isShared, nodes, plan } = await learnApart(wanted, { seconds: 1, over });
+  const given = { module: url, args: [], plan, isShared, isFresh: false, nodes, edges };
+  assert.match(await learnAgain(given, { seconds: 1, over }) ?? "", /^There an agent .* didn't come back within 1 s/);
+  const { closed, freshened } = await everySchedule({ ...FEW_WORKERS, module, seeds: 1, seconds: 1 });
+  assert.deepEqual({ closed, freshened }, { closed: true, freshened: true });
 });
 
 test("a module that can't be loaded is refused, and one that asks for chance while it is loaded", async (context) => {

@@ -5,6 +5,7 @@ import { answerOfRead, bytesOfRead } from "../search/raw-elements.mjs";
 import { DOES, DONE } from "../search/nodes.mjs";
 import { CantLearn, askedAccess, askedCall, returned } from "./asked-nodes.mjs";
 import { hadOtherNext } from "./iterators.mjs";
+import { LeftPromises } from "./left-promises.mjs";
 import { PART } from "./learning-progress.mjs";
 
 /** @typedef {import("../search/nodes.mjs").Node} Node */
@@ -27,6 +28,8 @@ const BROKEN = Object.freeze({ isBrokenOff: true });
 const MOST_CAUGHT = 10_000;
 
 const PUTS = "--all can't learn what the agents do: one gives the object of a buffer a property or another prototype";
+const GOES_ON = "it goes on later, by a promise";
+const LEAVES_REJECTED = "it leaves a rejected promise, which nobody handles";
 const REPLACES_NEXT = "it has replaced the `next` of all iterators of arrays";
 const { prototype: ofBuffers } = SharedArrayBuffer;
 
@@ -76,6 +79,8 @@ export class Asker {
     this.lineHere = () => "a place that isn't known";
     /** @type {CantLearn | undefined} why the agent can't be learned */
     this.refused = undefined;
+    const isRunning = () => this.run !== undefined && !this.isBroken;
+    this.promises = new LeftPromises(isRunning, () => this.#stop(GOES_ON, this.lineHere()));
   }
 
   /** @param {number[]} lengths of the buffers @param {number[]} bases */
@@ -115,10 +120,12 @@ export class Asker {
     this.isBroken = false;
     this.caught = 0;
     this.writing = undefined;
+    this.promises.begin();
     this.run = run;
     try {
       const result = body();
       if (!this.isBroken) this.#endWrite();
+      if (!this.isBroken && this.promises.hasRejected()) this.#stop(LEAVES_REJECTED, "its end");
       return { isBroken: this.isBroken, result, hasThrown: false };
     } catch (thrown) {
       if (!this.isBroken) this.#afterThrow();
@@ -142,8 +149,14 @@ export class Asker {
 
   /** @param {string} why @returns {never} */
   refuse(why) {
-    this.refused ??= new CantLearn(cantText(why, this.lineHere()), true);
+    this.#stop(why, this.lineHere());
     return this.#breakOff();
+  }
+
+  /** @param {string} why the agent is refused: nothing that it still does counts @param {string} line */
+  #stop(why, line) {
+    this.refused ??= new CantLearn(cantText(why, line), true);
+    this.isBroken = true;
   }
 
   /** @returns {never} */
