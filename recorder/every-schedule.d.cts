@@ -85,8 +85,8 @@ export interface EverySchedule {
   /** The seeds of those for which there was no time. */
   notRun: { first: number; last: number }[];
   /**
-   * Whether each of them has loaded the modules anew though that wasn't asked for: the modules keep something from run to
-   * run, so they do as learned only then.
+   * Whether each of them has loaded the modules anew though that wasn't asked for: the modules keep something from run
+   * to run, so they do as learned only then.
    */
   freshened: boolean;
   /** How many have no whole trace, and so weren't compared. */

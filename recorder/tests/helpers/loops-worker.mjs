@@ -1,4 +1,5 @@
-// Calls the loops that stand for the engine's, and the engine's, with the same random values, and compares what they do.
+// Calls the loops that stand for the engine's, and the engine's, with the same random values, and compares what they
+// do.
 
 import util from "node:util";
 import { parentPort, workerData } from "node:worker_threads";
@@ -75,9 +76,10 @@ class Case {
     const at = this.number(20);
     if (at < 11) return list;
     const others = [
-      () => null, () => undefined, () => 5, () => "ab\u{1f600}", () => ({ length: 3, 0: 1, 2: "c" }), () => this.proxy(list),
-      () => new Map(/** @type {[unknown, number][]} */ ([[1, 2], [list, 3]])), () => new Set([1, "b", list]), () => new this.#Typed(3),
-      () => ({ get length() { return 2; }, 1: 6 }), () => ({ length: this.one([-1, NaN, "2", 2.5, {}]), 0: 1 }),
+      () => null, () => undefined, () => 5, () => "ab\u{1f600}", () => ({ length: 3, 0: 1, 2: "c" }),
+      () => this.proxy(list), () => new Map(/** @type {[unknown, number][]} */ ([[1, 2], [list, 3]])),
+      () => new Set([1, "b", list]), () => new this.#Typed(3), () => ({ get length() { return 2; }, 1: 6 }),
+      () => ({ length: this.one([-1, NaN, "2", 2.5, {}]), 0: 1 }),
       () => ({ length: -Infinity }), () => new this.#Typed(0), () => new Map(), () => [],
       () => ({ length: 2, [Symbol.iterator]: this.one([undefined, 5, () => [4, 5].values()]) }),
     ];

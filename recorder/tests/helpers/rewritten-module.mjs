@@ -25,8 +25,8 @@ function written(folder, text) {
 
 /**
  * @param {string} folder
- * @param {(string | string[])[]} texts of modules; each exports a function that is given one that says something. Behind
- * a module come those that it imports, which are b.mjs, c.mjs and so on
+ * @param {(string | string[])[]} texts of modules; each exports a function that is given one that says something.
+ * Behind a module come those that it imports, which are b.mjs, c.mjs and so on
  * @returns {Promise<BothSaid[]>}
  */
 export async function saidByBoth(folder, texts) {

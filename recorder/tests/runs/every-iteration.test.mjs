@@ -12,7 +12,8 @@ const FOLDER = temporaryFolder();
 const LIMIT = 30_000;
 
 /** What the engine calls by itself in `CALLED_BY_ENGINE`: it loads, and so it has a moment. */
-const CALLED = `const g = (v) => v; const f = () => { ld(1); return 1; }; const f2 = () => { ld(1); return { done: true }; };
+const CALLED = `const g = (v) => v; const f = () => { ld(1); return 1; };
+const f2 = () => { ld(1); return { done: true }; };
 const f3 = () => { ld(1); return [][Symbol.iterator](); }; const f4 = () => { ld(1); return {}; }; const a = ld(0);`;
 
 /** @param {Record<string, string>} bodies @param {string} file @returns {Promise<any[]>} */

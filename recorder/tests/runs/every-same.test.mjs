@@ -175,7 +175,8 @@ export default function (say) {
     try { change(); } catch (e) { say(e.message); }
   }
   say(Object.isExtensible(ns), ns[Symbol.toStringTag]);
-}`, "export let n = 0; export const inc = () => { n += 1; }; const o = { n: 3 }; export { o }; export default () => 1;"],
+}`, `export let n = 0; export const inc = () => { n += 1; }; const o = { n: 3 }; export { o };
+export default () => 1;`],
   "functions and names of modules that import each other": [`import { b, early, got } from "./b.mjs";
 export function a(x) { return x === 0 ? "a" : b(x - 1); }
 export const late = "late";

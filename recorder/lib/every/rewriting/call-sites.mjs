@@ -141,8 +141,8 @@ function firstOfCall({ type, computed, property, start, end }) {
 }
 
 /**
- * Whether it may make a key a text at a place in it. If a member is read and written, or deleted, the engine says that it
- * does so at the place of a call in the key.
+ * Whether it may make a key a text at a place in it. If a member is read and written, or deleted, the engine says that
+ * it does so at the place of a call in the key.
  * @param {Tree} tree
  * @param {number} offset
  */

@@ -66,7 +66,7 @@ export const EXPRESSIONS = {
   },
   SpreadElement: (writer, { argument }, info) => {
     // What goes through it has more to do: it is gone through before that.
-    writer.within(argument, "$R.listed((", "))");
+    writer.within(argument, "$R.elementsOf((", "))");
     writer.write(argument, info);
   },
   NewExpression: (writer, tree, info) => {
@@ -130,7 +130,10 @@ function writeObject(writer, tree, info) {
   }
 }
 
-/** @param {Tree} callee @returns {boolean} whether it is in a chain, or one in parentheses, that passes its object on */
+/**
+ * @param {Tree} callee
+ * @returns {boolean} whether it is in a chain, or one in parentheses, that passes its object on
+ */
 const isChain = (callee) => callee.type === "ChainExpression" || hasOptional(callee);
 
 /** @type {Write} */

@@ -169,7 +169,7 @@ function writeTry(writer, tree, info) {
   writer.writeAll([tree.block, tree.handler, tree.finalizer], info);
 }
 
-/** @typedef {{ how: string, what: string }} Leaving where the frame has how a `try` was left, and with which value */
+/** @typedef {{ how: string, what: string }} TryLeaving where the frame has how a `try` was left, and with what */
 
 /**
  * How a `try` was left is kept while its `finally` runs. Whatever is thrown goes through a `catch` around the rest.
@@ -196,7 +196,7 @@ function keepLeaving(writer, tree, info) {
  * Notes each statement that leaves a part of a `try`.
  * @param {CodeWriter} writer
  * @param {Tree} part
- * @param {Leaving} leaving
+ * @param {TryLeaving} leaving
  */
 function noteLeaving(writer, part, leaving) {
   /** @param {Tree} tree @param {string[]} inside the jumps that lead to what is in the part */
@@ -222,7 +222,7 @@ function jumpsTo(tree) {
   return /^(?:For|While|DoWhile)/.test(tree.type) ? ["break ", "continue "] : [];
 }
 
-/** @param {CodeWriter} writer @param {Tree} tree @param {Leaving} leaving */
+/** @param {CodeWriter} writer @param {Tree} tree @param {TryLeaving} leaving */
 function noteReturn({ edits, source }, { argument, end }, { how, what }) {
   if (argument) {
     edits.before(argument.start, `((${what} = (`);
@@ -232,7 +232,7 @@ function noteReturn({ edits, source }, { argument, end }, { how, what }) {
   }
 }
 
-/** @param {CodeWriter} writer @param {Tree} tree @param {Leaving} leaving @param {string} jump */
+/** @param {CodeWriter} writer @param {Tree} tree @param {TryLeaving} leaving @param {string} jump */
 function noteJump(writer, tree, { how, what }, jump) {
   writer.within(tree, `{ ${how} = "${jump}"; ${what} = undefined; `, " }");
 }

@@ -178,8 +178,8 @@ export class Capture {
 const fileOf = (site) => site?.getFileName() ?? "";
 
 /**
- * Above the agents' own functions may only be what a call of Atomics, or the read of an element, begins with, and a step
- * of a loop that is shown: others of the recorder's functions have more to do.
+ * Above the agents' own functions may only be what a call of Atomics, or the read of an element, begins with, and a
+ * step of a loop that is shown: others of the recorder's functions have more to do.
  * @param {NodeJS.CallSite[]} frames
  */
 function needsDirect(frames) {

@@ -10,7 +10,7 @@ function install(owner, stands) {
   for (const [name, stand] of Object.entries(stands)) replace(owner, name, () => stand);
 }
 
-/** @param {{ arrayLoops: Stands, typedLoops: Stands, mapLoops: Stands, setLoops: Stands, arrayMakers: Stands }} loops */
+/** @param {Record<"arrayLoops" | "typedLoops" | "mapLoops" | "setLoops" | "arrayMakers", Stands>} loops */
 export function installLoops({ arrayLoops, typedLoops, mapLoops, setLoops, arrayMakers }) {
   install(Array.prototype, arrayLoops);
   install(TypedArray.prototype, typedLoops);

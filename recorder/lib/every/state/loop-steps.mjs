@@ -1,5 +1,5 @@
-// What loops of rewritten code go through if none of the language's own iterators is at hand: an iterator of the agents'
-// own, or the keys of a `for..in`.
+// What loops of rewritten code go through if none of the language's own iterators is at hand: an iterator of the
+// agents' own, or the keys of a `for..in`.
 
 import { types } from "node:util";
 import { apply, getPrototypeOf, isObject } from "../../primordials.mjs";
@@ -118,7 +118,7 @@ export function iterable(given) {
 }
 
 /** @param {unknown} given what is spread @returns {unknown[]} all that it has */
-export function listed(given) {
+export function elementsOf(given) {
   const list = [];
   for (const one of iterable(given)) list[list.length] = one;
   return list;

@@ -23,7 +23,7 @@ const { from } = Array;
 const { forEach: eachOfMap } = maps;
 const { forEach: eachOfSet } = sets;
 
-/** @typedef {(this: any, f: any, that?: any) => any} Loop */
+/** @typedef {(this: any, f: any, that?: any) => any} ArrayLoop */
 
 /** @param {any} owner */
 function methodsOf(owner) {
@@ -48,7 +48,7 @@ const isTyped = (list, f) => typeof f === "function" && apply(tagOf, list, []) !
 /** @param {any} list @returns {number} */
 const lengthIn = (list) => max(0, min(trunc(+list.length) || 0, Number.MAX_SAFE_INTEGER));
 
-/** @type {Record<string, Loop>} */
+/** @type {Record<string, ArrayLoop>} */
 export const arrayLoops = {
   forEach(f, that = undefined) {
     if (!isOrdinary(this, f)) return apply(ofArrays.forEach, this, [f, that]);
@@ -147,7 +147,7 @@ export const arrayLoops = {
   },
 };
 
-/** @type {Record<string, Loop>} */
+/** @type {Record<string, ArrayLoop>} */
 export const typedLoops = {
   forEach(f, that = undefined) {
     if (!isTyped(this, f)) return apply(ofTyped.forEach, this, [f, that]);
@@ -207,7 +207,7 @@ export const typedLoops = {
   },
 };
 
-/** @type {Record<string, Loop>} */
+/** @type {Record<string, ArrayLoop>} */
 export const mapLoops = {
   forEach(f, that = undefined) {
     if (typeof f !== "function" || !isMap(this)) return apply(eachOfMap, this, [f, that]);
@@ -215,7 +215,7 @@ export const mapLoops = {
   },
 };
 
-/** @type {Record<string, Loop>} */
+/** @type {Record<string, ArrayLoop>} */
 export const setLoops = {
   forEach(f, that = undefined) {
     if (typeof f !== "function" || !isSet(this)) return apply(eachOfSet, this, [f, that]);

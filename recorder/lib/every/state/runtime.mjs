@@ -6,7 +6,7 @@ import {
 } from "../../primordials.mjs";
 import { types } from "node:util";
 import { Installed, numberOf } from "./installed.mjs";
-import { iterable, keysIn, listed } from "./loop-steps.mjs";
+import { elementsOf, iterable, keysIn } from "./loop-steps.mjs";
 import { own } from "./own-objects.mjs";
 import { likeArrays } from "./shown-iterators.mjs";
 
@@ -151,7 +151,7 @@ export class Runtime {
       iterable,
       iterated: kept(iterable),
       keysIn: kept(keysIn),
-      listed,
+      elementsOf,
       key,
       method,
       own,
