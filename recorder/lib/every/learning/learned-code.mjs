@@ -6,7 +6,7 @@ import { described } from "../../agent/described.mjs";
 import { Refused } from "../../options/refused.mjs";
 import { NamedBuiltins } from "../state/named-builtins.mjs";
 import { Capture } from "../state/capture.mjs";
-import { beginInstalled } from "../state/installed.mjs";
+import { beginInstalled, numberOf } from "../state/installed.mjs";
 import { installLoops } from "../state/installed-loops.mjs";
 import { guardOwn } from "../state/own-objects.mjs";
 import { Runtime } from "../state/runtime.mjs";
@@ -139,6 +139,7 @@ export function loadCode(url, asker, platform, flaw) {
   guardOwn({
     nameOf: (object) => builtins.nameOf(object),
     isNamespace: (object) => graph.namespaces.has(object),
+    isOfModules: (fn) => runtime.functions.has(fn) || numberOf(fn) !== undefined,
     add: (object, name) => void builtins.names.set(object, name),
     refuse: (why) => asker.refuse(why),
   });

@@ -21,7 +21,7 @@ export function writeClass(writer, tree, info) {
   const home = writer.home(tree);
   own.makes = Boolean(isDerived && home);
   const keys = body.flatMap((/** @type {Tree} */ member) => writeMember(writer, member, info, own));
-  const shown = `${readerOf(body)}, ${methodsOf(writer, body)}, ${writer.cells(own)}`;
+  const shown = `${readerOf(writer, body)}, ${methodsOf(writer, body)}, ${writer.cells(own)}`;
   const more = `{ keys: [${keys.join(", ")}], isHidden: ${own.isOpaque} }`;
   const made = home === undefined ? "this" : `${home} = this`;
   const constructs = own.makes ? constructorOf(own.id, writer.cells(own)) : "";
@@ -156,13 +156,27 @@ const isWellKnown = (analysis, { type, computed, object, property }) =>
   type === "MemberExpression" && !computed && object.name === "Symbol" && analysis.bindingOf(object) === undefined
   && typeof (/** @type {any} */ (Symbol)[property.name]) === "symbol";
 
-/** @param {Tree[]} body of a class @returns {string} what shows an object's private members, if there are any */
-function readerOf(body) {
-  const names = new Map(body.flatMap(({ type, key }) =>
-    (key?.type === "PrivateIdentifier" ? [/** @type {[string, string]} */ ([key.name, type])] : [])));
-  if (names.size === 0) return "null";
-  const has = [...names.keys()].map((name) => `#${name} in $o`);
-  const read = [...names].map(([name, type], at) =>
-    (type === "PropertyDefinition" ? `${has[at]}, ${has[at]} ? $o.#${name} : 0` : has[at]));
-  return `($o) => ${has.join(" || ")} ? [${read.join(", ")}] : null`;
+/**
+ * @param {CodeWriter} writer
+ * @param {Tree[]} body of a class
+ * @returns {string} what shows an object's private members, if there are any
+ */
+function readerOf(writer, body) {
+  const members = body.filter(({ key }) => key?.type === "PrivateIdentifier");
+  if (members.length === 0) return "null";
+  const has = [...new Set(members.map(({ key }) => `#${key.name} in $o`))];
+  const read = members.flatMap((member) => {
+    const value = privateValue(writer, member);
+    return value === undefined ? [] : [`#${member.key.name} in $o ? ${value} : 0`];
+  });
+  return `($o) => ${has.join(" || ")} ? [${[...has, ...read].join(", ")}] : null`;
+}
+
+/** @param {CodeWriter} writer @param {Tree} member @returns {string | undefined} its value, unless code finds that */
+function privateValue(writer, { key, kind, type, value }) {
+  const read = `$o.#${key.name}`;
+  if (type === "PropertyDefinition") return read;
+  if (kind !== "method") return undefined;
+  // It is a function, which can have properties.
+  return writer.registering(writer.infoOf(value)).join(read);
 }

@@ -123,6 +123,8 @@ function writeObject(writer, tree, info) {
     if (one.computed) writer.write(one.key, info);
     if (isMethod(one)) writer.write(one.value, info, true);
     else if (one.type === "SpreadElement") {
+      // The engine would say of a getter that it is at the place of a member around it.
+      writer.within(one.argument, "$R.copied((", "))");
       hide(writer, one.start, one.end);
       writer.write(one.argument, info);
     }
@@ -223,7 +225,7 @@ function writeAssignment(writer, tree, info) {
     beginIterating(writer, left, right);
     writer.writeAll([left, right], info);
   } else if (left.type === "Identifier") {
-    if (binary !== undefined && !isConstant(right)) {
+    if (binary !== undefined) {
       const old = runsCode(right) ? `(${writer.room(info, left.end, tree.end)} = ${left.name})` : left.name;
       replaceOperator(writer, tree, `= ${old} ${binary} (`);
     }
@@ -299,7 +301,13 @@ function writeMemberAssignment(writer, tree, info) {
  * @type {Write}
  */
 function writeUpdate(writer, tree, info) {
-  if (tree.argument.type !== "MemberExpression") return;
+  const { argument, end, start } = tree;
+  if (argument.type === "Identifier") {
+    // The engine would say that it makes a number of it at the place of a call before it.
+    writer.edits.before(start, `(${argument.name} = $R.numeric(${argument.name}), `);
+    writer.edits.after(end, ")");
+    return;
+  }
   if (!writer.analysis.unused.has(tree)) hide(writer, tree.start, tree.end);
   keepMember(writer, tree.argument, info, tree.end);
 }

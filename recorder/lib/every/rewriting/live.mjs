@@ -34,6 +34,9 @@ function without(alive, bindings) {
   return less.size === alive.size ? alive : less;
 }
 
+/** @param {Tree} tree a case of a switch @returns {Tree[]} */
+const statementsOf = ({ consequent }) => consequent;
+
 /** @typedef {(live: Liveness, tree: Tree, out: Alive) => Alive} LiveBefore what is alive before a tree */
 
 /** @type {LiveBefore} */
@@ -48,7 +51,7 @@ const inOrder = (partsOf) => (live, tree, out) => live.all(partsOf(tree), out);
 const ofArgument = inOrder(({ argument }) => [argument]);
 const ofExpression = inOrder(({ expression }) => [expression]);
 const ofSides = inOrder(({ left, right }) => [left, right]);
-const ofCall = inOrder(({ callee, arguments: given }) => [callee, ...given]);
+const ofNew = inOrder(({ callee, arguments: given }) => [callee, ...given]);
 const ofMember = inOrder(({ computed, key, value }) => (computed ? [key, value] : [value]));
 
 /** @type {LiveBefore} its parts are evaluated in this order, except what its methods and fields do later */
@@ -67,10 +70,11 @@ export const LIVE_BEFORE = {
   AssignmentPattern: ofPattern,
   AwaitExpression: ofArgument,
   BinaryExpression: ofSides,
-  BlockStatement: (live, tree, out) => live.outside(tree, live.all(tree.body, out)),
+  BlockStatement: (live, tree, out) => live.outside(tree, live.block(tree.body, out)),
   BreakStatement: (live, tree) => union(live.targetOf(tree, ["loop", "switch"]).out, live.caught),
-  CallExpression: ofCall,
-  ChainExpression: (live, { expression }, out) => union(out, live.before(expression, out)),
+  CallExpression: (live, { callee, arguments: given, optional }, out) =>
+    live.before(callee, live.link(optional, live.all(given, out))),
+  ChainExpression: (live, { expression }, out) => live.chain(expression, out),
   ClassDeclaration: ofClass,
   ClassExpression: ofClass,
   ConditionalExpression: (live, tree, out) => live.choice(tree, out),
@@ -96,9 +100,10 @@ export const LIVE_BEFORE = {
   LabeledStatement: (live, tree, out) => live.labeled(tree, out),
   Literal: nothing,
   LogicalExpression: (live, { left, right }, out) => live.before(left, union(out, live.before(right, out))),
-  MemberExpression: inOrder(({ object, property, computed }) => (computed ? [object, property] : [object])),
+  MemberExpression: (live, { object, property, computed, optional }, out) =>
+    live.before(object, live.link(optional, computed ? live.before(property, out) : out)),
   MetaProperty: name,
-  NewExpression: ofCall,
+  NewExpression: ofNew,
   ObjectExpression: (live, { properties }, out) => live.object(properties, out),
   ObjectPattern: ofPattern,
   PrivateIdentifier: nothing,
@@ -137,6 +142,8 @@ class Liveness {
     this.labels = [];
     /** What is alive where something that is thrown leads. @type {Alive} */
     this.caught = NONE;
+    /** What is alive behind the chain that is gone over, all of which may be left out. @type {Alive} */
+    this.behindChain = NONE;
   }
 
   /**
@@ -150,9 +157,8 @@ class Liveness {
     this.note(tree, out);
     const find = LIVE_BEFORE[tree.type];
     if (find === undefined) this.analysis.refuse(tree, `a ${tree.type} in such a place`);
-    const found = find(this, tree, out);
     // A class may read what it captures when its objects are made.
-    return /^Class/.test(tree.type) ? union(found, this.#captured(tree)) : found;
+    return find(this, tree, /^Class/.test(tree.type) ? union(out, this.#captured(tree)) : out);
   }
 
   /** @param {Tree} tree @param {Alive} out */
@@ -163,6 +169,35 @@ class Liveness {
   /** @param {(Tree | null)[]} trees in the order of evaluation @param {Alive} out */
   all(trees, out) {
     return trees.reduceRight((alive, tree) => this.before(tree, alive), out);
+  }
+
+  /**
+   * The functions that a block declares are there from its beginning, with what they capture.
+   * @param {Tree[]} statements
+   * @param {Alive} out
+   */
+  block(statements, out) {
+    return this.#declaring(statements, this.all(statements, out));
+  }
+
+  /** @param {Tree[]} statements of a block @param {Alive} alive where its functions are there */
+  #declaring(statements, alive) {
+    const declared = statements.filter(({ type }) => type === "FunctionDeclaration");
+    return declared.reduce((all, one) => union(all, this.#captured(one)), alive);
+  }
+
+  /** @param {Tree} expression of a chain @param {Alive} out */
+  chain(expression, out) {
+    const { behindChain } = this;
+    this.behindChain = out;
+    const alive = this.before(expression, out);
+    this.behindChain = behindChain;
+    return alive;
+  }
+
+  /** @param {boolean} isOptional whether what comes may be left out @param {Alive} alive before that */
+  link(isOptional, alive) {
+    return isOptional ? union(alive, this.behindChain) : alive;
   }
 
   /** @param {Tree} tree a function or a class @returns {Alive} those names of this function that it captures */
@@ -328,7 +363,7 @@ class Liveness {
     }
     for (const { test } of reversed) any = union(any, this.before(test, any));
     this.targets.pop();
-    return this.before(discriminant, any);
+    return this.before(discriminant, this.#declaring(cases.flatMap(statementsOf), any));
   }
 
   /** @param {Tree} tree @param {Alive} out */
@@ -342,7 +377,7 @@ class Liveness {
       this.caught = union(outer, then);
     }
     if (handler) {
-      const caught = this.all(handler.body.body, union(then, this.caught));
+      const caught = this.block(handler.body.body, union(then, this.caught));
       this.caught = union(this.caught, this.outside(handler, this.pattern(handler.param, caught)));
     }
     const alive = this.before(block, union(then, this.caught));

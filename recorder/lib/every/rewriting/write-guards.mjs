@@ -44,7 +44,7 @@ const isOwn = ({ key, static: isStatic, type }) =>
 export const stampsObjects = ({ body: { body }, superClass }) => superClass !== null && body.some(isOwn);
 
 /** What stands first in such a class. */
-export const STAMP_CHECK = "#$o = void $R.own(this); ";
+export const STAMP_CHECK = "#$o = $R.stamped(this); ";
 
 export class WriteGuards {
   /** @param {import("./analysis.mjs").Analysis} analysis @param {import("./source-edits.mjs").Edits} edits */

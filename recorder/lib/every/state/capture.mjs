@@ -12,6 +12,8 @@ import { Walk } from "./walk.mjs";
 /** @typedef {{ name: string, id: number, isAccessor: boolean }} Called a function of the agents that runs */
 
 const NOT_KNOWN = "a place that isn't known";
+/** Getters that the engine may call when it makes a text or a number of something: it goes on with what they return. */
+const CONVERSIONS = /^get (?:valueOf|toString|\[Symbol\.toPrimitive\])$/;
 const LIBRARY = new URL("../../", import.meta.url).href;
 const ELEMENTS = new URL("../../agent/ordinary/watched-elements.mjs", import.meta.url).href;
 const ATOMICS = new URL("../../agent/atomics.mjs", import.meta.url).href;
@@ -169,7 +171,8 @@ export class Capture {
    * @param {Called} called
    */
   #needsOneWay({ isAccess, isKeyed }, { name, id, isAccessor }) {
-    const isOther = isAccess !== isAccessor || isKeyed || this.runtime.installed.has(id);
+    const converts = isAccessor && CONVERSIONS.test(name);
+    const isOther = isAccess !== isAccessor || isKeyed || converts || this.runtime.installed.has(id);
     if (isOther) throw new CantShow(`${name || "a function"}, which the engine may call`);
   }
 }

@@ -1,11 +1,14 @@
 // The objects of the language and of node itself. Agents may not change them: what they would keep there isn't shown.
 
-import { isObject } from "../../primordials.mjs";
+import { types } from "node:util";
+import { getOwnPropertyDescriptor, isArray, isExtensible, isObject } from "../../primordials.mjs";
+import { boundOf } from "./bound-functions.mjs";
 
 /**
  * @typedef {object} OwnObjects
  * @property {(object: object) => string | undefined} nameOf says what an object is called, if it is one of them
  * @property {(object: object) => boolean} isNamespace whether it has the exports of a module
+ * @property {(fn: Function) => boolean} isOfModules whether a function is of the agents' modules
  * @property {(object: object, name: string) => void} add takes one that wasn't there before
  * @property {(why: string) => never} refuse ends what agents do
  */
@@ -38,5 +41,33 @@ export function own(value, does = "changes") {
   if (guarded.isNamespace(object)) guarded.refuse(`it ${does} what a module exports`);
   const name = guarded.nameOf(object);
   if (name !== undefined) guarded.refuse(`it ${does} ${shortName(name)}`);
+  if (isForeign(object)) guarded.refuse(`it ${does} a function or a prototype that isn't of the modules`);
   return value;
+}
+
+const { isProxy } = types;
+
+/** @param {unknown} fn @returns {boolean} whether it is a function that neither the modules nor a `bind` has made */
+const isForeignFunction = (fn) => typeof fn === "function" && !isProxy(fn) && boundOf(fn) === undefined
+  && guarded !== undefined && guarded.nameOf(fn) === undefined && !guarded.isOfModules(fn);
+
+/**
+ * What the engine or node has, although no name leads to it: the function of an object of node's, its prototype.
+ * @param {object} object
+ */
+export function isForeign(object) {
+  if (isProxy(object)) return false;
+  if (typeof object === "function") return isForeignFunction(object);
+  const { value, get } = getOwnPropertyDescriptor(object, "constructor") ?? {};
+  const fn = value ?? get;
+  if (typeof fn !== "function" || isForeignFunction(fn)) return typeof fn === "function";
+  return guarded?.nameOf(fn) !== undefined && getOwnPropertyDescriptor(fn, "prototype")?.value === object;
+}
+
+/** @param {unknown} value an object that is about to get private members: the strings of a template get none */
+export function stamped(value) {
+  own(value);
+  if (guarded !== undefined && isArray(value) && !isExtensible(value)) {
+    guarded.refuse("it puts private members on a list that can't change");
+  }
 }

@@ -5,9 +5,10 @@ import {
   apply, construct, defineProperty, getPrototypeOf, hasOwn, proxyOf, weakHas, weakSet,
 } from "../../primordials.mjs";
 import { types } from "node:util";
+import { boundOf } from "./bound-functions.mjs";
 import { Installed, numberOf } from "./installed.mjs";
 import { elementsOf, iterable, keysIn } from "./loop-steps.mjs";
-import { own } from "./own-objects.mjs";
+import { own, stamped } from "./own-objects.mjs";
 import { likeArrays } from "./shown-iterators.mjs";
 
 /** @typedef {[Environment, number]} CapturedCell a name: what it is among, and its position there */
@@ -120,7 +121,7 @@ export class Runtime {
   #registerMethods(holder, id, methods) {
     for (const { cells, enters, isStatic = false, key, kind, usesSuper } of methods) {
       const home = usesSuper ? holder : undefined;
-      const name = `${id} ${isStatic ? "s" : "p"} ${kind} ${key === undefined ? `#${enters}` : String(key)}`;
+      const name = `${id} ${isStatic ? "s" : "p"} ${kind} ${key === undefined ? `#${enters}` : `${typeof key} ${String(key)}`}`;
       for (const one of key === undefined ? Reflect.ownKeys(holder) : [key]) {
         const fn = Reflect.getOwnPropertyDescriptor(holder, one)?.[kind];
         if (enters === undefined || numberOf(fn) === enters) this.#register(fn, { id: name, cells, home });
@@ -154,7 +155,10 @@ export class Runtime {
       elementsOf,
       key,
       method,
+      numeric,
       own,
+      copied: (/** @type {object} */ given) => ({ ...given }),
+      stamped,
       /** @param {unknown} object that gets another limit of stacks: Error has the same of a module each time */
       ownLimit: (object) => (this.isMaking && object === EngineError ? object : own(object)),
       text: (/** @type {any} */ value) => `${value}`,
@@ -172,7 +176,9 @@ export class Runtime {
    * captures something that can't be shown
    */
   #takeClass(id, cls, read, methods, cells, { keys, isHidden }) {
-    this.#register(cls, { id: `c${id}`, cells, keys, isHidden });
+    // What such a class makes is of a kind that its prototype doesn't show.
+    const isBound = boundOf(getPrototypeOf(cls)) !== undefined;
+    this.#register(cls, { id: `c${id}`, cells, keys, isHidden: isHidden || isBound });
     this.#registerMethods(cls, `c${id}`, methods.filter(({ isStatic }) => isStatic));
     this.#registerMethods(cls.prototype, `c${id}`, methods.filter(({ isStatic }) => !isStatic));
     if (read !== null) this.readers.push({ cls, read });
@@ -254,6 +260,12 @@ function method(value, name) {
 function nameOfKey(given) {
   if (typeof given === "string") return given;
   return given.description === undefined ? "" : `[${given.description}]`;
+}
+
+/** @param {any} value @returns {number | bigint} what the engine makes of it before it adds one or takes one away */
+function numeric(value) {
+  let one = value;
+  return one++;
 }
 
 /** @param {any} value @returns {string | symbol} the key that it is among an object's members */

@@ -10,6 +10,7 @@ import { hadOtherPrototype } from "./first-prototypes.mjs";
 import { LoopSteps } from "./loop-steps.mjs";
 import { CantShow, boxedIn, bytesIn, isResizable, objectKind, numberText, patternOf, timeOf } from "./object-kinds.mjs";
 import { settledOf } from "./promises.mjs";
+import { isForeign } from "./own-objects.mjs";
 import { UNKNOWN_VALUE } from "./runtime.mjs";
 import { iterationOf } from "./shown-iterators.mjs";
 import { templateNumber } from "./templates.mjs";
@@ -175,8 +176,8 @@ export class Walk {
     }
     if (this.out.length > length) return true;
     for (const { object, shown } of this.weak) {
-      const isAny = weakEntriesOf(object).some(([key]) => typeof key === "function" && !shown.has(key));
-      if (isAny) throw new CantShow("a WeakMap or a WeakSet with a function that isn't known");
+      const isAny = weakEntriesOf(object).some(([key]) => !shown.has(key) && mayBeThere(key));
+      if (isAny) throw new CantShow("a WeakMap or a WeakSet with a key that isn't known");
     }
     return false;
   }
@@ -390,15 +391,25 @@ export class Walk {
 
   /** @param {object} object @param {string | symbol} key */
   #property(object, key) {
-    const { value, get, set, writable, enumerable, configurable } =
-      /** @type {PropertyDescriptor} */ (Reflect.getOwnPropertyDescriptor(object, key));
+    const descriptor = /** @type {PropertyDescriptor} */ (Reflect.getOwnPropertyDescriptor(object, key));
+    const { value, get, set, writable, enumerable, configurable } = descriptor;
     this.value(key);
     this.out.push(`${writable ? "" : "r"}${enumerable ? "" : "e"}${configurable ? "" : "c"}.`);
-    if (get === undefined && set === undefined) this.value(value);
+    if (!Object.hasOwn(descriptor, "get")) this.value(value);
     else {
       this.out.push("get");
       this.value(get);
       this.value(set);
     }
   }
+}
+
+/**
+ * @param {any} key that wasn't met
+ * @returns {boolean} whether agents may get at it all the same: a function or a prototype that isn't of the modules, a
+ * symbol that such an object has, or strings of a template
+ */
+function mayBeThere(key) {
+  if (typeof key === "symbol" || typeof key === "function") return true;
+  return isForeign(key) || (Array.isArray(key) && !Reflect.isExtensible(key));
 }
