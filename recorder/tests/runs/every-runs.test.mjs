@@ -89,10 +89,10 @@ test("runs that meet a limit, or in which nothing was tried, are listed", async 
   await assert.rejects(assertAgents({ module, all: true, seeds: 2 }), wanted);
 });
 
-test("a `check` that finds something else in the same bytes isn't as it was learned", async (context) => {
+test("a `check` that keeps something from run to run is called in modules that are loaded anew", async (context) => {
   const module = moduleOf(context, `${COUNTS}let calls = 0;\nexport const check = () => (calls += 1) < 3;\n`);
-  const message = /^the run of seed \d fails check, .*: check returned false\. `check` may go by some/;
-  await assert.rejects(everySchedule({ module, seeds: 6 }), { constructor: NotAsLearned, message });
+  const { found, freshened } = await everySchedule({ ...FEW_WORKERS, module, seeds: 6 });
+  assert.deepEqual({ found, freshened }, { found: [], freshened: true });
 });
 
 test("a single job makes the real runs in the process that calls the library", async (context) => {

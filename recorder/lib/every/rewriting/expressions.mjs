@@ -146,7 +146,9 @@ function writeCall(writer, tree, info) {
     return;
   }
   const object = callee.type === "MemberExpression" ? callee.object : undefined;
-  if (object?.type === "Identifier" && writer.isGlobal(object)) writer.keepOperands(info, given, tree.end);
+  const isNamed = !callee.computed || isConstant(callee.property);
+  const isOfGlobal = object?.type === "Identifier" && writer.isGlobal(object);
+  if (isOfGlobal && isNamed) writer.keepOperands(info, given, tree.end);
   else if (callee.type === "Super" || object?.type === "Super" || tree.optional || isChain(callee)) {
     hide(writer, positionOutsideComments(writer.source, "(", callee.end) + 1, tree.end);
   } else if (object !== undefined && isPrivateMethod(writer, callee)) {

@@ -4,6 +4,7 @@
 
 import { types } from "node:util";
 import { methodOf, replace } from "../../agent/ordinary/patch.mjs";
+import { boundOf } from "./bound-functions.mjs";
 import {
   apply, defineProperty, getOwnPropertyDescriptor, getPrototypeOf, isObject, uncurried,
 } from "../../primordials.mjs";
@@ -44,6 +45,17 @@ function mayKeepMore(object) {
 function makesMore(next) {
   if (typeof next !== "function" || next === functions || known?.nameOf(next) === undefined) return false;
   return known.plain.has(getOwnPropertyDescriptor(next, "prototype")?.value) === false;
+}
+
+/**
+ * A class was made. If it derives from a bound function, its prototype doesn't say what it makes.
+ * @param {Function} cls
+ */
+export function noteClass(cls) {
+  const parent = getPrototypeOf(cls);
+  let target = parent;
+  for (let bound = boundOf(target); bound !== undefined; bound = boundOf(target)) ({ target } = bound);
+  if (target !== parent && makesMore(target)) isAny = true;
 }
 
 /**

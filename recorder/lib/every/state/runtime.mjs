@@ -5,7 +5,7 @@ import {
   apply, construct, defineProperty, getPrototypeOf, hasOwn, proxyOf, weakHas, weakSet,
 } from "../../primordials.mjs";
 import { types } from "node:util";
-import { boundOf } from "./bound-functions.mjs";
+import { noteClass } from "./first-prototypes.mjs";
 import { Installed, numberOf } from "./installed.mjs";
 import { elementsOf, iterable, keysIn } from "./loop-steps.mjs";
 import { own, stamped } from "./own-objects.mjs";
@@ -176,9 +176,8 @@ export class Runtime {
    * captures something that can't be shown
    */
   #takeClass(id, cls, read, methods, cells, { keys, isHidden }) {
-    // What such a class makes is of a kind that its prototype doesn't show.
-    const isBound = boundOf(getPrototypeOf(cls)) !== undefined;
-    this.#register(cls, { id: `c${id}`, cells, keys, isHidden: isHidden || isBound });
+    noteClass(cls);
+    this.#register(cls, { id: `c${id}`, cells, keys, isHidden });
     this.#registerMethods(cls, `c${id}`, methods.filter(({ isStatic }) => isStatic));
     this.#registerMethods(cls.prototype, `c${id}`, methods.filter(({ isStatic }) => !isStatic));
     if (read !== null) this.readers.push({ cls, read });
