@@ -49,6 +49,11 @@ const CHANGES = [
 
 /** What is kept out of sight, or looks at a clock or at chance, or begins something that ends later. */
 const REACHES = [
+  // Functions and prototypes to which no name leads.
+  "Date.UTC.more = 1", "Proxy.revocable({}, {}).revoke.more = 1", "assert.AssertionError.prototype.more = 1",
+  "Object.getPrototypeOf(new URLSearchParams().keys()).more = 1",
+  "(() => { try { path.join(1); } catch (e) { Object.getPrototypeOf(e).more = 1; } })()",
+  "((tag) => new (class extends Back { #more = 1; })(tag`a`))((list) => list)",
   "RegExp.$1", "RegExp['$&']", "RegExp.lastMatch", "RegExp.input = 'a'", "Reflect.get(RegExp, '$2')",
   "(class extends RegExp {}).$1", "Object.getOwnPropertyDescriptor(RegExp, 'lastParen').get.call(RegExp)", "eval('1')",
   "(0, eval)('1')", "Function('return 1')", "new Function('')", "(() => 0).constructor('')",

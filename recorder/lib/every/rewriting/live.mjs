@@ -386,7 +386,6 @@ class Liveness {
   }
 }
 
-
 /**
  * @param {import("./scopes.mjs").Info} info of a function
  * @param {import("./analysis.mjs").Analysis} analysis

@@ -52,7 +52,7 @@ function makesMore(next) {
  * @param {Function} cls
  */
 export function noteClass(cls) {
-  const parent = getPrototypeOf(cls);
+  const parent = /** @type {any} */ (getPrototypeOf(cls));
   let target = parent;
   for (let bound = boundOf(target); bound !== undefined; bound = boundOf(target)) ({ target } = bound);
   if (target !== parent && makesMore(target)) isAny = true;

@@ -18,7 +18,7 @@ const MADE = {
   wrapForValidIterator: () => /** @type {any} */ (globalThis).Iterator.from({ next() {} }),
   segments: () => new Intl.Segmenter().segment(""),
   segmentIterator: () => new Intl.Segmenter().segment("")[Symbol.iterator](),
-  searchParamsIterator: () => new URLSearchParams().keys(),
+  searchParamsIterator: () => new (/** @type {any} */ (globalThis)).URLSearchParams().keys(),
   typedArray: () => Int8Array,
 };
 

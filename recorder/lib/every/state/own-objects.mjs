@@ -41,26 +41,26 @@ export function own(value, does = "changes") {
   if (guarded.isNamespace(object)) guarded.refuse(`it ${does} what a module exports`);
   const name = guarded.nameOf(object);
   if (name !== undefined) guarded.refuse(`it ${does} ${shortName(name)}`);
-  if (isForeign(object)) guarded.refuse(`it ${does} a function or a prototype that isn't of the modules`);
+  if (isUnnamed(object)) guarded.refuse(`it ${does} a function or a prototype that isn't of the modules`);
   return value;
 }
 
 const { isProxy } = types;
 
 /** @param {unknown} fn @returns {boolean} whether it is a function that neither the modules nor a `bind` has made */
-const isForeignFunction = (fn) => typeof fn === "function" && !isProxy(fn) && boundOf(fn) === undefined
+const isUnnamedFunction = (fn) => typeof fn === "function" && !isProxy(fn) && boundOf(fn) === undefined
   && guarded !== undefined && guarded.nameOf(fn) === undefined && !guarded.isOfModules(fn);
 
 /**
  * What the engine or node has, although no name leads to it: the function of an object of node's, its prototype.
  * @param {object} object
  */
-export function isForeign(object) {
+export function isUnnamed(object) {
   if (isProxy(object)) return false;
-  if (typeof object === "function") return isForeignFunction(object);
+  if (typeof object === "function") return isUnnamedFunction(object);
   const { value, get } = getOwnPropertyDescriptor(object, "constructor") ?? {};
   const fn = value ?? get;
-  if (typeof fn !== "function" || isForeignFunction(fn)) return typeof fn === "function";
+  if (typeof fn !== "function" || isUnnamedFunction(fn)) return typeof fn === "function";
   return guarded?.nameOf(fn) !== undefined && getOwnPropertyDescriptor(fn, "prototype")?.value === object;
 }
 

@@ -121,7 +121,8 @@ export class Runtime {
   #registerMethods(holder, id, methods) {
     for (const { cells, enters, isStatic = false, key, kind, usesSuper } of methods) {
       const home = usesSuper ? holder : undefined;
-      const name = `${id} ${isStatic ? "s" : "p"} ${kind} ${key === undefined ? `#${enters}` : `${typeof key} ${String(key)}`}`;
+      const named = key === undefined ? `#${enters}` : `${typeof key} ${String(key)}`;
+      const name = `${id} ${isStatic ? "s" : "p"} ${kind} ${named}`;
       for (const one of key === undefined ? Reflect.ownKeys(holder) : [key]) {
         const fn = Reflect.getOwnPropertyDescriptor(holder, one)?.[kind];
         if (enters === undefined || numberOf(fn) === enters) this.#register(fn, { id: name, cells, home });

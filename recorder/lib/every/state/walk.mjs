@@ -10,7 +10,7 @@ import { hadOtherPrototype } from "./first-prototypes.mjs";
 import { LoopSteps } from "./loop-steps.mjs";
 import { CantShow, boxedIn, bytesIn, isResizable, objectKind, numberText, patternOf, timeOf } from "./object-kinds.mjs";
 import { settledOf } from "./promises.mjs";
-import { isForeign } from "./own-objects.mjs";
+import { isUnnamed } from "./own-objects.mjs";
 import { UNKNOWN_VALUE } from "./runtime.mjs";
 import { iterationOf } from "./shown-iterators.mjs";
 import { templateNumber } from "./templates.mjs";
@@ -411,5 +411,5 @@ export class Walk {
  */
 function mayBeThere(key) {
   if (typeof key === "symbol" || typeof key === "function") return true;
-  return isForeign(key) || (Array.isArray(key) && !Reflect.isExtensible(key));
+  return isUnnamed(key) || (Array.isArray(key) && !Reflect.isExtensible(key));
 }
