@@ -3,6 +3,7 @@
 
 import { framesHere } from "../../agent/frames.mjs";
 import { mapGet, mapSet } from "../../primordials.mjs";
+import { NodeSettings } from "./node-settings.mjs";
 import { readingIterators } from "./shown-iterators.mjs";
 import { CantShow } from "./object-kinds.mjs";
 import { Walk } from "./walk.mjs";
@@ -35,6 +36,7 @@ export class Capture {
     this.texts = texts;
     this.buffers = buffers;
     this.flaw = flaw;
+    this.settings = new NodeSettings();
     /** @type {Map<string, number>} the places at which agents were, each with its number */
     this.places = new Map();
     /** The number of the place at which an agent is whose state was asked for last. */
@@ -60,6 +62,7 @@ export class Capture {
    * @throws {CantShow}
    */
   here(asked) {
+    if (this.settings.haveChanged()) throw new CantShow("a setting of node's that was changed");
     const frames = framesHere();
     const walk = this.#walk();
     walk.put(asked);

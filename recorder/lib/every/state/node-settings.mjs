@@ -1,0 +1,28 @@
+// What node keeps, and agents can set by setters that can't be replaced: it has to be as it was at first.
+
+import { inspect } from "node:util";
+import { is, ownKeys } from "../../primordials.mjs";
+
+/** @returns {unknown[]} what is set now */
+function settingsNow() {
+  /** @type {any} */
+  const options = inspect.defaultOptions;
+  const keys = ownKeys(options);
+  /** @type {unknown[]} */
+  const values = [process.exitCode];
+  for (let at = 0; at < keys.length; at += 1) values[values.length] = options[keys[at]];
+  return values;
+}
+
+export class NodeSettings {
+  constructor() {
+    this.first = settingsNow();
+  }
+
+  /** @returns {boolean} whether something is set in another way than at first */
+  haveChanged() {
+    const now = settingsNow();
+    for (let at = 0; at < now.length; at += 1) if (!is(now[at], this.first[at])) return true;
+    return now.length !== this.first.length;
+  }
+}
