@@ -1,12 +1,14 @@
 // What node keeps, and agents can set by setters that can't be replaced: it has to be as it was at first.
 
-import { inspect } from "node:util";
+import util from "node:util";
 import { is, ownKeys } from "../../primordials.mjs";
+
+/** @type {any} */
+const { inspect } = util;
 
 /** @returns {unknown[]} what is set now */
 function settingsNow() {
-  /** @type {any} */
-  const options = inspect.defaultOptions;
+  const { defaultOptions: options } = inspect;
   const keys = ownKeys(options);
   /** @type {unknown[]} */
   const values = [process.exitCode];
