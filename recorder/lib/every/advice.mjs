@@ -40,6 +40,6 @@ export function adviceOf(open, report) {
   if (report.isClosed) return [LONGER];
   const { answers, line } = report.widest;
   const isWide = line !== undefined && answers >= MANY_ANSWERS;
-  const narrower = isWide ? [`let fewer different values come to ${line}`] : [];
+  const narrower = isWide ? [`let ${line} get fewer different values`] : [];
   return [...kinds, ...narrower, FEWER, ...(report.bound === "time" ? [LONGER] : [])];
 }

@@ -1,4 +1,4 @@
-// The ways by which the second learning comes to nodes.
+// The ways to nodes, behind which the second learning tries what follows.
 
 import assert from "node:assert/strict";
 import { test } from "node:test";

@@ -1,5 +1,5 @@
-// The ways by which the second learning comes to the agents' moments. A node's ways are the edges that lead to it, each
-// behind the shortest way to its start. A node with several is tried behind each of them, up to a bound.
+// The ways to the agents' moments, for the second learning. A node's ways are the edges that lead to it. Before each
+// edge goes the shortest way to its start. A node with several ways is tried behind each of them, up to a bound.
 
 import { Random } from "../../memory/random.mjs";
 
@@ -44,7 +44,7 @@ export class NodeWays {
       this.out[to] ??= [];
       if (from !== undefined) (this.out[from.node] ??= []).push(number);
     }
-    /** @type {number[]} by node the edge by which the shortest way comes to it */
+    /** @type {number[]} by node the last edge of the shortest way to it */
     this.first = [];
     /** @type {number[]} the nodes, nearest first */
     this.nearest = [];

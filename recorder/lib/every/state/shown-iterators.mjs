@@ -17,7 +17,7 @@ import {
  * What an iterator will still return: all that it keeps.
  * @typedef {object} Iteration
  * @property {string} kind which one it is
- * @property {unknown} of what it goes through; undefined once it has come to the end
+ * @property {unknown} of what it goes through; undefined once it is at the end
  * @property {number} at how far it is
  */
 
@@ -147,7 +147,7 @@ let entriesLeft = () => [[], false];
 /** @type {WeakMap<object, { of: object, kind: string }>} what iterators of maps and sets go through */
 const collections = new WeakMap();
 
-/** @type {WeakSet<object>} those that have come to the end */
+/** @type {WeakSet<object>} those that are at the end */
 const ended = new WeakSet();
 const endedAdd = uncurried(WeakSet.prototype.add);
 const endedHas = uncurried(WeakSet.prototype.has);
