@@ -1,8 +1,8 @@
 -- What is said of a text that isn't JSON.
 use Rattle.std.proofs.Common.{◌≡◌, ℕ, true, List, ◌++◌, take, Some, codes}
-use Rattle.sab_syntax.specs.declared.place.Place.{Place}
-use Rattle.sab_syntax.specs.declared.spot.Spot.{Spot}
-use Rattle.sab_syntax.specs.Spot.{spot_after, is_by}
+use Rattle.sab_refusal.specs.declared.syntax.place.Place.{Place}
+use Rattle.sab_refusal.specs.declared.syntax.spot.Spot.{Spot}
+use Rattle.sab_refusal.specs.Syntax.Spot.{spot_after, is_by}
 use Rattle.sab_refusal.specs.declared.refusal.Refusal.TheVariants.{NotJson}
 use Rattle.sab_check.specs.declared.scanning.ForeignAt.{ForeignAt}
 use Rattle.sab_check.specs.Foreign.{FindsFirst, foreign_line}

@@ -8,7 +8,7 @@ use Rattle.sab_script.specs.Script.{IsScriptOf, IsRefusedBy, IsTrueRefusal}
 use Rattle.sab_check.specs.declared.check.Checked.{Checked}
 use Rattle.sab_check.specs.declared.check.Checked.TheVariants.{Accepted, Refused}
 use Rattle.sab_check.specs.declared.scanning.ForeignAt.{ForeignAt}
-use Rattle.sab_syntax.specs.Spot.{spot_after, is_by}
+use Rattle.sab_refusal.specs.Syntax.Spot.{spot_after, is_by}
 use Rattle.sab_check.specs.Foreign.{FindsFirst, foreign_line}
 use Rattle.sab_check.specs.Text.{accepted_text}
 

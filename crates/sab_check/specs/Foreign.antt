@@ -7,8 +7,8 @@ use Rattle.sab_check.specs.declared.foreign.Foreign.TheVariants.{Nan, Infinity, 
 use Rattle.sab_check.specs.declared.scanning.Side.{Side}
 use Rattle.sab_check.specs.declared.scanning.Side.TheVariants.{Outside, Inside, Escaped}
 use Rattle.sab_check.specs.declared.scanning.ForeignAt.{ForeignAt}
-use Rattle.sab_syntax.specs.declared.spot.Spot.{Spot}
-use Rattle.sab_syntax.specs.Spot.{spot_text}
+use Rattle.sab_refusal.specs.declared.syntax.spot.Spot.{Spot}
+use Rattle.sab_refusal.specs.Syntax.Spot.{spot_text}
 
 -- Strings: a quote begins one, and the next quote that isn't behind a backslash ends it.
 

@@ -8,8 +8,8 @@ use crate::foreign_line::ForeignLine;
 use crate::ok_line::push_ok;
 use crate::scanning::first_foreign;
 use crate::warnings::push_warnings;
+use sab_refusal::syntax::{Place, Spot};
 use sab_script::{Refusal, Setup, read_script};
-use sab_syntax::{Place, Spot};
 use std::alloc::{AllocError, Global};
 
 /// What a check says of a script, in lines.

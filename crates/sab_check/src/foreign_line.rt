@@ -1,7 +1,7 @@
 //! The line of a text that has what JSON hasn't.
 
 use crate::foreign::Foreign;
-use sab_syntax::Spot;
+use sab_refusal::syntax::Spot;
 use std::fmt;
 
 /// What JSON hasn't, and where it stands.

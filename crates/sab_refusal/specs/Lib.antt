@@ -4,3 +4,4 @@ pub mod Location
 pub mod Reason
 pub mod Located
 pub mod Refusal
+pub mod Syntax

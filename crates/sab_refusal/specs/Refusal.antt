@@ -1,8 +1,8 @@
 -- What is wrong with bytes that are no script.
 use Rattle.std.specs.Prelude.{◌≡◌, ℕ, List, ◌++◌, Option, Some, None, codes}
-use Rattle.sab_syntax.specs.declared.fault.Fault.{Fault}
-use Rattle.sab_syntax.specs.Fault.{fault_text}
-use Rattle.sab_syntax.specs.Spot.{spot_text}
+use Rattle.sab_refusal.specs.declared.syntax.fault.Fault.{Fault}
+use Rattle.sab_refusal.specs.Syntax.Fault.{fault_text}
+use Rattle.sab_refusal.specs.Syntax.Spot.{spot_text}
 use Rattle.sab_refusal.specs.declared.read_fault.ReadFault.TheVariants.{OutOfMemory}
 use Rattle.sab_refusal.specs.declared.refusal.Refusal.{Refusal}
 use Rattle.sab_refusal.specs.declared.refusal.Refusal.TheVariants.{NotJson, Tree}

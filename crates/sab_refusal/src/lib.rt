@@ -9,6 +9,7 @@ mod read_fault;
 mod reason;
 mod reason_text;
 mod refusal;
+pub mod syntax;
 
 pub use excerpt::Excerpt;
 pub use located::Located;

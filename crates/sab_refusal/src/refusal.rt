@@ -2,7 +2,7 @@
 
 use crate::located::Located;
 use crate::reason::Reason;
-use sab_syntax::Place;
+use crate::syntax::Place;
 use std::error::Error;
 use std::fmt;
 

@@ -8,7 +8,7 @@ use Rattle.sab_refusal.specs.declared.reason.Reason.TheVariants.{Memory}
 use Rattle.sab_refusal.specs.declared.refusal.Refusal.{Refusal}
 use Rattle.sab_refusal.specs.declared.refusal.Refusal.TheVariants.{NotJson, Tree}
 use Rattle.sab_refusal.specs.Reason.{fault_of}
-use Rattle.sab_syntax.specs.Place.{IsPlace}
+use Rattle.sab_refusal.specs.Syntax.Place.{IsPlace}
 use Rattle.sab_script.specs.Setup.{SetupParts, Spells, IsOnlySetup}
 use Rattle.sab_script.specs.Truth.{IsTrueOf}
 

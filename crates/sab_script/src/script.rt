@@ -9,7 +9,7 @@ ghost use Rattle.sab_script.specs.Script.{ReadsAs, IsScriptOf, IsUnread, IsPlace
 use crate::plain::{Miss, plain_setup};
 use crate::setup::{Setup, locate_setup};
 use sab_refusal::Refusal;
-use sab_syntax::place_of;
+use sab_refusal::syntax::place_of;
 use serde_json::Value;
 use std::alloc::{AllocError, Global};
 
