@@ -10,11 +10,11 @@ use Rattle.sab_refusal.specs.declared.read_fault.ReadFault.TheVariants.{TooMany,
 use Rattle.sab_refusal.specs.declared.refusal.Refusal.{Refusal}
 use Rattle.sab_refusal.specs.declared.refusal.Refusal.TheVariants.{NotJson, Tree}
 use Rattle.sab_refusal.specs.Reason.{fault_of}
-use Rattle.sab_script.specs.Reading.{Refuses}
-use Rattle.sab_script.specs.Setup.{SetupParts, Spells}
-use Rattle.sab_script.specs.Script.{ReadsAs, IsScriptOf, IsUnread}
-use Rattle.sab_script.specs.Truth.{IsTrueFault}
-use Rattle.sab_script.proofs.OnlySetup.{only_setup}
+use Rattle.sab_reader.specs.Script.Reading.{Refuses}
+use Rattle.sab_reader.specs.Script.Setup.{SetupParts, Spells}
+use Rattle.sab_reader.specs.Script.Script.{ReadsAs, IsScriptOf, IsUnread}
+use Rattle.sab_reader.specs.Script.Truth.{IsTrueFault}
+use Rattle.sab_reader.proofs.OfScript.OnlySetup.{only_setup}
 use Rattle.sab_faults.specs.declared.tool_fault.ToolFault.{ToolFault}
 use Rattle.sab_faults.specs.Conversions.{as_tool_fault, script_as_tool_fault}
 use Rattle.sab_script_runner.specs.Replay.{IsRefused}

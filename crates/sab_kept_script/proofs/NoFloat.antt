@@ -10,16 +10,16 @@ use Rattle.sab_plan.specs.declared.call.Call.{Call}
 use Rattle.sab_plan.specs.declared.schedule.Move.{Move}
 use Rattle.sab_plan.specs.declared.schedule.Move.TheVariants.{Step, TimeUp}
 use Rattle.sab_plan.specs.Script.{ScriptParts}
-use Rattle.sab_script.specs.declared.view_spec.ViewSpec.{ViewSpec}
-use Rattle.sab_script.specs.Reading.{SpellsEach}
-use Rattle.sab_script.specs.Numbers.{whole, whole_or_null, operand_data, operand_tree}
-use Rattle.sab_script.specs.Blocks.{SpellsLen, SpellsLens, with_block}
-use Rattle.sab_script.specs.Views.{SpellsView, view_names}
-use Rattle.sab_script.specs.Calls.{spelling_of, SpellsArgument, SpellsCall}
-use Rattle.sab_script.specs.Agents.{SpellsScript}
-use Rattle.sab_script.specs.Schedule.{SpellsMove}
-use Rattle.sab_script.specs.Setup.{SetupParts, Spells}
-use Rattle.sab_script.proofs.Forms.{by_form}
+use Rattle.sab_reader.specs.declared.script.view_spec.ViewSpec.{ViewSpec}
+use Rattle.sab_reader.specs.Script.Reading.{SpellsEach}
+use Rattle.sab_reader.specs.Script.Numbers.{whole, whole_or_null, operand_data, operand_tree}
+use Rattle.sab_reader.specs.Script.Blocks.{SpellsLen, SpellsLens, with_block}
+use Rattle.sab_reader.specs.Script.Views.{SpellsView, view_names}
+use Rattle.sab_reader.specs.Script.Calls.{spelling_of, SpellsArgument, SpellsCall}
+use Rattle.sab_reader.specs.Script.Agents.{SpellsScript}
+use Rattle.sab_reader.specs.Script.Schedule.{SpellsMove}
+use Rattle.sab_reader.specs.Script.Setup.{SetupParts, Spells}
+use Rattle.sab_reader.proofs.OfScript.Forms.{by_form}
 
 whole_exact : (z : ℤ) → has_float (whole z) ≡ false
 whole_exact (pos n) = refl

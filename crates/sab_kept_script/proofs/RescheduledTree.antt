@@ -8,11 +8,11 @@ use Rattle.serde_json.specs.Written.{has_float, items_have_float}
 use Rattle.sab_plan.specs.declared.schedule.Move.{Move}
 use Rattle.sab_plan.specs.declared.schedule.Move.TheVariants.{Step, TimeUp}
 use Rattle.sab_plan.specs.Schedule.{agent_of}
-use Rattle.sab_script.specs.declared.schedule.TheConstants.{MAX_MOVES}
-use Rattle.sab_script.specs.Reading.{SpellsEach}
-use Rattle.sab_script.specs.Schedule.{SpellsMove}
-use Rattle.sab_script.specs.Setup.{SetupParts, Spells, script_object}
-use Rattle.sab_script.proofs.Forms.{by_form}
+use Rattle.sab_reader.specs.declared.script.schedule.TheConstants.{MAX_MOVES}
+use Rattle.sab_reader.specs.Script.Reading.{SpellsEach}
+use Rattle.sab_reader.specs.Script.Schedule.{SpellsMove}
+use Rattle.sab_reader.specs.Script.Setup.{SetupParts, Spells, script_object}
+use Rattle.sab_reader.proofs.OfScript.Forms.{by_form}
 use Rattle.sab_kept_script.specs.Rescheduled.{move_items, rescheduled, with_schedule}
 use Rattle.sab_kept_script.proofs.PutMember.{float_put, depth_put}
 

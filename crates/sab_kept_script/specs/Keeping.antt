@@ -4,9 +4,9 @@ use Rattle.std.specs.Io.KnownBytes.{Appends, Keeps}
 use Rattle.serde_json.specs.Data.{Data}
 use Rattle.sab_plan.specs.declared.schedule.Move.{Move}
 use Rattle.sab_plan.specs.Report.{ReportParts}
-use Rattle.sab_script.specs.declared.schedule.TheConstants.{MAX_MOVES}
-use Rattle.sab_script.specs.Setup.{SetupParts, Spells, IsOnlySetup}
-use Rattle.sab_script.specs.Script.{ReadsAs, IsScriptOf}
+use Rattle.sab_reader.specs.declared.script.schedule.TheConstants.{MAX_MOVES}
+use Rattle.sab_reader.specs.Script.Setup.{SetupParts, Spells, IsOnlySetup}
+use Rattle.sab_reader.specs.Script.Script.{ReadsAs, IsScriptOf}
 use Rattle.sab_script_runner.specs.declared.input.TheConstants.{MAX_INPUT}
 use Rattle.sab_faults.specs.declared.tool_fault.ToolFault.{ToolFault}
 use Rattle.sab_faults.specs.declared.tool_fault.ToolFault.TheVariants.{TooMany, OutOfMemory, WriteFailed}

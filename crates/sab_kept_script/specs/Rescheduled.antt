@@ -3,8 +3,8 @@ use Rattle.std.specs.Prelude.{List, map, codes}
 use Rattle.serde_json.specs.Data.{Data, array, object, Items, put}
 use Rattle.serde_json.specs.View.{items_of}
 use Rattle.sab_plan.specs.declared.schedule.Move.{Move}
-use Rattle.sab_script.specs.Schedule.{move_tree}
-use Rattle.sab_script.specs.Setup.{SetupParts}
+use Rattle.sab_reader.specs.Script.Schedule.{move_tree}
+use Rattle.sab_reader.specs.Script.Setup.{SetupParts}
 
 -- moves as the items of an array
 abbrev pub move_items : List Move → Items

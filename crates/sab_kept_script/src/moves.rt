@@ -2,7 +2,7 @@
 
 ghost use Rattle.std.specs.Prelude.{◌≡◌, IfOk};
 ghost use Rattle.serde_json.specs.View.{view, items_view};
-ghost use Rattle.sab_script.specs.Schedule.{move_tree};
+ghost use Rattle.sab_reader.specs.Script.Schedule.{move_tree};
 ghost use Rattle.sab_kept_script.specs.Rescheduled.{move_items};
 
 use sab_sim::Move;

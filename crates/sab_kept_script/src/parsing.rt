@@ -8,7 +8,7 @@ ghost use Rattle.sab_script_runner.specs.Replay.{IsRefused};
 ghost use Rattle.sab_kept_script.specs.Keeping.{IsParsed};
 
 use sab_faults::ToolFault;
-use sab_script::{Setup, read_setup, read_tree};
+use sab_reader::script::{Setup, read_setup, read_tree};
 use serde_json::Value;
 use std::alloc::Global;
 

@@ -3,9 +3,9 @@ use Rattle.std.proofs.Common.{◌≡◌, ℕ, Bool, true, false, List, Option, i
 use Rattle.std.specs.List.{list_any}
 use Rattle.sab_script_runner.proofs.ReplaySteps.{keeps_same}
 use Rattle.sab_faults.specs.declared.tool_fault.ToolFault.TheVariants.{OrdinaryData, WriteFailed}
-use Rattle.sab_script.specs.Script.{IsScriptOf}
-use Rattle.sab_script.specs.Setup.{SetupParts}
-use Rattle.sab_script.specs.Views.{view_names}
+use Rattle.sab_reader.specs.Script.Script.{IsScriptOf}
+use Rattle.sab_reader.specs.Script.Setup.{SetupParts}
+use Rattle.sab_reader.specs.Script.Views.{view_names}
 use Rattle.sab_report.specs.Judging.{IsJudgeFault}
 use Rattle.sab_report.specs.Ordinary.{has_ordinary_data, is_ordinary_name}
 

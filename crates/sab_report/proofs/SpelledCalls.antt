@@ -8,9 +8,9 @@ use Rattle.sab_plan.specs.declared.argument.Argument.{Argument}
 use Rattle.sab_plan.specs.declared.argument.Argument.TheVariants.{Value, Limit}
 use Rattle.sab_plan.specs.declared.call.Call.{Call}
 use Rattle.sab_plan.specs.Call.{function_of, view_of, index_of, arguments_of}
-use Rattle.sab_script.specs.Numbers as numbers
-use Rattle.sab_script.specs.Views.{SpellsName}
-use Rattle.sab_script.specs.Calls.{SpellsArgument, SpellsArguments, call_tree, SpellsCall}
+use Rattle.sab_reader.specs.Script.Numbers as numbers
+use Rattle.sab_reader.specs.Script.Views.{SpellsName}
+use Rattle.sab_reader.specs.Script.Calls.{SpellsArgument, SpellsArguments, call_tree, SpellsCall}
 use Rattle.sab_words.specs.CallText.{name_of}
 use Rattle.sab_json.specs.CallData.{whole_data, operand_data, argument_data, argument_items, call_data}
 use Rattle.sab_report.specs.Spelling.{IsReportedAsSpelled}

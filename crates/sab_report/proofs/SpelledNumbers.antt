@@ -9,13 +9,13 @@ use Rattle.sab_plan.specs.declared.call.Call.{Call}
 use Rattle.sab_plan.specs.Call.{arguments_of}
 use Rattle.sab_plan.specs.Script.{ScriptParts}
 use Rattle.sab_plan.specs.Plan.{IsPlan}
-use Rattle.sab_script.specs.Numbers.{IsInRange}
-use Rattle.sab_script.specs.Reading.{SpellsEach}
-use Rattle.sab_script.specs.Calls.{SpellsArgument, SpellsCall}
-use Rattle.sab_script.specs.Views.{view_names}
-use Rattle.sab_script.specs.Agents.{SpellsScript}
-use Rattle.sab_script.specs.Setup.{SetupParts, Spells}
-use Rattle.sab_script.proofs.WholePlan.{makes_plan}
+use Rattle.sab_reader.specs.Script.Numbers.{IsInRange}
+use Rattle.sab_reader.specs.Script.Reading.{SpellsEach}
+use Rattle.sab_reader.specs.Script.Calls.{SpellsArgument, SpellsCall}
+use Rattle.sab_reader.specs.Script.Views.{view_names}
+use Rattle.sab_reader.specs.Script.Agents.{SpellsScript}
+use Rattle.sab_reader.specs.Script.Setup.{SetupParts, Spells}
+use Rattle.sab_reader.proofs.OfScript.WholePlan.{makes_plan}
 use Rattle.sab_json.specs.SafeNumbers.{IsSafeArgument, IsSafeCall, HasSafeNumbers}
 
 -- the parts that are spelled make a plan

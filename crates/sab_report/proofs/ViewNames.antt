@@ -6,10 +6,10 @@ use Rattle.std.specs.Map.{keys_of}
 use Rattle.std.proofs.lemmas.List.Elements.{All-nil, All-cons, All-head, All-tail}
 use Rattle.indexmap.specs.IndexMap.{IndexMap, keys}
 use Rattle.serde_json.specs.Data.{Data, Items, no_items, item}
-use Rattle.sab_script.specs.declared.view_spec.ViewSpec.{ViewSpec}
-use Rattle.sab_script.specs.Reading.{SpellsEach}
-use Rattle.sab_script.specs.Views.{SpellsView, named_views, view_names}
-use Rattle.sab_script.specs.Setup.{SetupParts, Spells}
+use Rattle.sab_reader.specs.declared.script.view_spec.ViewSpec.{ViewSpec}
+use Rattle.sab_reader.specs.Script.Reading.{SpellsEach}
+use Rattle.sab_reader.specs.Script.Views.{SpellsView, named_views, view_names}
+use Rattle.sab_reader.specs.Script.Setup.{SetupParts, Spells}
 use Rattle.sab_json.specs.CallData.{AreNames, is_name_byte}
 use Rattle.sab_words.specs.declared.name.TheConstants.Name.{MAX_LEN}
 

@@ -3,9 +3,9 @@ use Rattle.std.specs.Prelude.{◌≡◌, ◌⊎◌, ◌↔◌, ℕ, true, false,
 use Rattle.std.specs.Io.KnownBytes.{Appends, Keeps}
 use Rattle.sab_plan.specs.Plan.{PlanParts}
 use Rattle.sab_plan.specs.Report.{ReportParts}
-use Rattle.sab_script.specs.Views.{view_names}
-use Rattle.sab_script.specs.Setup.{SetupParts}
-use Rattle.sab_script.specs.Script.{IsScriptOf}
+use Rattle.sab_reader.specs.Script.Views.{view_names}
+use Rattle.sab_reader.specs.Script.Setup.{SetupParts}
+use Rattle.sab_reader.specs.Script.Script.{IsScriptOf}
 use Rattle.sab_judge.specs.declared.race.Race.{Race}
 use Rattle.sab_judge.specs.Race.{HaveNoRace}
 use Rattle.sab_judge.specs.Verdict.{IsVerdict}

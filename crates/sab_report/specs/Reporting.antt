@@ -1,9 +1,9 @@
 -- What replaying and racing a script answer.
 use Rattle.std.specs.Prelude.{◌≡◌, ℕ, List, Option}
 use Rattle.sab_plan.specs.Report.{ReportParts}
-use Rattle.sab_script.specs.Views.{view_names}
-use Rattle.sab_script.specs.Setup.{SetupParts}
-use Rattle.sab_script.specs.Script.{IsScriptOf}
+use Rattle.sab_reader.specs.Script.Views.{view_names}
+use Rattle.sab_reader.specs.Script.Setup.{SetupParts}
+use Rattle.sab_reader.specs.Script.Script.{IsScriptOf}
 use Rattle.sab_script_runner.specs.Replay.{IsReportOf}
 use Rattle.sab_script_runner.specs.Racing.{IsRaceOf}
 use Rattle.sab_script_runner.specs.declared.ended.Ended.{Ended}

@@ -3,7 +3,7 @@
 ghost use Rattle.std.specs.Prelude.{ℕ, List};
 ghost use Rattle.serde_json.specs.Data.{Data};
 ghost use Rattle.sab_plan.specs.declared.call.Call.{Call};
-ghost use Rattle.sab_script.specs.Calls.{SpellsCall};
+ghost use Rattle.sab_reader.specs.Script.Calls.{SpellsCall};
 ghost use Rattle.sab_report.specs.Facts.{NotesLast};
 ghost use Rattle.sab_report.specs.Spelling.{IsReportedAsSpelled};
 

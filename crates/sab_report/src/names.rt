@@ -1,9 +1,9 @@
 //! The names of a setup's views.
 
 ghost use Rattle.std.specs.Prelude.{◌≡◌, ◌≤◌, length, All, IfOk};
-ghost use Rattle.sab_script.specs.Views.{view_names};
+ghost use Rattle.sab_reader.specs.Script.Views.{view_names};
 
-use sab_script::Setup;
+use sab_reader::script::Setup;
 use sab_words::Name;
 use std::alloc::{AllocError, Global};
 

@@ -3,7 +3,7 @@ use Rattle.std.proofs.Common.{ℕ, List, Option, Some, None, inr, refl, ◌∙�
 use Rattle.std.specs.Io.KnownBytes.{Appends, Keeps}
 use Rattle.sab_plan.specs.Plan.{PlanParts}
 use Rattle.sab_plan.specs.Report.{ReportParts}
-use Rattle.sab_script.specs.Setup.{SetupParts}
+use Rattle.sab_reader.specs.Script.Setup.{SetupParts}
 use Rattle.sab_kept_script.specs.Keeping.{KeepsRun, IsRaceIn}
 use Rattle.sab_script_runner.specs.Replay.{IsReportOf}
 use Rattle.sab_command.specs.declared.job.RunForm.{RunForm}

@@ -3,7 +3,7 @@ use Rattle.std.specs.Prelude.{◌≡◌, ℕ, ◌≤◌, List, length, Bool, tru
 use Rattle.std.specs.declared.alloc.Global.{Global}
 use Rattle.sab_script_runner.specs.declared.input.TheConstants.{MAX_INPUT}
 use Rattle.sab_faults.specs.declared.tool_fault.ToolFault.{ToolFault}
-use Rattle.sab_check.specs.Checked.{IsAccepted, IsRefused}
+use Rattle.sab_reader.specs.Check.Checked.{IsAccepted, IsRefused}
 use Rattle.sab_exit.specs.Status.{status_after}
 use Rattle.sab_run.specs.declared.failure.Explanation.{Explanation}
 use Rattle.sab_run.specs.declared.failure.Explanation.TheVariants.{Absent, NoMemory, CheckText, AtLine}

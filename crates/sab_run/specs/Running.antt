@@ -6,7 +6,7 @@ use Rattle.sab_faults.specs.declared.tool_fault.ToolFault.{ToolFault}
 use Rattle.sab_faults.specs.declared.tool_fault.ToolFault.TheVariants.{OutOfMemory, WriteFailed}
 use Rattle.sab_script_runner.specs.Input.{IsInputFault}
 use Rattle.sab_plan.specs.Report.{ReportParts}
-use Rattle.sab_script.specs.Setup.{SetupParts}
+use Rattle.sab_reader.specs.Script.Setup.{SetupParts}
 use Rattle.sab_script_runner.specs.Replay.{IsReportOf, IsReplayFault}
 use Rattle.sab_script_runner.specs.declared.ended.Ended.{Ended}
 use Rattle.sab_script_runner.specs.Ended.{ended_of}
@@ -14,7 +14,7 @@ use Rattle.sab_report.specs.Reporting.{ReplaysAs}
 use Rattle.sab_report.specs.declared.judging.Judged.{Judged}
 use Rattle.sab_report.specs.Judging.{JudgesAs, IsJudgeFault}
 use Rattle.sab_kept_script.specs.Keeping.{KeepsRun, IsReplayUnkept, IsKeepFault}
-use Rattle.sab_check.specs.Checked.{IsAccepted, IsRefused}
+use Rattle.sab_reader.specs.Check.Checked.{IsAccepted, IsRefused}
 use Rattle.sab_command.specs.declared.job.RunForm.{RunForm}
 use Rattle.sab_command.specs.declared.job.RunForm.TheVariants.{Report, Script}
 use Rattle.sab_command.specs.declared.job.Job.{Job}

@@ -8,11 +8,11 @@ ghost use Rattle.sab_run.specs.Running.{IsUnwritten};
 
 use crate::explaining::explanation_of;
 use crate::failure::Failure;
-use sab_check::{Checked, check_script};
 use sab_command::{Job, RunForm};
 use sab_exit::Outcome;
 use sab_faults::ToolFault;
 use sab_kept_script::keep_replay;
+use sab_reader::check::{Checked, check_script};
 use sab_report::{Ended, VerdictFormat, judge_as, replay_as};
 use sab_script_runner::read_input;
 use std::alloc::Global;

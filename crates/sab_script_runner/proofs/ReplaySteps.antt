@@ -14,10 +14,10 @@ use Rattle.sab_refusal.specs.declared.read_fault.ReadFault.{ReadFault}
 use Rattle.sab_refusal.specs.declared.read_fault.ReadFault.TheVariants.{TooMany, OutOfMemory, BadShape, BadName, BadNumber, BadCall, BadView, BadAgent, NoBlock}
 use Rattle.sab_refusal.specs.declared.refusal.Refusal.{Refusal}
 use Rattle.sab_refusal.specs.declared.refusal.Refusal.TheVariants.{NotJson, Tree}
-use Rattle.sab_script.specs.Reading.{SpellsEach}
-use Rattle.sab_script.specs.Schedule.{SpellsMove}
-use Rattle.sab_script.specs.Script.{ReadsAs, SpellsNone, IsTreeFault, IsRefusedBy, IsTrueRefusal}
-use Rattle.sab_script.specs.Truth.{IsTrueFault}
+use Rattle.sab_reader.specs.Script.Reading.{SpellsEach}
+use Rattle.sab_reader.specs.Script.Schedule.{SpellsMove}
+use Rattle.sab_reader.specs.Script.Script.{ReadsAs, SpellsNone, IsTreeFault, IsRefusedBy, IsTrueRefusal}
+use Rattle.sab_reader.specs.Script.Truth.{IsTrueFault}
 use Rattle.sab_refusal.specs.Reason.{fault_of}
 use Rattle.sab_faults.specs.Conversions.{as_tool_fault, script_as_tool_fault}
 use Rattle.sab_script_runner.specs.Replay.{IsRefused, IsRefusedFor}

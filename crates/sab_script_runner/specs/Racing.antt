@@ -8,7 +8,7 @@ use Rattle.sab_race.specs.Moves.{count_of}
 use Rattle.sab_race.specs.Race.{IsRace}
 use Rattle.sab_faults.specs.declared.tool_fault.ToolFault.{ToolFault}
 use Rattle.sab_faults.specs.declared.tool_fault.ToolFault.TheVariants.{OutOfMemory, TooManyMoves, NoThread, WriteFailed}
-use Rattle.sab_script.specs.Setup.{SetupParts}
+use Rattle.sab_reader.specs.Script.Setup.{SetupParts}
 use Rattle.sab_script_runner.specs.Replay.{IsScriptOf, IsRefused}
 use Rattle.sab_text.specs.Text.{text}
 use Rattle.sab_sim.specs.declared.sim.TheConstants.Sim.{MAX_ENTRIES}

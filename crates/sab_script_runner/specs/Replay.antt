@@ -10,10 +10,10 @@ use Rattle.sab_refusal.specs.declared.read_fault.ReadFault.{ReadFault}
 use Rattle.sab_refusal.specs.declared.read_fault.ReadFault.TheVariants as R
 use Rattle.sab_faults.specs.declared.tool_fault.ToolFault.{ToolFault}
 use Rattle.sab_faults.specs.declared.tool_fault.ToolFault.TheVariants.{TooMany, OutOfMemory, BadShape, BadName, BadNumber, BadCall, BadView, BadAgent, NoBlock, NotJson, WriteFailed}
-use Rattle.sab_script.specs.Setup.{SetupParts, Spells}
-use Rattle.sab_script.specs.Truth.{IsTrueFault}
+use Rattle.sab_reader.specs.Script.Setup.{SetupParts, Spells}
+use Rattle.sab_reader.specs.Script.Truth.{IsTrueFault}
 -- scripts as bytes, for the crates above
-pub use Rattle.sab_script.specs.Script.{ReadsAs, IsScriptOf}
+pub use Rattle.sab_reader.specs.Script.Script.{ReadsAs, IsScriptOf}
 use Rattle.sab_text.specs.Text.{text}
 
 -- the script reads as a tree that spells no setup, and the fault is that of a refusal which is true of the tree

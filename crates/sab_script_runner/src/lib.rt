@@ -15,5 +15,5 @@ pub use racing::{race_bytes, race_mixed, race_plan};
 pub use replaying::{replay_bytes, replay_moves};
 pub use report::write_report;
 pub use sab_race::{MAX_SPINS, Share};
-pub use sab_script::{MAX_MOVES, Setup, ViewSpec, read_setup};
+pub use sab_reader::script::{MAX_MOVES, Setup, ViewSpec, read_setup};
 pub use script::setup_of;

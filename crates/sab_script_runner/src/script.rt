@@ -4,7 +4,7 @@ ghost use Rattle.std.specs.Prelude.{IfOk, IfErr};
 ghost use Rattle.sab_script_runner.specs.Replay.{IsScriptOf, IsRefused};
 
 use sab_faults::ToolFault;
-use sab_script::{Setup, read_script};
+use sab_reader::script::{Setup, read_script};
 use std::alloc::Global;
 
 /// The setup that a script spells.

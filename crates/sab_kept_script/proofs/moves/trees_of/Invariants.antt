@@ -1,6 +1,6 @@
 use Rattle.std.proofs.Common.{◌≡◌, ◌≤◌, length, map, take, vec_len, vec_capacity}
 use Rattle.serde_json.specs.View.{view}
-use Rattle.sab_script.specs.Schedule.{move_tree}
+use Rattle.sab_reader.specs.Script.Schedule.{move_tree}
 use Rattle.sab_kept_script.proofs.moves.trees_of.Given as goal
 
 abbrev pub invariant-loop-m : goal.invariant-loop-m

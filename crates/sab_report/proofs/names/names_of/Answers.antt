@@ -1,7 +1,7 @@
 -- The keys of the map are the names.
 use Rattle.std.proofs.Common.{◌∙◌, map, ap, rules}
 use Rattle.std.specs.Prelude.{string_bytes}
-use Rattle.sab_script.specs.Views.{view_names}
+use Rattle.sab_reader.specs.Script.Views.{view_names}
 use Rattle.sab_report.proofs.ViewNames.{IsShort, names_of_keys, holds_next}
 use Rattle.sab_report.proofs.names.names_of.Goals as goal
 

@@ -1,6 +1,6 @@
 use Rattle.std.proofs.Common.{◌≡◌, ◌≤◌, ◌+◌, ◌++◌, length, map, vec_len, vec_capacity}
 use Rattle.std.specs.Prelude.{string_bytes}
-use Rattle.sab_script.specs.Views.{view_names}
+use Rattle.sab_reader.specs.Script.Views.{view_names}
 use Rattle.sab_report.proofs.names.names_of.Given as goal
 
 abbrev pub invariant-loop-name : goal.invariant-loop-name

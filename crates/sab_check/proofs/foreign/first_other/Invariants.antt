@@ -1,8 +1,0 @@
-use Rattle.std.proofs.Common.{◌≡◌, drop}
-use Rattle.std.specs.Prelude.{find, not}
-use Rattle.sab_check.specs.Foreign.{is_white}
-use Rattle.sab_check.proofs.foreign.first_other.Given as goal
-
-abbrev pub invariant-loop-byte : goal.invariant-loop-byte
-invariant-loop-byte l =
-    find (λ b. not (is_white b)) (drop l.byte-index l.text) ≡ find (λ b. not (is_white b)) l.text

@@ -1,6 +1,0 @@
-use Rattle.std.proofs.Common.{◌≡◌, ◌+◌, drop}
-use Rattle.sab_check.specs.Text.{count_calls}
-use Rattle.sab_check.proofs.ok_line.call_count.Given as goal
-
-abbrev pub invariant-loop-script : goal.invariant-loop-script
-invariant-loop-script l = l.count + count_calls (drop l.script-index l.scripts) ≡ count_calls l.scripts

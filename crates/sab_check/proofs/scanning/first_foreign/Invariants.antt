@@ -1,9 +1,0 @@
-use Rattle.std.proofs.Common.{◌≡◌, take}
-use Rattle.sab_check.specs.Foreign.{side_after, HasNoneBefore}
-use Rattle.sab_check.proofs.scanning.first_foreign.Given as goal
-
-abbrev pub invariant-loop-at : goal.invariant-loop-at
-invariant-loop-at l = record {
-  side : l.side ≡ side_after (take l.at l.text);
-  none : HasNoneBefore l.text l.at;
-}

@@ -1,0 +1,2 @@
+pub mod OfCheck
+pub mod OfScript

@@ -1,7 +1,0 @@
-use Rattle.sab_script.proofs.Tokens.{one_then}
-use Rattle.sab_script.proofs.plain.operands.last_operand.Goals as goal
-
-pub returns : goal.returns
-returns c =
-    one_then c.args.rest.now c.next_operand.new.rest c.in_ok-value.ensures c.in_ok-no_more_items.ensures
-    (λ d ds h none. (h, rw none tt))
