@@ -5,29 +5,29 @@ use Rattle.sab_refusal.specs.declared.read_fault.ReadFault.{ReadFault}
 use Rattle.sab_refusal.specs.declared.read_fault.ReadFault.TheVariants as R
 use Rattle.sab_refusal.specs.Reason.{fault_of}
 use Rattle.sab_refusal.specs.ReadFault.{number_of as read_number}
-use Rattle.sab_automata_text.specs.declared.limits.TheConstants.{MAX_FILE}
-use Rattle.sab_automata_text.specs.declared.faults.EdgeFault.{EdgeFault}
-use Rattle.sab_automata_text.specs.declared.faults.EdgeFault.TheVariants as edge
-use Rattle.sab_automata_text.specs.declared.faults.EdgesFault.{EdgesFault}
-use Rattle.sab_automata_text.specs.declared.faults.EdgesFault.TheVariants as edges
-use Rattle.sab_automata_text.specs.declared.faults.AccessFault.{AccessFault}
-use Rattle.sab_automata_text.specs.declared.faults.AccessFault.TheVariants as access
-use Rattle.sab_automata_text.specs.declared.faults.NodeFault.{NodeFault}
-use Rattle.sab_automata_text.specs.declared.faults.NodeFault.TheVariants as node
-use Rattle.sab_automata_text.specs.declared.faults.AutomatonFault.{AutomatonFault}
-use Rattle.sab_automata_text.specs.declared.faults.AutomatonFault.TheVariants as automaton
-use Rattle.sab_automata_text.specs.declared.faults.AutomataFault.{AutomataFault}
-use Rattle.sab_automata_text.specs.declared.faults.AutomataFault.TheVariants as automata
-use Rattle.sab_automata_text.specs.declared.faults.AgentFault.{AgentFault}
-use Rattle.sab_automata_text.specs.declared.faults.AgentFault.TheVariants as agent
-use Rattle.sab_automata_text.specs.declared.faults.AgentsFault.{AgentsFault}
-use Rattle.sab_automata_text.specs.declared.faults.AgentsFault.TheVariants as agents
-use Rattle.sab_automata_text.specs.declared.faults.FileFault.{FileFault}
-use Rattle.sab_automata_text.specs.declared.faults.FileFault.TheVariants as file
-use Rattle.sab_automata_text.specs.declared.faults.Refusal.{Refusal}
-use Rattle.sab_automata_text.specs.declared.faults.Refusal.TheVariants as refusal
-use Rattle.sab_automata_text.specs.Faults.{edge_number, edges_number, access_number, node_number, automaton_number}
-use Rattle.sab_automata_text.specs.Faults.{automata_number, agent_number, agents_number, file_number, refusal_number}
+use Rattle.sab_automata_reader.specs.declared.automata_text.limits.TheConstants.{MAX_FILE}
+use Rattle.sab_automata_reader.specs.declared.automata_text.faults.EdgeFault.{EdgeFault}
+use Rattle.sab_automata_reader.specs.declared.automata_text.faults.EdgeFault.TheVariants as edge
+use Rattle.sab_automata_reader.specs.declared.automata_text.faults.EdgesFault.{EdgesFault}
+use Rattle.sab_automata_reader.specs.declared.automata_text.faults.EdgesFault.TheVariants as edges
+use Rattle.sab_automata_reader.specs.declared.automata_text.faults.AccessFault.{AccessFault}
+use Rattle.sab_automata_reader.specs.declared.automata_text.faults.AccessFault.TheVariants as access
+use Rattle.sab_automata_reader.specs.declared.automata_text.faults.NodeFault.{NodeFault}
+use Rattle.sab_automata_reader.specs.declared.automata_text.faults.NodeFault.TheVariants as node
+use Rattle.sab_automata_reader.specs.declared.automata_text.faults.AutomatonFault.{AutomatonFault}
+use Rattle.sab_automata_reader.specs.declared.automata_text.faults.AutomatonFault.TheVariants as automaton
+use Rattle.sab_automata_reader.specs.declared.automata_text.faults.AutomataFault.{AutomataFault}
+use Rattle.sab_automata_reader.specs.declared.automata_text.faults.AutomataFault.TheVariants as automata
+use Rattle.sab_automata_reader.specs.declared.automata_text.faults.AgentFault.{AgentFault}
+use Rattle.sab_automata_reader.specs.declared.automata_text.faults.AgentFault.TheVariants as agent
+use Rattle.sab_automata_reader.specs.declared.automata_text.faults.AgentsFault.{AgentsFault}
+use Rattle.sab_automata_reader.specs.declared.automata_text.faults.AgentsFault.TheVariants as agents
+use Rattle.sab_automata_reader.specs.declared.automata_text.faults.FileFault.{FileFault}
+use Rattle.sab_automata_reader.specs.declared.automata_text.faults.FileFault.TheVariants as file
+use Rattle.sab_automata_reader.specs.declared.automata_text.faults.Refusal.{Refusal}
+use Rattle.sab_automata_reader.specs.declared.automata_text.faults.Refusal.TheVariants as refusal
+use Rattle.sab_automata_reader.specs.AutomataText.Faults.{edge_number, edges_number, access_number, node_number, automaton_number}
+use Rattle.sab_automata_reader.specs.AutomataText.Faults.{automata_number, agent_number, agents_number, file_number, refusal_number}
 use Rattle.sab_faults.specs.declared.tool_fault.ToolFault.{ToolFault}
 use Rattle.sab_faults.specs.declared.tool_fault.ToolFault.TheVariants.{TooMany, OutOfMemory, BadShape, BadName, BadNumber, BadCall, BadView, BadAgent, NotJson, TooLong, NoBlock, BadEdge, NoNode, BadRange}
 use Rattle.sab_faults.specs.ToolFault.{number_of}

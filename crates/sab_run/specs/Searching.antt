@@ -4,10 +4,10 @@ use Rattle.std.specs.Io.KnownBytes.{Keeps}
 use Rattle.sab_script_runner.specs.Input.{IsFaultOfInput}
 use Rattle.sab_faults.specs.ToolFault.{number_of}
 use Rattle.sab_faults.specs.declared.tool_fault.ToolFault.TheVariants.{TooMany, OutOfMemory, WriteFailed}
-use Rattle.sab_automata_text.specs.declared.limits.TheConstants.{MAX_FILE}
-use Rattle.sab_automata_text.specs.declared.faults.Refusal.{Refusal}
-use Rattle.sab_automata_text.specs.Faults.{refusal_number}
-use Rattle.sab_automata_text.specs.FaultTexts.{refusal_text}
+use Rattle.sab_automata_reader.specs.declared.automata_text.limits.TheConstants.{MAX_FILE}
+use Rattle.sab_automata_reader.specs.declared.automata_text.faults.Refusal.{Refusal}
+use Rattle.sab_automata_reader.specs.AutomataText.Faults.{refusal_number}
+use Rattle.sab_automata_reader.specs.AutomataText.FaultTexts.{refusal_text}
 use Rattle.sab_text.specs.declared.format.VerdictFormat.{VerdictFormat}
 use Rattle.sab_search.specs.declared.asked.SearchAsked.{SearchAsked}
 use Rattle.sab_search.specs.declared.ending.SearchEnd.{SearchEnd}

@@ -2,7 +2,7 @@
 
 ghost use Rattle.std.specs.Prelude.{◌≡◌, IfOk, IfErr, IfSome, OnOk};
 ghost use Rattle.std.specs.Io.KnownBytes.{IsAtEnd};
-ghost use Rattle.sab_automata_text.specs.Faults.{refusal_number};
+ghost use Rattle.sab_automata_reader.specs.AutomataText.Faults.{refusal_number};
 ghost use Rattle.sab_command.specs.Job.{HasRoom};
 ghost use Rattle.sab_faults.specs.ToolFault.{number_of};
 ghost use Rattle.sab_run.specs.Searching.{IsFailureAfter, IsFailureOf, IsFileExplanation, IsSearchFailure};
@@ -10,7 +10,7 @@ ghost use Rattle.sab_run.specs.Searching.{IsFaultBy, RunsSearch, RunsSearchGiven
 
 use crate::failure::{Explanation, Failure};
 use crate::running::flush;
-use sab_automata_text::{MAX_FILE, Refusal};
+use sab_automata_reader::automata_text::{MAX_FILE, Refusal};
 use sab_command::{SearchForm, SearchJob};
 use sab_exit::Outcome;
 use sab_faults::ToolFault;

@@ -1,6 +1,6 @@
 -- What a search failed for, of the bytes that the reader had.
 use Rattle.std.proofs.Common.{◌≤◌, length, arith}
-use Rattle.sab_automata_text.specs.declared.limits.TheConstants.{MAX_FILE}
+use Rattle.sab_automata_reader.specs.declared.automata_text.limits.TheConstants.{MAX_FILE}
 use Rattle.sab_run.proofs.Searched.{failed_by}
 use Rattle.sab_run.proofs.searching.run_search.Goals as goal
 
