@@ -9,7 +9,7 @@ use Rattle.sab_automata.specs.declared.program.Timeouts.{Timeouts}
 use Rattle.sab_automata.specs.contracts.program.Timeouts.{the_type as timeouts_type}
 use Rattle.sab_automata.specs.contracts.program.TimeoutsPartialEq.TheImpl as timeouts
 use Rattle.sab_race.proofs.Equality.{same_share}
-use Rattle.sab_text.proofs.Equality.{same_report_form, same_verdict_format}
+use Rattle.sab_report_text.proofs.OfText.Equality.{same_report_form, same_verdict_format}
 use Rattle.sab_command.specs.declared.job.RunForm.{RunForm}
 use Rattle.sab_command.specs.declared.job.RunForm.TheVariants.{Report, Script}
 use Rattle.sab_command.specs.contracts.job.RunFormPartialEq.TheImpl as form

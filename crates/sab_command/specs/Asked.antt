@@ -9,12 +9,12 @@ use Rattle.sab_automata.specs.declared.program.Timeouts.TheVariants.{Early, Last
 use Rattle.sab_race.specs.declared.script_moves.TheConstants.{MAX_SPINS}
 use Rattle.sab_race.specs.declared.share.Share.{Share}
 use Rattle.sab_race.specs.declared.share.Share.TheVariants.{Lock, Ring}
-use Rattle.sab_text.specs.declared.format.Format.{Format}
-use Rattle.sab_text.specs.declared.format.Format.TheVariants as format
-use Rattle.sab_text.specs.declared.format.VerdictFormat.{VerdictFormat}
-use Rattle.sab_text.specs.declared.format.VerdictFormat.TheVariants as verdict
-use Rattle.sab_text.specs.declared.lines.Lines.{Lines}
-use Rattle.sab_text.specs.declared.lines.Lines.TheVariants.{All, Acts}
+use Rattle.sab_report_text.specs.declared.text.format.Format.{Format}
+use Rattle.sab_report_text.specs.declared.text.format.Format.TheVariants as format
+use Rattle.sab_report_text.specs.declared.text.format.VerdictFormat.{VerdictFormat}
+use Rattle.sab_report_text.specs.declared.text.format.VerdictFormat.TheVariants as verdict
+use Rattle.sab_report_text.specs.declared.text.lines.Lines.{Lines}
+use Rattle.sab_report_text.specs.declared.text.lines.Lines.TheVariants.{All, Acts}
 use Rattle.sab_command.specs.CommandLine.{Lists, command_line}
 use Rattle.sab_command.specs.Source.{Names}
 use Rattle.sab_command.specs.declared.job.Job.TheVariants.{Replay, Check, Judge}

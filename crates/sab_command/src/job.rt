@@ -2,7 +2,7 @@
 
 use sab_automata::Timeouts;
 use sab_race::Share;
-use sab_text::{ReportForm, VerdictFormat};
+use sab_report_text::text::{ReportForm, VerdictFormat};
 
 /// In which form a run is written.
 #[derive(Clone, Copy, Debug, PartialEq, Eq)]

@@ -14,7 +14,7 @@ use crate::request::{Request, Source, Task};
 use clap::{ArgMatches, Command, Error};
 use sab_automata::Timeouts;
 use sab_race::{MAX_SPINS, Share};
-use sab_text::{Format, Lines, ReportForm, VerdictFormat};
+use sab_report_text::text::{Format, Lines, ReportForm, VerdictFormat};
 use std::alloc::Global;
 use std::convert::AsStr;
 

@@ -1,7 +1,7 @@
 //! What the program is asked for, and of which input.
 
 use crate::job::{Job, RaceJob, SearchJob};
-use sab_text::VerdictFormat;
+use sab_report_text::text::VerdictFormat;
 
 /// What is to be done with the input.
 #[derive(Clone, Copy, Debug, PartialEq, Eq)]

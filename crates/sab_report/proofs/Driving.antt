@@ -14,9 +14,9 @@ use Rattle.sab_sim.proofs.ChangedLists.{slice_get-push}
 use Rattle.sab_explain.specs.Standing.{IsStanding, IsOnlyStanding}
 use Rattle.sab_plan.specs.declared.fact.Fact.{Fact}
 use Rattle.sab_plan.specs.declared.standing.Standing.{Standing}
-use Rattle.sab_text.proofs.Appending.{appends_both}
-use Rattle.sab_words.proofs.ChunkTexts.{appends_none, from_empty}
-use Rattle.sab_words.specs.FactFormat.{Texts, noted, sinces_after, no_sinces, entries_text, facts_text}
+use Rattle.sab_report_text.proofs.OfText.Appending.{appends_both}
+use Rattle.sab_report_text.proofs.OfWords.ChunkTexts.{appends_none, from_empty}
+use Rattle.sab_report_text.specs.Words.FactFormat.{Texts, noted, sinces_after, no_sinces, entries_text, facts_text}
 use Rattle.sab_report.specs.Facts.{IsTheFact, AreFacts, ReportsEntries, IsStandingOf, AreStandings, ReportsFacts}
 
 pub AreFacts-none : (plan : PlanParts) → AreFacts plan [] []

@@ -4,24 +4,24 @@ use Rattle.std.specs.Io.KnownBytes.{Appends}
 use Rattle.sab_plan.specs.declared.schedule.Move.{Move}
 use Rattle.sab_plan.specs.Plan.{PlanParts, IsPlan}
 use Rattle.sab_plan.specs.Report.{ReportParts}
-use Rattle.sab_text.specs.declared.lines.Lines.{Lines}
-use Rattle.sab_text.specs.Text.{text_by}
-use Rattle.sab_words.specs.Column.{column_of}
+use Rattle.sab_report_text.specs.declared.text.lines.Lines.{Lines}
+use Rattle.sab_report_text.specs.Text.Text.{text_by}
+use Rattle.sab_report_text.specs.Words.Column.{column_of}
 use Rattle.sab_plan.specs.declared.fact.Fact.{Fact}
 use Rattle.sab_plan.specs.declared.standing.Standing.{Standing}
 use Rattle.sab_report.specs.Facts.{ReportsBy}
-use Rattle.sab_words.specs.Explained.{explained_text}
+use Rattle.sab_report_text.specs.Words.Explained.{explained_text}
 use Rattle.sab_report.specs.Formats.{Explains}
-use Rattle.sab_words.proofs.Measuring.{has_room}
-use Rattle.sab_json.specs.SafeNumbers.{HasSafeNumbers}
+use Rattle.sab_report_text.proofs.OfWords.Measuring.{has_room}
+use Rattle.sab_report_text.specs.JsonLines.SafeNumbers.{HasSafeNumbers}
 use Rattle.sab_report.specs.Formats.{ExplainsAsJson}
-use Rattle.sab_json.specs.Lines.{json_text}
+use Rattle.sab_report_text.specs.JsonLines.Lines.{json_text}
 use Rattle.sab_svg.specs.Picture.{svg_text}
 use Rattle.sab_report.specs.Formats.{Draws}
 use Rattle.sab_script_runner.specs.Replay.{IsReplayOf}
 use Rattle.sab_script_runner.specs.Racing.{IsRaceOf}
-use Rattle.sab_text.specs.declared.format.Format.TheVariants.{Plain, Explained, Json, Svg}
-use Rattle.sab_text.specs.declared.format.ReportForm.{ReportForm}
+use Rattle.sab_report_text.specs.declared.text.format.Format.TheVariants.{Plain, Explained, Json, Svg}
+use Rattle.sab_report_text.specs.declared.text.format.ReportForm.{ReportForm}
 use Rattle.sab_report.specs.RunReport.{IsByFacts, WritesReport, ReportsMoves, IsColumnOf}
 use Rattle.sab_report.specs.Racing.{ReportsRace}
 

@@ -9,7 +9,7 @@ use Rattle.sab_plan.specs.Entry.{is_stuck}
 use Rattle.sab_explain.specs.Fact.{IsLast}
 use Rattle.sab_explain.specs.Explainer.{AreLast}
 use Rattle.sab_explain.proofs.LastOnes.{AreLast-push, IsLast-one, last_kept}
-use Rattle.sab_words.specs.FactFormat.{noted, sinces_after, no_sinces}
+use Rattle.sab_report_text.specs.Words.FactFormat.{noted, sinces_after, no_sinces}
 use Rattle.sab_report.specs.Facts.{NotesLast}
 
 length-noted : (last : List (Option ℕ)) (k : ℕ) (e : Entry) → length last ≡ MAX_AGENTS

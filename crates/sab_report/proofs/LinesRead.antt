@@ -20,16 +20,16 @@ use Rattle.sab_sim.specs.Fits.{Fits}
 use Rattle.sab_plan.specs.declared.fact.Fact.{Fact}
 use Rattle.sab_plan.specs.declared.standing.Standing.{Standing}
 use Rattle.sab_explain.specs.Fact.{IsFact}
-use Rattle.sab_text.specs.declared.lines.Lines.{Lines}
-use Rattle.sab_json.specs.CallData.{natural, call_data}
-use Rattle.sab_json.specs.FactData.{answer_in, why_in, place_data, found_data, entry_data}
-use Rattle.sab_json.specs.StandingData.{standing_data, agent_data}
-use Rattle.sab_json.specs.Lines.{block_data, json_texts}
-use Rattle.sab_json.specs.SafeNumbers.{HasSafeNumbers}
-use Rattle.sab_json.proofs.ReadingBack.{reads_back}
-use Rattle.sab_json.proofs.TreesRead.{entry_in_order, block_in_order, agent_in_order}
-use Rattle.sab_json.proofs.ShortNumbers.{HasShortNumbers, short_if}
-use Rattle.sab_json.proofs.ShortCalls.{All-at, does_short}
+use Rattle.sab_report_text.specs.declared.text.lines.Lines.{Lines}
+use Rattle.sab_report_text.specs.JsonLines.CallData.{natural, call_data}
+use Rattle.sab_report_text.specs.JsonLines.FactData.{answer_in, why_in, place_data, found_data, entry_data}
+use Rattle.sab_report_text.specs.JsonLines.StandingData.{standing_data, agent_data}
+use Rattle.sab_report_text.specs.JsonLines.Lines.{block_data, json_texts}
+use Rattle.sab_report_text.specs.JsonLines.SafeNumbers.{HasSafeNumbers}
+use Rattle.sab_report_text.proofs.OfJsonLines.ReadingBack.{reads_back}
+use Rattle.sab_report_text.proofs.OfJsonLines.TreesRead.{entry_in_order, block_in_order, agent_in_order}
+use Rattle.sab_report_text.proofs.OfJsonLines.ShortNumbers.{HasShortNumbers, short_if}
+use Rattle.sab_report_text.proofs.OfJsonLines.ShortCalls.{All-at, does_short}
 use Rattle.sab_report.specs.Facts.{IsStandingOf, ReportsFacts}
 use Rattle.sab_report.specs.Formats.{ExplainsAsJson}
 use Rattle.sab_report.specs.ReadsBack.{LinesReadBack}

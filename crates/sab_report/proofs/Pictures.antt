@@ -4,7 +4,7 @@ use Rattle.std.specs.Io.KnownBytes.{Appends}
 use Rattle.sab_plan.specs.declared.schedule.Move.{Move}
 use Rattle.sab_plan.specs.Plan.{PlanParts}
 use Rattle.sab_plan.specs.Report.{ReportParts}
-use Rattle.sab_words.specs.FactFormat.{facts_text}
+use Rattle.sab_report_text.specs.Words.FactFormat.{facts_text}
 use Rattle.sab_svg.specs.declared.shape.Shape.{Shape}
 use Rattle.sab_svg.specs.Shape.{shape_of}
 use Rattle.sab_svg.specs.Picture.{svg_text, svg_texts}

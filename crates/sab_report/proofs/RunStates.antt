@@ -30,7 +30,7 @@ use Rattle.sab_plan.specs.declared.waiter.Waiter.{Waiter}
 use Rattle.sab_object.specs.Object.{State, opening, bytes_of, is_at, waiters, without_first, DoesCall, Does}
 use Rattle.sab_plan.specs.Journal.{acts_of}
 use Rattle.sab_sim.specs.Run.{Run, Reaches}
-use Rattle.sab_json.proofs.ShortElements.{IsByte}
+use Rattle.sab_report_text.proofs.OfJsonLines.ShortElements.{IsByte}
 
 -- bytes are below 256, there are as many blocks as in the plan, and of the agents there are at most so many in the line
 pub record IsSound (plan : PlanParts) (n : ℕ) (S : State) : Type 0 where

@@ -22,12 +22,12 @@ use Rattle.sab_plan.specs.Entry.{is_act, is_stuck}
 use Rattle.sab_object.specs.Object.{State, bytes_of, opening, waiters, woken_count, DoesCall, Does}
 use Rattle.sab_plan.specs.Journal.{acts_of, track, Course, AtOnce, InLine, course, IsTrack}
 use Rattle.sab_sim.specs.Run.{Run, Reaches}
-use Rattle.sab_json.specs.CallData.{operand_data}
-use Rattle.sab_json.specs.FactData.{answer_data, answer_in}
-use Rattle.sab_json.specs.SafeNumbers.{IsSafeArgument, IsSafeCall, HasSafeNumbers}
-use Rattle.sab_json.proofs.ShortNumbers.{HasShortNumbers}
-use Rattle.sab_json.proofs.ShortCalls.{All-at, operand_short}
-use Rattle.sab_json.proofs.ShortElements.{element_short}
+use Rattle.sab_report_text.specs.JsonLines.CallData.{operand_data}
+use Rattle.sab_report_text.specs.JsonLines.FactData.{answer_data, answer_in}
+use Rattle.sab_report_text.specs.JsonLines.SafeNumbers.{IsSafeArgument, IsSafeCall, HasSafeNumbers}
+use Rattle.sab_report_text.proofs.OfJsonLines.ShortNumbers.{HasShortNumbers}
+use Rattle.sab_report_text.proofs.OfJsonLines.ShortCalls.{All-at, operand_short}
+use Rattle.sab_report_text.proofs.OfJsonLines.ShortElements.{element_short}
 use Rattle.sab_report.proofs.RunStates.{IsSound, block_bytes, length-waiters, Does-sound, opening_sound, few_acts}
 
 -- what is answered, where it is something, has short numbers

@@ -35,13 +35,13 @@ use Rattle.sab_plan.specs.declared.standing.At.TheVariants as T
 use Rattle.sab_plan.specs.declared.standing.Standing.{Standing}
 use Rattle.sab_explain.specs.Fact.{place_on, place_named, IsLast, value_in, found_by, IsOfAct, IsOfWoken, IsWaker, Finds}
 use Rattle.sab_explain.specs.Standing.{IsAt, by_last, what_at, notifies, entries_after, IsStanding}
-use Rattle.sab_json.specs.CallData.{natural, operand_data}
-use Rattle.sab_json.specs.FactData.{place_data, agent_items, found_data}
-use Rattle.sab_json.specs.StandingData.{notified_in, waker_in, standing_data}
-use Rattle.sab_json.specs.SafeNumbers.{HasSafeNumbers}
-use Rattle.sab_json.proofs.ShortNumbers.{HasShortNumbers, ItemsHaveShortNumbers, short_if}
-use Rattle.sab_json.proofs.ShortCalls.{All-at, call_short, call_safe}
-use Rattle.sab_json.proofs.ShortElements.{element_short}
+use Rattle.sab_report_text.specs.JsonLines.CallData.{natural, operand_data}
+use Rattle.sab_report_text.specs.JsonLines.FactData.{place_data, agent_items, found_data}
+use Rattle.sab_report_text.specs.JsonLines.StandingData.{notified_in, waker_in, standing_data}
+use Rattle.sab_report_text.specs.JsonLines.SafeNumbers.{HasSafeNumbers}
+use Rattle.sab_report_text.proofs.OfJsonLines.ShortNumbers.{HasShortNumbers, ItemsHaveShortNumbers, short_if}
+use Rattle.sab_report_text.proofs.OfJsonLines.ShortCalls.{All-at, call_short, call_safe}
+use Rattle.sab_report_text.proofs.OfJsonLines.ShortElements.{element_short}
 use Rattle.sab_report.proofs.RunStates.{block_bytes, length-waiters, Reaches-sound}
 
 -- ---- places

@@ -11,8 +11,8 @@ use Rattle.sab_plan.specs.Call.{function_of, view_of, index_of, arguments_of}
 use Rattle.sab_reader.specs.Script.Numbers as numbers
 use Rattle.sab_reader.specs.Script.Views.{SpellsName}
 use Rattle.sab_reader.specs.Script.Calls.{SpellsArgument, SpellsArguments, call_tree, SpellsCall}
-use Rattle.sab_words.specs.CallText.{name_of}
-use Rattle.sab_json.specs.CallData.{whole_data, operand_data, argument_data, argument_items, call_data}
+use Rattle.sab_report_text.specs.Words.CallText.{name_of}
+use Rattle.sab_report_text.specs.JsonLines.CallData.{whole_data, operand_data, argument_data, argument_items, call_data}
 use Rattle.sab_report.specs.Spelling.{IsReportedAsSpelled}
 
 operand_reported : (x : Operand) → numbers.operand_tree x ≡ operand_data x

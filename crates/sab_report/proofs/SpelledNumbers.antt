@@ -16,7 +16,7 @@ use Rattle.sab_reader.specs.Script.Views.{view_names}
 use Rattle.sab_reader.specs.Script.Agents.{SpellsScript}
 use Rattle.sab_reader.specs.Script.Setup.{SetupParts, Spells}
 use Rattle.sab_reader.proofs.OfScript.WholePlan.{makes_plan}
-use Rattle.sab_json.specs.SafeNumbers.{IsSafeArgument, IsSafeCall, HasSafeNumbers}
+use Rattle.sab_report_text.specs.JsonLines.SafeNumbers.{IsSafeArgument, IsSafeCall, HasSafeNumbers}
 
 -- the parts that are spelled make a plan
 pub spelled_plan : (d : Data) (setup : SetupParts) → Spells d setup → IsPlan setup.plan

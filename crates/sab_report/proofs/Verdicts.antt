@@ -10,7 +10,7 @@ use Rattle.sab_judge.specs.declared.race.Race.{Race}
 use Rattle.sab_judge.specs.Race.{HaveNoRace}
 use Rattle.sab_judge.specs.Verdict.{IsVerdict}
 use Rattle.sab_events.specs.Events.{events_of}
-use Rattle.sab_text.specs.declared.format.VerdictFormat.{VerdictFormat}
+use Rattle.sab_report_text.specs.declared.text.format.VerdictFormat.{VerdictFormat}
 use Rattle.sab_verdict.specs.Json.{call_side, judged_calls}
 use Rattle.sab_verdict.specs.ReadsBack.{LinesReadBack}
 use Rattle.sab_verdict.specs.Verdict.{run_verdict_text}

@@ -10,8 +10,8 @@ use Rattle.sab_reader.specs.declared.script.view_spec.ViewSpec.{ViewSpec}
 use Rattle.sab_reader.specs.Script.Reading.{SpellsEach}
 use Rattle.sab_reader.specs.Script.Views.{SpellsView, named_views, view_names}
 use Rattle.sab_reader.specs.Script.Setup.{SetupParts, Spells}
-use Rattle.sab_json.specs.CallData.{AreNames, is_name_byte}
-use Rattle.sab_words.specs.declared.name.TheConstants.Name.{MAX_LEN}
+use Rattle.sab_report_text.specs.JsonLines.CallData.{AreNames, is_name_byte}
+use Rattle.sab_report_text.specs.declared.words.name.TheConstants.Name.{MAX_LEN}
 
 -- a name that has room in a `Name`
 abbrev pub IsShort : List ℕ → Type 0

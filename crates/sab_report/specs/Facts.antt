@@ -12,7 +12,7 @@ use Rattle.sab_plan.specs.Report.{ReportParts}
 use Rattle.sab_script_runner.specs.Replay.{IsReplayOf}
 use Rattle.sab_explain.specs.Fact.{IsFact, IsOnlyFact, IsLast}
 use Rattle.sab_explain.specs.Standing.{IsStanding, IsOnlyStanding}
-use Rattle.sab_words.specs.FactFormat.{Texts, no_sinces, sinces_after, entries_text, facts_text}
+use Rattle.sab_report_text.specs.Words.FactFormat.{Texts, no_sinces, sinces_after, entries_text, facts_text}
 
 -- after any journal, what a format is given for each agent is the position of the agent's own last entry with an effect
 abbrev pub NotesLast : Type 0

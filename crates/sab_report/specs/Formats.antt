@@ -3,10 +3,10 @@ use Rattle.std.specs.Prelude.{ℕ, List, Option, length}
 use Rattle.sab_plan.specs.declared.schedule.Move.{Move}
 use Rattle.sab_plan.specs.Plan.{PlanParts, IsPlan}
 use Rattle.sab_plan.specs.Report.{ReportParts}
-use Rattle.sab_text.specs.declared.lines.Lines.{Lines}
-use Rattle.sab_words.specs.Explained.{words_texts}
-use Rattle.sab_json.specs.Lines.{json_texts}
-use Rattle.sab_json.specs.SafeNumbers.{HasSafeNumbers}
+use Rattle.sab_report_text.specs.declared.text.lines.Lines.{Lines}
+use Rattle.sab_report_text.specs.Words.Explained.{words_texts}
+use Rattle.sab_report_text.specs.JsonLines.Lines.{json_texts}
+use Rattle.sab_report_text.specs.JsonLines.SafeNumbers.{HasSafeNumbers}
 use Rattle.sab_xml.specs.WellFormed.{IsDocument}
 use Rattle.sab_svg.specs.Shape.{shape_of, HaveRoom}
 use Rattle.sab_svg.specs.Picture.{svg_text}

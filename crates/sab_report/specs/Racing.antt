@@ -6,7 +6,7 @@ use Rattle.sab_plan.specs.Report.{ReportParts}
 use Rattle.sab_faults.specs.declared.tool_fault.ToolFault.{ToolFault}
 use Rattle.sab_faults.specs.declared.tool_fault.ToolFault.TheVariants.{WriteFailed}
 use Rattle.sab_script_runner.specs.Racing.{IsRaceOf, IsUnraced}
-use Rattle.sab_text.specs.declared.format.ReportForm.{ReportForm}
+use Rattle.sab_report_text.specs.declared.text.format.ReportForm.{ReportForm}
 use Rattle.sab_report.specs.RunReport.{WritesReport}
 
 -- the report of a race of the plan was written

@@ -7,10 +7,10 @@ use Rattle.sab_plan.specs.declared.progress.Progress.{Progress}
 use Rattle.sab_plan.specs.Plan.{PlanParts}
 use Rattle.sab_plan.specs.Report.{ReportParts}
 use Rattle.sab_explain.specs.Fact.{IsFact}
-use Rattle.sab_json.specs.FactData.{entry_data}
-use Rattle.sab_json.specs.StandingData.{agent_data}
-use Rattle.sab_json.specs.Lines.{block_data}
-use Rattle.sab_json.specs.ReadsBack.{ReadsBack}
+use Rattle.sab_report_text.specs.JsonLines.FactData.{entry_data}
+use Rattle.sab_report_text.specs.JsonLines.StandingData.{agent_data}
+use Rattle.sab_report_text.specs.JsonLines.Lines.{block_data}
+use Rattle.sab_report_text.specs.JsonLines.ReadsBack.{ReadsBack}
 use Rattle.sab_report.specs.Facts.{IsStandingOf}
 
 -- each line of a report, without its line feed, is read as its tree: the line of each entry with its fact, of each

@@ -7,7 +7,7 @@ use Rattle.sab_reader.specs.Script.Script.{IsScriptOf}
 use Rattle.sab_script_runner.specs.Replay.{IsReportOf}
 use Rattle.sab_script_runner.specs.Racing.{IsRaceOf}
 use Rattle.sab_script_runner.specs.declared.ended.Ended.{Ended}
-use Rattle.sab_text.specs.declared.format.ReportForm.{ReportForm}
+use Rattle.sab_report_text.specs.declared.text.format.ReportForm.{ReportForm}
 use Rattle.sab_script_runner.specs.Ended.{ended_of}
 use Rattle.sab_report.specs.RunReport.{WritesReport}
 

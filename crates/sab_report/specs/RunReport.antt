@@ -6,12 +6,12 @@ use Rattle.sab_plan.specs.Plan.{PlanParts}
 use Rattle.sab_plan.specs.Report.{ReportParts}
 use Rattle.sab_plan.specs.declared.fact.Fact.{Fact}
 use Rattle.sab_plan.specs.declared.standing.Standing.{Standing}
-use Rattle.sab_text.specs.declared.lines.Lines.{Lines}
-use Rattle.sab_text.specs.Text.{text_by}
-use Rattle.sab_words.specs.Column.{column_of, HasRoom}
+use Rattle.sab_report_text.specs.declared.text.lines.Lines.{Lines}
+use Rattle.sab_report_text.specs.Text.Text.{text_by}
+use Rattle.sab_report_text.specs.Words.Column.{column_of, HasRoom}
 use Rattle.sab_report.specs.Facts.{AreFacts, AreStandings}
-use Rattle.sab_words.specs.Explained.{explained_text}
-use Rattle.sab_json.specs.Lines.{json_text}
+use Rattle.sab_report_text.specs.Words.Explained.{explained_text}
+use Rattle.sab_report_text.specs.JsonLines.Lines.{json_text}
 use Rattle.sab_report.specs.ReadsBack.{LinesReadBack}
 use Rattle.sab_xml.specs.WellFormed.{IsDocument}
 use Rattle.sab_svg.specs.Shape.{shape_of, HaveRoom}
@@ -19,9 +19,9 @@ use Rattle.sab_svg.specs.Picture.{svg_text}
 use Rattle.sab_faults.specs.declared.tool_fault.ToolFault.{ToolFault}
 use Rattle.sab_faults.specs.declared.tool_fault.ToolFault.TheVariants.{OutOfMemory, WriteFailed}
 use Rattle.sab_script_runner.specs.Replay.{IsReplayOf}
-use Rattle.sab_text.specs.declared.format.Format.{Format}
-use Rattle.sab_text.specs.declared.format.Format.TheVariants.{Plain, Explained, Json, Svg}
-use Rattle.sab_text.specs.declared.format.ReportForm.{ReportForm}
+use Rattle.sab_report_text.specs.declared.text.format.Format.{Format}
+use Rattle.sab_report_text.specs.declared.text.format.Format.TheVariants.{Plain, Explained, Json, Svg}
+use Rattle.sab_report_text.specs.declared.text.format.ReportForm.{ReportForm}
 
 -- the facts of the report's entries and where its agents stand in the end make this text
 pub record IsByFacts (text_of : List Fact → List (Option Standing) → List ℕ) (plan : PlanParts) (report : ReportParts)

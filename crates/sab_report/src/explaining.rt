@@ -2,9 +2,9 @@
 
 ghost use Rattle.std.specs.Prelude.{IfOk, IfErr};
 ghost use Rattle.sab_plan.specs.Plan.{IsPlan};
-ghost use Rattle.sab_words.specs.Column.{column_of};
+ghost use Rattle.sab_report_text.specs.Words.Column.{column_of};
 ghost use Rattle.sab_report.specs.Formats.{Explains};
-ghost use Rattle.sab_json.specs.CallData.{AreNames};
+ghost use Rattle.sab_report_text.specs.JsonLines.CallData.{AreNames};
 ghost use Rattle.sab_report.specs.Formats.{ExplainsAsJson};
 ghost use Rattle.sab_report.specs.Formats.{Draws};
 ghost use Rattle.sab_report.specs.Driver.{AreMovesOf};
@@ -12,12 +12,12 @@ ghost use Rattle.sab_report.specs.RunReport.{IsColumnOf, IsReportingFault};
 
 use crate::driver::report_facts;
 use sab_faults::ToolFault;
-use sab_json::Json;
+use sab_report_text::json_lines::Json;
+use sab_report_text::text::Lines;
+use sab_report_text::words::{Column, Layout, Name, Words};
 use sab_script_runner::replay_moves;
 use sab_sim::{Move, Plan, Report};
 use sab_svg::Picture;
-use sab_text::Lines;
-use sab_words::{Column, Layout, Name, Words};
 use std::alloc::{AllocError, Global};
 use std::io::Write;
 

@@ -3,8 +3,8 @@
 ghost use Rattle.std.specs.Prelude.{IfOk, IfErr};
 ghost use Rattle.sab_plan.specs.Plan.{IsPlan};
 ghost use Rattle.sab_sim.specs.Fits.{Fits};
-ghost use Rattle.sab_json.specs.CallData.{AreNames};
-ghost use Rattle.sab_json.specs.SafeNumbers.{HasSafeNumbers};
+ghost use Rattle.sab_report_text.specs.JsonLines.CallData.{AreNames};
+ghost use Rattle.sab_report_text.specs.JsonLines.SafeNumbers.{HasSafeNumbers};
 ghost use Rattle.sab_report.specs.RunReport.{IsReportingFault};
 ghost use Rattle.sab_report.specs.Judging.{IsJudgeFault, JudgesAs, ReportsVerdict};
 
@@ -13,11 +13,11 @@ use crate::ordinary::has_ordinary;
 use sab_events::trace_of;
 use sab_faults::ToolFault;
 use sab_judge::judge;
+use sab_report_text::text::VerdictFormat;
+use sab_report_text::words::Name;
 use sab_script_runner::{Ended, replay_moves, setup_of};
 use sab_sim::{Plan, Report};
-use sab_text::VerdictFormat;
 use sab_verdict::write_run_verdict;
-use sab_words::Name;
 use std::alloc::Global;
 use std::io::Write;
 

@@ -16,5 +16,5 @@ pub use judging::{Judged, MAX_REPORTED, judge_as};
 pub use laws::{calls_are_reported_as_spelled, the_last_entry_of_an_agent_is_noted};
 pub use racing::{RaceOptions, race_as};
 pub use replaying::replay_as;
+pub use sab_report_text::text::{Format, Lines, ReportForm, VerdictFormat};
 pub use sab_script_runner::Ended;
-pub use sab_text::{Format, Lines, ReportForm, VerdictFormat};

@@ -2,20 +2,20 @@
 
 ghost use Rattle.std.specs.Prelude.{IfOk, IfErr};
 ghost use Rattle.std.specs.Io.KnownBytes.{Appends};
-ghost use Rattle.sab_text.specs.Text.{text_by};
+ghost use Rattle.sab_report_text.specs.Text.Text.{text_by};
 ghost use Rattle.sab_plan.specs.Plan.{IsPlan};
-ghost use Rattle.sab_json.specs.CallData.{AreNames};
-ghost use Rattle.sab_json.specs.SafeNumbers.{HasSafeNumbers};
+ghost use Rattle.sab_report_text.specs.JsonLines.CallData.{AreNames};
+ghost use Rattle.sab_report_text.specs.JsonLines.SafeNumbers.{HasSafeNumbers};
 ghost use Rattle.sab_script_runner.specs.Replay.{IsReplayOf};
 ghost use Rattle.sab_report.specs.Driver.{AreMovesOf};
 ghost use Rattle.sab_report.specs.RunReport.{ReportsMoves, IsReportingFault};
 
 use crate::explaining::{draw, explain, explain_as_json};
 use sab_faults::ToolFault;
+use sab_report_text::text::{Format, Lines, ReportForm, write_plain};
+use sab_report_text::words::Name;
 use sab_script_runner::replay_moves;
 use sab_sim::{Move, Plan, Report};
-use sab_text::{Format, Lines, ReportForm, write_plain};
-use sab_words::Name;
 use std::alloc::Global;
 use std::io::Write;
 

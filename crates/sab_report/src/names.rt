@@ -4,7 +4,7 @@ ghost use Rattle.std.specs.Prelude.{◌≡◌, ◌≤◌, length, All, IfOk};
 ghost use Rattle.sab_reader.specs.Script.Views.{view_names};
 
 use sab_reader::script::Setup;
-use sab_words::Name;
+use sab_report_text::words::Name;
 use std::alloc::{AllocError, Global};
 
 /// The names of a setup's views, in order.

@@ -4,7 +4,7 @@ ghost use Rattle.std.specs.Prelude.{◌≡◌};
 ghost use Rattle.std.specs.List.{list_any};
 ghost use Rattle.sab_report.specs.Ordinary.{is_ordinary_name};
 
-use sab_words::Name;
+use sab_report_text::words::Name;
 
 /// How the names begin of the views by which a script has ordinary writes.
 const OF_WRITES: &str = "ordinary_";

@@ -2,10 +2,10 @@
 
 ghost use Rattle.std.specs.Prelude.{◌≤◌, IfOk, IfErr};
 ghost use Rattle.std.specs.Io.KnownBytes.{Appends};
-ghost use Rattle.sab_text.specs.Text.{text_by};
+ghost use Rattle.sab_report_text.specs.Text.Text.{text_by};
 ghost use Rattle.sab_plan.specs.Plan.{IsPlan};
-ghost use Rattle.sab_json.specs.CallData.{AreNames};
-ghost use Rattle.sab_json.specs.SafeNumbers.{HasSafeNumbers};
+ghost use Rattle.sab_report_text.specs.JsonLines.CallData.{AreNames};
+ghost use Rattle.sab_report_text.specs.JsonLines.SafeNumbers.{HasSafeNumbers};
 ghost use Rattle.sab_script_runner.specs.Racing.{IsRaceOf, IsRaceFault};
 ghost use Rattle.sab_report.specs.Racing.{ReportsRace, IsRaceReportingFault};
 ghost use Rattle.sab_report.specs.Reporting.{RacesAs};
@@ -13,10 +13,10 @@ ghost use Rattle.sab_report.specs.Reporting.{RacesAs};
 use crate::moves::report_moves;
 use crate::names::names_of;
 use sab_faults::ToolFault;
+use sab_report_text::text::{Format, Lines, ReportForm, write_plain};
+use sab_report_text::words::Name;
 use sab_script_runner::{Ended, MAX_SPINS, Share, race_plan, setup_of};
 use sab_sim::{Plan, Report};
-use sab_text::{Format, Lines, ReportForm, write_plain};
-use sab_words::Name;
 use std::alloc::Global;
 use std::io::Write;
 use std::sync::Wait;

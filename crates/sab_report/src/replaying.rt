@@ -7,8 +7,8 @@ ghost use Rattle.sab_report.specs.Reporting.{ReplaysAs};
 use crate::moves::report_moves;
 use crate::names::names_of;
 use sab_faults::ToolFault;
+use sab_report_text::text::ReportForm;
 use sab_script_runner::{Ended, setup_of};
-use sab_text::ReportForm;
 use std::alloc::Global;
 use std::io::Write;
 

@@ -12,8 +12,8 @@ use Rattle.sab_faults.specs.declared.tool_fault.ToolFault.TheVariants.{WriteFail
 use Rattle.sab_run.specs.Racing.{RacesIn, IsFaultOfRace}
 use Rattle.sab_run.specs.Running.{ReplaysIn, IsFaultOfReplay}
 use Rattle.sab_script_runner.specs.declared.ended.Ended.{Ended}
-use Rattle.sab_text.specs.declared.format.ReportForm.{ReportForm}
-use Rattle.sab_text.specs.declared.format.VerdictFormat.{VerdictFormat}
+use Rattle.sab_report_text.specs.declared.text.format.ReportForm.{ReportForm}
+use Rattle.sab_report_text.specs.declared.text.format.VerdictFormat.{VerdictFormat}
 use Rattle.sab_report.specs.RunReport.{WritesReport}
 use Rattle.sab_report.specs.declared.judging.Judged.{Judged}
 use Rattle.sab_report.specs.Judging.{JudgesAs, IsJudgeFault}

@@ -7,7 +7,7 @@ use Rattle.sab_judge.specs.declared.race.Race.{Race}
 use Rattle.sab_judge.specs.Race.{HaveNoRace}
 use Rattle.sab_judge.specs.Verdict.{IsVerdict}
 use Rattle.sab_trace.specs.Reading.{SpellsTrace}
-use Rattle.sab_text.specs.declared.format.VerdictFormat.{VerdictFormat}
+use Rattle.sab_report_text.specs.declared.text.format.VerdictFormat.{VerdictFormat}
 use Rattle.sab_verdict.specs.Json.{access_side, judged_trace}
 use Rattle.sab_verdict.specs.ReadsBack.{LinesReadBack}
 use Rattle.sab_verdict.specs.Verdict.{trace_verdict_text}

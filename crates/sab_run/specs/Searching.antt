@@ -8,7 +8,7 @@ use Rattle.sab_automata_reader.specs.declared.automata_text.limits.TheConstants.
 use Rattle.sab_automata_reader.specs.declared.automata_text.faults.Refusal.{Refusal}
 use Rattle.sab_automata_reader.specs.AutomataText.Faults.{refusal_number}
 use Rattle.sab_automata_reader.specs.AutomataText.FaultTexts.{refusal_text}
-use Rattle.sab_text.specs.declared.format.VerdictFormat.{VerdictFormat}
+use Rattle.sab_report_text.specs.declared.text.format.VerdictFormat.{VerdictFormat}
 use Rattle.sab_search.specs.declared.asked.SearchAsked.{SearchAsked}
 use Rattle.sab_search.specs.declared.ending.SearchEnd.{SearchEnd}
 use Rattle.sab_search.specs.declared.ending.SearchEnd.TheVariants as E

@@ -9,7 +9,7 @@ use Rattle.sab_trace.specs.declared.refusal.Refusal.{Refusal}
 use Rattle.sab_trace.specs.declared.line_fault.LineFault.{LineFault}
 use Rattle.sab_trace.specs.declared.line_fault.LineFault.TheVariants as L
 use Rattle.sab_trace.specs.Reading.{SpellsTrace, IsRefusedBy}
-use Rattle.sab_text.specs.declared.format.VerdictFormat.{VerdictFormat}
+use Rattle.sab_report_text.specs.declared.text.format.VerdictFormat.{VerdictFormat}
 use Rattle.sab_verdict.specs.Json.{access_side, judged_trace}
 use Rattle.sab_verdict.specs.ReadsBack.{LinesReadBack}
 use Rattle.sab_verdict.specs.Verdict.{trace_verdict_text}

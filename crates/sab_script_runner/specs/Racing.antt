@@ -10,7 +10,7 @@ use Rattle.sab_faults.specs.declared.tool_fault.ToolFault.{ToolFault}
 use Rattle.sab_faults.specs.declared.tool_fault.ToolFault.TheVariants.{OutOfMemory, TooManyMoves, NoThread, WriteFailed}
 use Rattle.sab_reader.specs.Script.Setup.{SetupParts}
 use Rattle.sab_script_runner.specs.Replay.{IsScriptOf, IsRefused}
-use Rattle.sab_text.specs.Text.{text}
+use Rattle.sab_report_text.specs.Text.Text.{text}
 use Rattle.sab_sim.specs.declared.sim.TheConstants.Sim.{MAX_ENTRIES}
 -- how many steps an agent can make at a wait, for the crates above
 pub use Rattle.sab_race.specs.declared.script_moves.TheConstants.{MAX_SPINS}

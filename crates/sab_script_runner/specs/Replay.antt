@@ -14,7 +14,7 @@ use Rattle.sab_reader.specs.Script.Setup.{SetupParts, Spells}
 use Rattle.sab_reader.specs.Script.Truth.{IsTrueFault}
 -- scripts as bytes, for the crates above
 pub use Rattle.sab_reader.specs.Script.Script.{ReadsAs, IsScriptOf}
-use Rattle.sab_text.specs.Text.{text}
+use Rattle.sab_report_text.specs.Text.Text.{text}
 
 -- the script reads as a tree that spells no setup, and the fault is that of a refusal which is true of the tree
 pub record IsRefusedFor (fault : ReadFault) (script : List ℕ) : Type 0 where

@@ -6,7 +6,7 @@ use Rattle.sab_plan.specs.Plan.{PlanParts}
 use Rattle.sab_plan.specs.Report.{ReportParts}
 use Rattle.sab_plan.specs.declared.fact.Fact.{Fact}
 use Rattle.sab_plan.specs.declared.standing.Standing.{Standing}
-use Rattle.sab_words.specs.FactFormat.{noted, no_sinces, entries_text, facts_text}
+use Rattle.sab_report_text.specs.Words.FactFormat.{noted, no_sinces, entries_text, facts_text}
 use Rattle.sab_xml.specs.Xml.{Node, element, Attributes, attributes_text, nodes, nodes_text, node_text}
 use Rattle.sab_xml.proofs.Texts.{nodes_text_both}
 use Rattle.sab_svg.specs.declared.shape.Shape.{Shape}

@@ -2,8 +2,8 @@
 use Rattle.std.proofs.Common.{◌≡◌, ℕ, ◌*◌, List, [], ◌∷◌, ◌++◌, length, take, refl, ap, ◌∙◌, arith, append_assoc, append-nil}
 use Rattle.std.specs.Prelude.{codes, decimal, flat_map}
 use Rattle.sab_plan.specs.declared.standing.Standing.{Standing}
-use Rattle.sab_text.specs.Text.{hex_byte}
-use Rattle.sab_words.specs.Explained.{standing_words}
+use Rattle.sab_report_text.specs.Text.Text.{hex_byte}
+use Rattle.sab_report_text.specs.Words.Explained.{standing_words}
 use Rattle.sab_xml.specs.Xml.{nodes, node_text, nodes_text}
 use Rattle.sab_xml.proofs.Texts.{nodes_text_both}
 use Rattle.sab_svg.specs.declared.shape.Shape.{Shape}

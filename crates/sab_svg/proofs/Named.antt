@@ -15,9 +15,9 @@ use Rattle.sab_plan.specs.Fact.{woken_in}
 use Rattle.sab_plan.specs.declared.standing.At.{At}
 use Rattle.sab_plan.specs.declared.standing.At.TheVariants as A
 use Rattle.sab_plan.specs.declared.standing.Standing.{Standing}
-use Rattle.sab_words.specs.FactText.{is_same, fact_words}
-use Rattle.sab_words.specs.Explained.{standing_words}
-use Rattle.sab_words.specs.FactFormat.{noted, no_sinces}
+use Rattle.sab_report_text.specs.Words.FactText.{is_same, fact_words}
+use Rattle.sab_report_text.specs.Words.Explained.{standing_words}
+use Rattle.sab_report_text.specs.Words.FactFormat.{noted, no_sinces}
 use Rattle.sab_xml.specs.Xml.{Node, nodes}
 use Rattle.sab_xml.specs.WellFormed.{attribute_names, AreAttributeNames, IsNamed, AreNamed, IsDocument}
 use Rattle.sab_xml.proofs.Names.{name_tested, attribute_names_tested, node_tested, nodes_tested}

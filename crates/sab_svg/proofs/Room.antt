@@ -5,7 +5,7 @@ use Rattle.std.proofs.lemmas.List.Elements.{All-nil, All-cons}
 use Rattle.sab_plan.specs.declared.call.Call.{Call}
 use Rattle.sab_plan.specs.Script.{ScriptParts}
 use Rattle.sab_plan.specs.Plan.{PlanParts}
-use Rattle.sab_words.specs.CallText.{call_text}
+use Rattle.sab_report_text.specs.Words.CallText.{call_text}
 use Rattle.sab_svg.specs.Shape.{greatest, longest_in, longest_call, value_chars, lane_width, shape_of, HaveRoom}
 
 -- what holds of everything with a number up to a bound holds of each element, where the greatest is within the bound

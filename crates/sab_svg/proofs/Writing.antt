@@ -5,8 +5,8 @@ use Rattle.std.proofs.lemmas.List.{drop_more}
 use Rattle.std.specs.Io.KnownBytes.{Appends, Keeps, append_known}
 use Rattle.sab_plan.specs.Report.{items_of_each}
 use Rattle.sab_plan.specs.declared.standing.Standing.{Standing}
-use Rattle.sab_text.proofs.Appending.{left_written, appends_last}
-use Rattle.sab_words.proofs.ChunkTexts.{room_then}
+use Rattle.sab_report_text.proofs.OfText.Appending.{left_written, appends_last}
+use Rattle.sab_report_text.proofs.OfWords.ChunkTexts.{room_then}
 use Rattle.sab_xml.specs.Xml.{nodes, nodes_text}
 use Rattle.sab_xml.proofs.Texts.{nodes_text_both}
 use Rattle.sab_svg.specs.declared.shape.Shape.{Shape}

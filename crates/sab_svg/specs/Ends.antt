@@ -3,8 +3,8 @@ use Rattle.std.specs.Prelude.{ℕ, zero, suc, ◌+◌, ◌-◌, nat_lt, if◌the
 use Rattle.sab_plan.specs.declared.standing.At.{At}
 use Rattle.sab_plan.specs.declared.standing.At.TheVariants as A
 use Rattle.sab_plan.specs.declared.standing.Standing.{Standing}
-use Rattle.sab_text.specs.Text.{field, hex_byte}
-use Rattle.sab_words.specs.Explained.{standing_words}
+use Rattle.sab_report_text.specs.Text.Text.{field, hex_byte}
+use Rattle.sab_report_text.specs.Words.Explained.{standing_words}
 use Rattle.sab_xml.specs.Xml.{Node}
 use Rattle.sab_svg.specs.declared.shape.Shape.{Shape}
 use Rattle.sab_svg.specs.Shape.{lane_x, label_x, row_middle, row_text, rows_end}

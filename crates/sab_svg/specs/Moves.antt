@@ -13,10 +13,10 @@ use Rattle.sab_plan.specs.declared.fact.Fact.{Fact}
 use Rattle.sab_plan.specs.declared.fact.Found.{Found}
 use Rattle.sab_plan.specs.declared.fact.Found.TheVariants as F
 use Rattle.sab_plan.specs.Fact.{woken_in}
-use Rattle.sab_text.specs.Text.{operand_text, answer_text, why_text}
-use Rattle.sab_words.specs.CallText.{call_text, element_text}
-use Rattle.sab_words.specs.FactText.{is_same, fact_words}
-use Rattle.sab_words.specs.FactFormat.{noted}
+use Rattle.sab_report_text.specs.Text.Text.{operand_text, answer_text, why_text}
+use Rattle.sab_report_text.specs.Words.CallText.{call_text, element_text}
+use Rattle.sab_report_text.specs.Words.FactText.{is_same, fact_words}
+use Rattle.sab_report_text.specs.Words.FactFormat.{noted}
 use Rattle.sab_xml.specs.Xml.{Node}
 use Rattle.sab_svg.specs.declared.shape.Shape.{Shape}
 use Rattle.sab_svg.specs.Shape.{lane_x, label_x, change_x, row_top, row_middle, row_text}

@@ -6,7 +6,7 @@ use Rattle.sab_block.specs.View.{kind_of}
 use Rattle.sab_plan.specs.declared.plan_view.PlanView.{PlanView}
 use Rattle.sab_plan.specs.Script.{ScriptParts}
 use Rattle.sab_plan.specs.Plan.{PlanParts}
-use Rattle.sab_words.specs.CallText.{call_text}
+use Rattle.sab_report_text.specs.Words.CallText.{call_text}
 use Rattle.sab_svg.specs.declared.shape.Shape.{Shape}
 
 -- the greatest of these numbers

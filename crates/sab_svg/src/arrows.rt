@@ -10,7 +10,7 @@ use crate::measuring::CHAR_WIDTH;
 use crate::pieces::{LINE_LEN, push_across};
 use crate::shape::{Shape, row_middle};
 use sab_plan::{Entry, Found, Plan, What};
-use sab_text::Chunk;
+use sab_report_text::text::Chunk;
 
 /// From the end of a text to an arrow's start.
 const TEXT_GAP: u64 = 4;

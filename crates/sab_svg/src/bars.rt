@@ -7,7 +7,7 @@ ghost use Rattle.sab_svg.specs.Moves.{call_since, wait_since, bars_of};
 use crate::pieces::{RECTANGLE_LEN, push_call_bar, push_wait_bar};
 use crate::shape::{Shape, row_middle, row_top};
 use sab_plan::What;
-use sab_text::Chunk;
+use sab_report_text::text::Chunk;
 
 /// From the upper edge of a row to the start of a call.
 const BEGIN_SHIFT: u64 = 3;

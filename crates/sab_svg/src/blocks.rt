@@ -3,14 +3,14 @@
 ghost use Rattle.std.specs.Prelude.{◌≡◌, ◌+◌, ◌<◌, ◌≤◌, ◌^◌, ◌*◌, ◌++◌, length, take, flat_map, OnOk};
 ghost use Rattle.std.specs.Io.KnownBytes.{Appends, append_known};
 ghost use Rattle.sab_plan.specs.Report.{items_of_each};
-ghost use Rattle.sab_text.specs.Text.{hex_byte};
+ghost use Rattle.sab_report_text.specs.Text.Text.{hex_byte};
 ghost use Rattle.sab_xml.specs.Xml.{nodes, nodes_text};
 ghost use Rattle.sab_svg.specs.Ends.{block_line, block_text, more_text, drawn_blocks};
 
 use crate::class::Class;
 use crate::pieces::{LABEL_LEN, push_label};
 use crate::shape::{Shape, row_text};
-use sab_text::Chunk;
+use sab_report_text::text::Chunk;
 use std::io;
 use std::io::Write;
 
@@ -30,7 +30,7 @@ const TEXT_LEN: usize = 27 + 2 * SHOWN + MORE_LEN;
 const BLOCK_LEN: usize = LABEL_LEN + 8 * TEXT_LEN + 1;
 
 /// Writes a line for each block of the picture; the last may stay in the chunk. What the scratch held is lost.
-#[tactic(auto, using(sab_text::proofs::Appending::all_left, sab_text::proofs::Appending::none_left, crate::proofs::Writing::blocks_after))]
+#[tactic(auto, using(sab_report_text::proofs::OfText::Appending::all_left, sab_report_text::proofs::OfText::Appending::none_left, crate::proofs::Writing::blocks_after))]
 pub(crate) fn write_blocks<W: Write>(
     shape: Shape,
     blocks: &[Vec<u8>],

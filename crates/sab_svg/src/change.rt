@@ -9,8 +9,8 @@ use crate::pieces::{LABEL_END, LABEL_LEN, open_label};
 use crate::shape::{Shape, row_text};
 use sab_block::Operand;
 use sab_plan::{Call, Found};
-use sab_text::Chunk;
-use sab_words::{ELEMENT_LEN, Name, is_same, push_element};
+use sab_report_text::text::Chunk;
+use sab_report_text::words::{ELEMENT_LEN, Name, is_same, push_element};
 use sab_xml::push_escaped;
 
 /// What stands between the element before and after: an arrow, by its reference.

@@ -8,8 +8,8 @@ ghost use Rattle.sab_svg.specs.Moves.{answered_text, answered_class, calls_text,
 use crate::class::Class;
 use crate::pieces::{LABEL_LEN, push_label};
 use sab_plan::{Answer, Call, What, Why};
-use sab_text::{Chunk, Line, prepend_answer, prepend_why};
-use sab_words::{CALL_LEN, Name, push_call};
+use sab_report_text::text::{Chunk, Line, prepend_answer, prepend_why};
+use sab_report_text::words::{CALL_LEN, Name, push_call};
 
 /// The most bytes of an answer, with what stands before it.
 pub(crate) const ANSWERED_LEN: usize = 48;

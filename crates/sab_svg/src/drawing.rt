@@ -10,7 +10,7 @@ use crate::frame::{
     push_root,
 };
 use crate::shape::Shape;
-use sab_text::Chunk;
+use sab_report_text::text::Chunk;
 use std::io;
 use std::io::Write;
 
@@ -36,7 +36,7 @@ pub(crate) fn write_start<W: Write>(
 }
 
 /// Writes the lane of each agent; the last may stay in the chunk. What the scratch held is lost.
-#[tactic(auto, using(sab_text::proofs::Appending::all_left, sab_text::proofs::Appending::none_left, crate::proofs::Writing::lanes_after))]
+#[tactic(auto, using(sab_report_text::proofs::OfText::Appending::all_left, sab_report_text::proofs::OfText::Appending::none_left, crate::proofs::Writing::lanes_after))]
 fn write_lanes<W: Write>(
     shape: Shape,
     scratch: &mut Chunk,

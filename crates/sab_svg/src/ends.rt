@@ -14,8 +14,8 @@ use crate::pieces::{
 };
 use crate::shape::{Shape, row_middle, row_text};
 use sab_plan::{At, Standing};
-use sab_text::Chunk;
-use sab_words::{Name, STANDING_LEN, push_standing_words, standing_at};
+use sab_report_text::text::Chunk;
+use sab_report_text::words::{Name, STANDING_LEN, push_standing_words, standing_at};
 use std::io;
 use std::io::Write;
 
@@ -31,7 +31,7 @@ const END_LEN: usize = GROUP_LEN
     + 5;
 
 /// Writes where each agent stands that isn't done; the last may stay in the chunk. What the scratch held is lost.
-#[tactic(auto, using(sab_text::proofs::Appending::all_left, sab_text::proofs::Appending::none_left, crate::proofs::Writing::ends_after))]
+#[tactic(auto, using(sab_report_text::proofs::OfText::Appending::all_left, sab_report_text::proofs::OfText::Appending::none_left, crate::proofs::Writing::ends_after))]
 pub(crate) fn write_ends<W: Write>(
     names: &[Name],
     shape: Shape,

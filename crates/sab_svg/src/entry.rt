@@ -16,8 +16,8 @@ use crate::pieces::{
 };
 use crate::shape::{Shape, row_text};
 use sab_plan::{Entry, Explained, Fact, Plan};
-use sab_text::Chunk;
-use sab_words::{Name, WORDS_LEN, push_words};
+use sab_report_text::text::Chunk;
+use sab_report_text::words::{Name, WORDS_LEN, push_words};
 
 /// Where the numbers of rows end: one of 7 digits has room.
 const NUMBERS_END: u64 = 48;

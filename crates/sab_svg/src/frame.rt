@@ -12,7 +12,7 @@ use crate::pieces::{
     push_rectangle, push_title,
 };
 use crate::shape::{ROW_HEIGHT, ROWS_TOP, Shape, row_middle, row_text, row_top};
-use sab_text::Chunk;
+use sab_report_text::text::Chunk;
 use sab_xml::push_escaped;
 
 /// What a pointer shows over the whole picture.

@@ -1,13 +1,13 @@
 //! The measures of a picture, by what it has to show.
 
 ghost use Rattle.std.specs.Prelude.{◌≡◌, ◌≤◌, length, map};
-ghost use Rattle.sab_words.specs.CallText.{call_text};
+ghost use Rattle.sab_report_text.specs.Words.CallText.{call_text};
 ghost use Rattle.sab_svg.specs.Shape.{greatest, longest_in, longest_name, has_big, value_chars, shape_of};
 
 use crate::shape::Shape;
 use sab_plan::{Call, Plan, Script};
-use sab_text::Chunk;
-use sab_words::{CALL_LEN, Name, push_call};
+use sab_report_text::text::Chunk;
+use sab_report_text::words::{CALL_LEN, Name, push_call};
 
 /// How wide a character is.
 pub(crate) const CHAR_WIDTH: u32 = 8;

@@ -9,8 +9,8 @@ use crate::ends::write_ends;
 use crate::entry::{ENTRY_ROOM, push_entry};
 use crate::shape::Shape;
 use sab_plan::{Explained, Plan, Report, Standing};
-use sab_text::Chunk;
-use sab_words::{FactFormat, Name};
+use sab_report_text::text::Chunk;
+use sab_report_text::words::{FactFormat, Name};
 use std::io;
 use std::io::Write;
 
@@ -47,7 +47,7 @@ impl FactFormat for Picture<'_> {
         write_start(self.shape, &mut self.scratch, chunk, w)
     }
 
-    #[tactic(auto, using(sab_words::proofs::ChunkTexts::room_then))]
+    #[tactic(auto, using(sab_report_text::proofs::OfWords::ChunkTexts::room_then))]
     fn write_entry<W: Write>(
         &mut self,
         plan: &Plan,
@@ -65,7 +65,7 @@ impl FactFormat for Picture<'_> {
         Ok(())
     }
 
-    #[tactic(auto, using(sab_text::proofs::Appending::appends_both, sab_text::proofs::Appending::appends_last))]
+    #[tactic(auto, using(sab_report_text::proofs::OfText::Appending::appends_both, sab_report_text::proofs::OfText::Appending::appends_last))]
     fn write_end<W: Write>(
         &mut self,
         report: &Report,

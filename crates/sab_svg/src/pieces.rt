@@ -6,7 +6,7 @@ ghost use Rattle.sab_svg.specs.Pieces.{class_text, label, label_start, rectangle
 ghost use Rattle.sab_svg.specs.Pieces.{open_wait_bar, across, down, line_start, title, agent_words, group_start};
 
 use crate::class::Class;
-use sab_text::Chunk;
+use sab_report_text::text::Chunk;
 use sab_xml::push_escaped;
 
 /// The most bytes of a label before what it says: a class and two numbers.

@@ -19,11 +19,11 @@ use Rattle.sab_judge.specs.Event.{idle_event, event_at, agent_at}
 use Rattle.sab_judge.specs.Trace.{HasBytes, IsWithinLimits, IsTrace}
 use Rattle.sab_judge.specs.Verdict.{IsLastSeen, IsReported}
 use Rattle.sab_judge.proofs.LastSteps.{before_earlier}
-use Rattle.sab_json.specs.CallData.{natural, call_data}
-use Rattle.sab_json.specs.SafeNumbers.{HasSafeNumbers}
-use Rattle.sab_json.proofs.ShortNumbers.{HasShortNumbers, short_if}
-use Rattle.sab_json.proofs.ShortCalls.{does_short}
-use Rattle.sab_json.proofs.ReadingBack.{IsInOrder, reads_back}
+use Rattle.sab_report_text.specs.JsonLines.CallData.{natural, call_data}
+use Rattle.sab_report_text.specs.JsonLines.SafeNumbers.{HasSafeNumbers}
+use Rattle.sab_report_text.proofs.OfJsonLines.ShortNumbers.{HasShortNumbers, short_if}
+use Rattle.sab_report_text.proofs.OfJsonLines.ShortCalls.{does_short}
+use Rattle.sab_report_text.proofs.OfJsonLines.ReadingBack.{IsInOrder, reads_back}
 use Rattle.sab_verdict.specs.declared.side.Side.{Side}
 use Rattle.sab_verdict.specs.Events.{access_in, side_at, call_in, call_at, overlap_of, accesses_of, agents_of, has_access, is_accessing}
 use Rattle.sab_verdict.specs.Json.{call_side, access_side, judged_calls, judged_trace, race_data, count_data}

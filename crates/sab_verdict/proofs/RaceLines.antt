@@ -2,7 +2,7 @@
 use Rattle.std.proofs.Common.{◌≡◌, ℕ, ◌+◌, ◌<◌, List, ◌++◌, length, get_or, drop, Option, refl, add-one, drop-cons, flat_map}
 use Rattle.std.specs.Io.KnownBytes.{Appends, Keeps, append_known}
 use Rattle.sab_judge.specs.declared.race.Race.{Race}
-use Rattle.sab_text.proofs.Appending.{left_after}
+use Rattle.sab_report_text.proofs.OfText.Appending.{left_after}
 
 races_left : (text : Race → List ℕ) (races : List Race) (k : ℕ) (d : Race) → k < length races
     → flat_map text (drop k races) ≡ text (get_or races k d) ++ flat_map text (drop (k + 1) races)

@@ -6,9 +6,9 @@ use Rattle.sab_plan.specs.Plan.{PlanParts}
 use Rattle.sab_plan.specs.declared.entry.Entry.{Entry}
 use Rattle.sab_judge.specs.declared.event.Event.{Event}
 use Rattle.sab_judge.specs.declared.race.Race.{Race}
-use Rattle.sab_json.specs.CallData.{natural, call_data}
-use Rattle.sab_json.proofs.ReadingBack.{IsInOrder}
-use Rattle.sab_json.proofs.TreesRead.{follow_if, does_in_order, since_in_order}
+use Rattle.sab_report_text.specs.JsonLines.CallData.{natural, call_data}
+use Rattle.sab_report_text.proofs.OfJsonLines.ReadingBack.{IsInOrder}
+use Rattle.sab_report_text.proofs.OfJsonLines.TreesRead.{follow_if, does_in_order, since_in_order}
 use Rattle.sab_verdict.specs.declared.side.Side.{Side}
 use Rattle.sab_verdict.specs.Events.{call_at}
 use Rattle.sab_verdict.specs.Json.{call_side, access_side, race_data, count_data}

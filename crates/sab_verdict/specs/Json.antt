@@ -6,8 +6,8 @@ use Rattle.sab_plan.specs.declared.entry.Entry.{Entry}
 use Rattle.sab_judge.specs.declared.event.Event.{Event}
 use Rattle.sab_judge.specs.declared.race.Race.{Race}
 use Rattle.sab_judge.specs.Order.{is_seq_cst}
-use Rattle.sab_json.specs.Members.{member_if}
-use Rattle.sab_json.specs.CallData.{natural, call_data}
+use Rattle.sab_report_text.specs.JsonLines.Members.{member_if}
+use Rattle.sab_report_text.specs.JsonLines.CallData.{natural, call_data}
 use Rattle.sab_verdict.specs.declared.side.Side.{Side}
 use Rattle.sab_verdict.specs.Events.{call_at, overlap_of, accesses_of, agents_of}
 

@@ -7,8 +7,8 @@ use Rattle.sab_judge.specs.declared.event.Event.{Event}
 use Rattle.sab_judge.specs.declared.race.Race.{Race}
 use Rattle.sab_judge.specs.declared.order.Order.{Order}
 use Rattle.sab_judge.specs.declared.order.Order.TheVariants.{Unordered, SeqCst}
-use Rattle.sab_words.specs.CallText.{call_text}
-use Rattle.sab_words.specs.FactText.{counted}
+use Rattle.sab_report_text.specs.Words.CallText.{call_text}
+use Rattle.sab_report_text.specs.Words.FactText.{counted}
 use Rattle.sab_verdict.specs.declared.byte_range.ByteRange.{ByteRange}
 use Rattle.sab_verdict.specs.declared.side.Side.{Side}
 use Rattle.sab_verdict.specs.Events.{call_at, range_of, overlap_of, accesses_of, agents_of, data_races_in}

@@ -3,7 +3,7 @@ use Rattle.std.specs.Prelude.{ℕ, List, length, All}
 use Rattle.serde_json.specs.Data.{Data}
 use Rattle.sab_judge.specs.declared.event.Event.{Event}
 use Rattle.sab_judge.specs.declared.race.Race.{Race}
-use Rattle.sab_json.specs.ReadsBack.{ReadsBack}
+use Rattle.sab_report_text.specs.JsonLines.ReadsBack.{ReadsBack}
 use Rattle.sab_verdict.specs.declared.side.Side.{Side}
 use Rattle.sab_verdict.specs.Events.{side_at}
 use Rattle.sab_verdict.specs.Json.{race_data, count_data}

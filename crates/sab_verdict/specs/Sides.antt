@@ -1,7 +1,7 @@
 -- What each way to report a race's events stands for.
 use Rattle.std.specs.Prelude.{ℕ, List, [], ⊤}
 use Rattle.serde_json.specs.Data.{Data}
-use Rattle.sab_json.specs.CallData.{AreNames}
+use Rattle.sab_report_text.specs.JsonLines.CallData.{AreNames}
 use Rattle.sab_verdict.specs.declared.side.Side.{Side}
 use Rattle.sab_verdict.specs.declared.sides.Sides.{Sides}
 use Rattle.sab_verdict.specs.declared.sides.Sides.TheVariants.{Calls, Accesses}

@@ -5,9 +5,9 @@ use Rattle.sab_plan.specs.Plan.{PlanParts}
 use Rattle.sab_plan.specs.declared.entry.Entry.{Entry}
 use Rattle.sab_judge.specs.declared.event.Event.{Event}
 use Rattle.sab_judge.specs.declared.race.Race.{Race}
-use Rattle.sab_json.specs.Lines.{line}
-use Rattle.sab_text.specs.declared.format.VerdictFormat.{VerdictFormat}
-use Rattle.sab_text.specs.declared.format.VerdictFormat.TheVariants.{Plain, Json}
+use Rattle.sab_report_text.specs.JsonLines.Lines.{line}
+use Rattle.sab_report_text.specs.declared.text.format.VerdictFormat.{VerdictFormat}
+use Rattle.sab_report_text.specs.declared.text.format.VerdictFormat.TheVariants.{Plain, Json}
 use Rattle.sab_verdict.specs.declared.side.Side.{Side}
 use Rattle.sab_verdict.specs.Events.{side_at}
 use Rattle.sab_verdict.specs.Plain.{by_call, by_access, in_calls, race_text, end_text}

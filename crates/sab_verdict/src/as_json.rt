@@ -5,9 +5,9 @@ ghost use Rattle.serde_json.specs.Data.{boolean, string};
 ghost use Rattle.serde_json.specs.Written.{compact_text};
 ghost use Rattle.sab_judge.specs.declared.event.Event.{Event};
 ghost use Rattle.sab_judge.specs.declared.trace.TheConstants.Trace.{MAX_AGENTS};
-ghost use Rattle.sab_json.specs.Members.{member_text, member_text_if};
-ghost use Rattle.sab_json.specs.CallData.{AreNames, natural, call_data};
-ghost use Rattle.sab_json.specs.Lines.{line};
+ghost use Rattle.sab_report_text.specs.JsonLines.Members.{member_text, member_text_if};
+ghost use Rattle.sab_report_text.specs.JsonLines.CallData.{AreNames, natural, call_data};
+ghost use Rattle.sab_report_text.specs.JsonLines.Lines.{line};
 ghost use Rattle.sab_verdict.specs.Events.{call_at, Overlap};
 ghost use Rattle.sab_verdict.specs.Json.{call_side, access_side, race_data, count_data};
 ghost use Rattle.sab_verdict.specs.Sides.{data_of, judged_of, HaveNames};
@@ -16,9 +16,9 @@ use crate::byte_range::ByteRange;
 use crate::count::{count_accesses, count_agents};
 use crate::side::Side;
 use crate::sides::{Run, Sides};
-use sab_json::{CALL_LEN, push_call_data, push_small};
 use sab_judge::{Event, Race};
-use sab_text::Chunk;
+use sab_report_text::json_lines::{CALL_LEN, push_call_data, push_small};
+use sab_report_text::text::Chunk;
 
 /// The most bytes of an event of a race.
 const SIDE_LEN: usize = 257;

@@ -4,7 +4,7 @@ ghost use Rattle.std.specs.Prelude.{◌≡◌};
 ghost use Rattle.sab_verdict.specs.Events.{call_at};
 
 use sab_plan::{Call, Entry, Plan};
-use sab_words::Name;
+use sab_report_text::words::Name;
 
 /// How the two events of a race are written.
 #[derive(Clone, Copy)]

@@ -6,8 +6,8 @@ ghost use Rattle.sab_judge.specs.declared.event.Event.{Event};
 ghost use Rattle.sab_judge.specs.declared.trace.TheConstants.Trace.{MAX_AGENTS};
 ghost use Rattle.sab_judge.specs.Trace.{IsTrace};
 ghost use Rattle.sab_judge.specs.Verdict.{IsReported};
-ghost use Rattle.sab_json.specs.CallData.{AreNames};
-ghost use Rattle.sab_json.specs.SafeNumbers.{HasSafeNumbers};
+ghost use Rattle.sab_report_text.specs.JsonLines.CallData.{AreNames};
+ghost use Rattle.sab_report_text.specs.JsonLines.SafeNumbers.{HasSafeNumbers};
 ghost use Rattle.sab_verdict.specs.Json.{call_side, access_side, judged_calls, judged_trace};
 ghost use Rattle.sab_verdict.specs.ReadsBack.{LinesReadBack};
 ghost use Rattle.sab_verdict.specs.Verdict.{line_of, last_line, verdict_text, run_verdict_text, trace_verdict_text};
@@ -18,8 +18,8 @@ use crate::sides::{Run, Sides};
 use crate::{as_json, plain};
 use sab_judge::{Event, Race, Trace, Verdict};
 use sab_plan::{Entry, Plan};
-use sab_text::{Chunk, VerdictFormat};
-use sab_words::Name;
+use sab_report_text::text::{Chunk, VerdictFormat};
+use sab_report_text::words::Name;
 use std::io;
 use std::io::Write;
 
@@ -76,7 +76,7 @@ pub fn write_trace_verdict<W: Write>(
 }
 
 /// Writes what a judge says about a trace, whose events are written so.
-#[tactic(auto, using(sab_text::proofs::Appending::appends_both, sab_text::proofs::Appending::kept_out))]
+#[tactic(auto, using(sab_report_text::proofs::OfText::Appending::appends_both, sab_report_text::proofs::OfText::Appending::kept_out))]
 fn write_verdict<W: Write>(
     sides: &Sides,
     trace: &Trace,
@@ -111,7 +111,7 @@ fn write_verdict<W: Write>(
 }
 
 /// Writes a line for each race; the last lines may stay in the chunk.
-#[tactic(auto, using(sab_text::proofs::Appending::all_left, sab_text::proofs::Appending::none_left, crate::proofs::RaceLines::races_after))]
+#[tactic(auto, using(sab_report_text::proofs::OfText::Appending::all_left, sab_report_text::proofs::OfText::Appending::none_left, crate::proofs::RaceLines::races_after))]
 fn write_races<W: Write>(
     sides: &Sides,
     events: &[Event],

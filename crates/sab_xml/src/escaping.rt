@@ -4,7 +4,7 @@ ghost use Rattle.std.specs.Prelude.{◌≡◌, ◌+◌, ◌*◌, ◌≤◌, ◌+
 ghost use Rattle.sab_xml.specs.Xml.{char_text, is_plain, reference, text_of};
 
 use itoa::Buffer;
-use sab_text::Chunk;
+use sab_report_text::text::Chunk;
 
 /// The number of the replacement character, which stands for control characters: a document can hold few of them.
 const REPLACEMENT: u16 = 0xfffd;

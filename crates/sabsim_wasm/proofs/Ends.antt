@@ -1,7 +1,7 @@
 -- How the program ends, of what was shown of its parts.
 use Rattle.std.proofs.Common.{◌≡◌, ◌≢◌, ℕ, Bool, List, [], ◌++◌, Option, Some, Result, Ok, Err, IfOk, OnOk}
 use Rattle.std.proofs.Common.{codes, inl, inr, refl, sym, subst, ap}
-use Rattle.sab_text.specs.declared.format.VerdictFormat.{VerdictFormat}
+use Rattle.sab_report_text.specs.declared.text.format.VerdictFormat.{VerdictFormat}
 use Rattle.sab_faults.specs.declared.tool_fault.ToolFault.{ToolFault}
 use Rattle.sab_faults.specs.declared.tool_fault.ToolFault.TheVariants.{WriteFailed}
 use Rattle.sab_command.specs.declared.job.Job.{Job}

@@ -2,12 +2,12 @@
 use Rattle.std.specs.Prelude.{◌==◌, ℕ, Bool, true, false, Option, Some, None, option_map, if◌then◌else◌}
 use Rattle.sab_automata.specs.declared.program.Timeouts.{Timeouts}
 use Rattle.sab_automata.specs.declared.program.Timeouts.TheVariants.{Early, Last, Never}
-use Rattle.sab_text.specs.declared.format.Format.{Format}
-use Rattle.sab_text.specs.declared.format.Format.TheVariants.{Plain, Explained, Json, Svg}
-use Rattle.sab_text.specs.declared.format.VerdictFormat.{VerdictFormat}
-use Rattle.sab_text.specs.declared.format.VerdictFormat.TheVariants as V
-use Rattle.sab_text.specs.declared.lines.Lines.{Lines}
-use Rattle.sab_text.specs.declared.lines.Lines.TheVariants.{All, Acts}
+use Rattle.sab_report_text.specs.declared.text.format.Format.{Format}
+use Rattle.sab_report_text.specs.declared.text.format.Format.TheVariants.{Plain, Explained, Json, Svg}
+use Rattle.sab_report_text.specs.declared.text.format.VerdictFormat.{VerdictFormat}
+use Rattle.sab_report_text.specs.declared.text.format.VerdictFormat.TheVariants as V
+use Rattle.sab_report_text.specs.declared.text.lines.Lines.{Lines}
+use Rattle.sab_report_text.specs.declared.text.lines.Lines.TheVariants.{All, Acts}
 use Rattle.sab_command.specs.declared.job.RunForm.{RunForm}
 use Rattle.sab_command.specs.declared.job.RunForm.TheVariants.{Report, Script}
 use Rattle.sab_command.specs.declared.job.Job.TheVariants.{Replay, Check, Judge}

@@ -2,7 +2,7 @@
 use Rattle.std.specs.Prelude.{◌≡◌, ◌⊎◌, ◌≢◌, ℕ, Bool, true, false, List, [], ◌++◌, Option, Some, Ok, codes}
 use Rattle.std.specs.Prelude.{string_bytes}
 use Rattle.std.specs.Borrow.{Bor}
-use Rattle.sab_text.specs.declared.format.VerdictFormat.{VerdictFormat}
+use Rattle.sab_report_text.specs.declared.text.format.VerdictFormat.{VerdictFormat}
 use Rattle.sab_faults.specs.declared.tool_fault.ToolFault.{ToolFault}
 use Rattle.sab_faults.specs.declared.tool_fault.ToolFault.TheVariants.{NoThread, OutOfMemory, ReadFailed, WriteFailed}
 use Rattle.sab_command.specs.declared.job.Job.{Job}

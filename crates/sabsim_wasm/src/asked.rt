@@ -6,7 +6,7 @@ ghost use Rattle.sabsim_wasm.specs.Asked.{form_at, format_at, search_at, task_at
 
 use sab_automata::Timeouts;
 use sab_command::{Job, RunForm, SearchForm, SearchJob, Task};
-use sab_text::{Format, Lines, ReportForm, VerdictFormat};
+use sab_report_text::text::{Format, Lines, ReportForm, VerdictFormat};
 
 /// What is to be done with the input; none if a number has no meaning.
 pub(crate) fn task_of(job: u32, format: u32, acts: bool, finish: bool) -> Option<Task>

@@ -14,8 +14,8 @@ use crate::reply::{Reply, put, put_lines, put_no_memory};
 use sab_command::{Job, SearchJob, Source, Task};
 use sab_exit::{Complaint, Ending, Outcome};
 use sab_faults::ToolFault;
+use sab_report_text::text::VerdictFormat;
 use sab_run::{Explanation, Failure, judge_trace, run, run_search};
-use sab_text::VerdictFormat;
 use std::alloc::{AllocError, Global};
 
 /// What the program writes to the standard streams, and its exit status.

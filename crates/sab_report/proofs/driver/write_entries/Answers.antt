@@ -5,7 +5,7 @@ use Rattle.std.specs.Io.KnownBytes.{Appends, append_known}
 use Rattle.sab_plan.specs.declared.schedule.Move.TheVariants.{Step}
 use Rattle.sab_plan.specs.Plan.{PlanParts}
 use Rattle.sab_sim.specs.Sim.{SimParts}
-use Rattle.sab_words.specs.FactFormat.{Texts}
+use Rattle.sab_report_text.specs.Words.FactFormat.{Texts}
 use Rattle.sab_report.specs.Facts.{IsTheFact}
 use Rattle.sab_report.proofs.Driving.{reported_more}
 use Rattle.sab_report.proofs.LastNoted.{sinces_are}

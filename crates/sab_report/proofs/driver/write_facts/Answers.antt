@@ -2,7 +2,7 @@
 use Rattle.std.proofs.Common.{◌∙◌, subst, sym}
 use Rattle.std.specs.Io.KnownBytes.{Appends, append_known}
 use Rattle.sab_plan.specs.Plan.{IsPlan}
-use Rattle.sab_words.specs.FactFormat.{Texts}
+use Rattle.sab_report_text.specs.Words.FactFormat.{Texts}
 use Rattle.sab_report.specs.Facts.{ReportsEntries}
 use Rattle.sab_report.proofs.Driving.{reports_facts}
 use Rattle.sab_report.proofs.Memory.{few_blocks}

@@ -1,7 +1,7 @@
 -- What was reported is a picture.
 use Rattle.std.proofs.Common.{subst, ap₂}
 use Rattle.std.proofs.lemmas.Result.{IfOk-weaker}
-use Rattle.sab_words.specs.FactFormat.{Texts}
+use Rattle.sab_report_text.specs.Words.FactFormat.{Texts}
 use Rattle.sab_report.specs.Facts.{ReportsFacts}
 use Rattle.sab_svg.specs.Picture.{svg_texts}
 use Rattle.sab_report.proofs.Pictures.{draws}

@@ -1,6 +1,6 @@
 -- The words, the bar, how far it came and the end, one behind the other.
 use Rattle.std.proofs.Common.{ℕ, List, [], ◌++◌, ap, ◌∙◌}
-use Rattle.sab_words.specs.Explained.{standing_words}
+use Rattle.sab_report_text.specs.Words.Explained.{standing_words}
 use Rattle.sab_svg.specs.Shape.{row_text}
 use Rattle.sab_svg.specs.Pieces.{agent_words, group_start}
 use Rattle.sab_svg.proofs.Behind.{behind, behind_as}

@@ -1,6 +1,6 @@
 -- The words, the pieces and the end, one behind the other.
 use Rattle.std.proofs.Common.{ℕ, List, [], ◌++◌, ap, ◌∙◌}
-use Rattle.sab_words.specs.FactText.{fact_words}
+use Rattle.sab_report_text.specs.Words.FactText.{fact_words}
 use Rattle.sab_svg.specs.Pieces.{agent_words, group_start}
 use Rattle.sab_svg.specs.Moves.{pieces_of}
 use Rattle.sab_svg.proofs.Behind.{behind, behind_as}

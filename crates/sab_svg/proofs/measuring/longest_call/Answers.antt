@@ -2,7 +2,7 @@
 use Rattle.std.proofs.Common.{◌≡◌, List, length, map, arith, ◌∙◌, ap}
 use Rattle.std.proofs.lemmas.Grind.{common_steps}
 use Rattle.sab_plan.specs.declared.call.Call.{Call}
-use Rattle.sab_words.specs.CallText.{call_text}
+use Rattle.sab_report_text.specs.Words.CallText.{call_text}
 use Rattle.sab_svg.specs.Shape.{greatest, longest_in}
 use Rattle.sab_svg.proofs.Greatest.{greatest_left}
 use Rattle.sab_svg.proofs.measuring.longest_call.Goals as goal

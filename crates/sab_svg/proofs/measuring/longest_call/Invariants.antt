@@ -1,5 +1,5 @@
 use Rattle.std.proofs.Common.{◌≡◌, ◌≤◌, map, max, drop}
-use Rattle.sab_words.specs.declared.call_text.TheConstants.{CALL_LEN}
+use Rattle.sab_report_text.specs.declared.words.call_text.TheConstants.{CALL_LEN}
 use Rattle.sab_svg.specs.Shape.{greatest, longest_in}
 use Rattle.sab_svg.proofs.measuring.longest_call.Given as goal
 

@@ -1,6 +1,6 @@
 use Rattle.std.proofs.Common.{◌≡◌, ◌≤◌, length, map, max, drop}
-use Rattle.sab_words.specs.declared.call_text.TheConstants.{CALL_LEN}
-use Rattle.sab_words.specs.CallText.{call_text}
+use Rattle.sab_report_text.specs.declared.words.call_text.TheConstants.{CALL_LEN}
+use Rattle.sab_report_text.specs.Words.CallText.{call_text}
 use Rattle.sab_svg.specs.Shape.{greatest}
 use Rattle.sab_svg.proofs.measuring.longest_in.Given as goal
 

@@ -1,5 +1,5 @@
 use Rattle.std.proofs.Common.{◌≡◌, ◌≤◌, length, map, max, drop}
-use Rattle.sab_words.specs.declared.name.TheConstants.Name.{MAX_LEN}
+use Rattle.sab_report_text.specs.declared.words.name.TheConstants.Name.{MAX_LEN}
 use Rattle.sab_svg.specs.Shape.{greatest}
 use Rattle.sab_svg.proofs.measuring.longest_name.Given as goal
 

@@ -3,7 +3,7 @@ use Rattle.std.proofs.Common.{Bool, ap}
 use Rattle.std.specs.Fmt.{decimal}
 use Rattle.serde_json.specs.Data.{boolean}
 use Rattle.serde_json.specs.Written.{compact_text}
-use Rattle.sab_json.proofs.Pieces.{behind, behind_as}
+use Rattle.sab_report_text.proofs.OfJsonLines.Pieces.{behind, behind_as}
 use Rattle.sab_verdict.proofs.Texts.{access_side_json}
 use Rattle.sab_verdict.proofs.as_json.push_access_side.Goals as goal
 

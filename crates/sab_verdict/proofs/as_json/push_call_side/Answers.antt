@@ -1,5 +1,5 @@
 -- The pieces, one behind the other.
-use Rattle.sab_json.proofs.Pieces.{behind}
+use Rattle.sab_report_text.proofs.OfJsonLines.Pieces.{behind}
 use Rattle.sab_verdict.proofs.Texts.{call_side_json}
 use Rattle.sab_verdict.proofs.as_json.push_call_side.Goals as goal
 

@@ -1,7 +1,7 @@
 -- The pieces, one behind the other.
 use Rattle.std.proofs.Common.{ap}
 use Rattle.std.specs.Fmt.{decimal}
-use Rattle.sab_json.proofs.Pieces.{behind, behind_as}
+use Rattle.sab_report_text.proofs.OfJsonLines.Pieces.{behind, behind_as}
 use Rattle.sab_verdict.specs.Sides.{judged_of}
 use Rattle.sab_verdict.proofs.Texts.{count_json}
 use Rattle.sab_verdict.proofs.as_json.push_count.Goals as goal

@@ -1,7 +1,7 @@
 -- The pieces, one behind the other.
 use Rattle.std.proofs.Common.{ap, ◌-◌}
 use Rattle.std.specs.Fmt.{decimal}
-use Rattle.sab_json.proofs.Pieces.{behind, behind_as}
+use Rattle.sab_report_text.proofs.OfJsonLines.Pieces.{behind, behind_as}
 use Rattle.sab_verdict.specs.declared.byte_range.ByteRange.{ByteRange}
 use Rattle.sab_verdict.specs.Sides.{data_of}
 use Rattle.sab_verdict.proofs.Texts.{race_json}

@@ -1,5 +1,5 @@
 -- The pieces, one behind the other.
-use Rattle.sab_json.proofs.Pieces.{behind}
+use Rattle.sab_report_text.proofs.OfJsonLines.Pieces.{behind}
 use Rattle.sab_verdict.specs.Plain.{none_text}
 use Rattle.sab_verdict.proofs.plain.push_none.Goals as goal
 

@@ -1,6 +1,6 @@
 use Rattle.std.proofs.Common.{◌≤◌, ◌+◌, length, drop, flat_map}
 use Rattle.std.specs.Io.KnownBytes.{Appends, append_known}
-use Rattle.sab_text.specs.declared.chunk.TheConstants.Chunk.{ROOM, LINE_ROOM}
+use Rattle.sab_report_text.specs.declared.text.chunk.TheConstants.Chunk.{ROOM, LINE_ROOM}
 use Rattle.sab_verdict.specs.Verdict.{line_of}
 use Rattle.sab_verdict.specs.Sides.{words_of, data_of}
 use Rattle.sab_verdict.proofs.writing.write_races.Given as goal

@@ -1,0 +1,3 @@
+pub mod OfJsonLines
+pub mod OfText
+pub mod OfWords

@@ -1,0 +1,3 @@
+pub mod JsonLines
+pub mod Text
+pub mod Words

@@ -1,7 +1,0 @@
--- The pieces, one behind the other.
-use Rattle.sab_words.proofs.Pieces.{four}
-use Rattle.sab_words.proofs.standing.push_begun.Goals as goal
-
-pub returns-clause-bytes : goal.returns-clause-bytes
-returns-clause-bytes c =
-    four _ _ _ _ _ _ _ _ _ c.push.ensures c.push_call.ensures.bytes c.push_at.ensures.bytes c.push-2.ensures
