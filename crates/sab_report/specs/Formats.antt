@@ -7,7 +7,7 @@ use Rattle.sab_report_text.specs.declared.text.lines.Lines.{Lines}
 use Rattle.sab_report_text.specs.Words.Explained.{words_texts}
 use Rattle.sab_report_text.specs.JsonLines.Lines.{json_texts}
 use Rattle.sab_report_text.specs.JsonLines.SafeNumbers.{HasSafeNumbers}
-use Rattle.sab_xml.specs.WellFormed.{IsDocument}
+use Rattle.sab_svg.specs.Xml.WellFormed.{IsDocument}
 use Rattle.sab_svg.specs.Shape.{shape_of, HaveRoom}
 use Rattle.sab_svg.specs.Picture.{svg_text}
 use Rattle.sab_report.specs.Facts.{ReportsBy, ReportsFacts}

@@ -13,7 +13,7 @@ use Rattle.sab_report.specs.Facts.{AreFacts, AreStandings}
 use Rattle.sab_report_text.specs.Words.Explained.{explained_text}
 use Rattle.sab_report_text.specs.JsonLines.Lines.{json_text}
 use Rattle.sab_report.specs.ReadsBack.{LinesReadBack}
-use Rattle.sab_xml.specs.WellFormed.{IsDocument}
+use Rattle.sab_svg.specs.Xml.WellFormed.{IsDocument}
 use Rattle.sab_svg.specs.Shape.{shape_of, HaveRoom}
 use Rattle.sab_svg.specs.Picture.{svg_text}
 use Rattle.sab_faults.specs.declared.tool_fault.ToolFault.{ToolFault}

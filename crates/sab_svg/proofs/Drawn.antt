@@ -7,8 +7,8 @@ use Rattle.sab_block.specs.Operand.{is_bigint, whole_of}
 use Rattle.sab_plan.specs.declared.entry.Entry.{Entry}
 use Rattle.sab_plan.specs.declared.fact.Fact.{Fact}
 use Rattle.sab_report_text.specs.Text.Text.{operand_text}
-use Rattle.sab_xml.specs.Xml.{Node, nodes, char_text, text_of, node_text, nodes_text}
-use Rattle.sab_xml.proofs.Texts.{text_of_both, text_of_signed_decimal, nodes_text_both}
+use Rattle.sab_svg.specs.Xml.Xml.{Node, nodes, char_text, text_of, node_text, nodes_text}
+use Rattle.sab_svg.proofs.OfXml.Texts.{text_of_both, text_of_signed_decimal, nodes_text_both}
 use Rattle.sab_svg.specs.declared.shape.Shape.{Shape}
 use Rattle.sab_svg.specs.Shape.{label_x, row_text}
 use Rattle.sab_svg.specs.Pieces.{label}

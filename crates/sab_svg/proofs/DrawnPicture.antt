@@ -7,8 +7,8 @@ use Rattle.sab_plan.specs.Report.{ReportParts}
 use Rattle.sab_plan.specs.declared.fact.Fact.{Fact}
 use Rattle.sab_plan.specs.declared.standing.Standing.{Standing}
 use Rattle.sab_report_text.specs.Words.FactFormat.{noted, no_sinces, entries_text, facts_text}
-use Rattle.sab_xml.specs.Xml.{Node, element, Attributes, attributes_text, nodes, nodes_text, node_text}
-use Rattle.sab_xml.proofs.Texts.{nodes_text_both}
+use Rattle.sab_svg.specs.Xml.Xml.{Node, element, Attributes, attributes_text, nodes, nodes_text, node_text}
+use Rattle.sab_svg.proofs.OfXml.Texts.{nodes_text_both}
 use Rattle.sab_svg.specs.declared.shape.Shape.{Shape}
 use Rattle.sab_svg.specs.Pieces.{newline}
 use Rattle.sab_svg.specs.Moves.{drawn_entry, drawn_entries}

@@ -4,8 +4,8 @@ use Rattle.std.specs.Prelude.{codes, decimal, flat_map}
 use Rattle.sab_plan.specs.declared.standing.Standing.{Standing}
 use Rattle.sab_report_text.specs.Text.Text.{hex_byte}
 use Rattle.sab_report_text.specs.Words.Explained.{standing_words}
-use Rattle.sab_xml.specs.Xml.{nodes, node_text, nodes_text}
-use Rattle.sab_xml.proofs.Texts.{nodes_text_both}
+use Rattle.sab_svg.specs.Xml.Xml.{nodes, node_text, nodes_text}
+use Rattle.sab_svg.proofs.OfXml.Texts.{nodes_text_both}
 use Rattle.sab_svg.specs.declared.shape.Shape.{Shape}
 use Rattle.sab_svg.specs.Shape.{label_x, row_text}
 use Rattle.sab_svg.specs.Pieces.{agent_words, label, group_start, newline}

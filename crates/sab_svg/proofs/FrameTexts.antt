@@ -2,8 +2,8 @@
 use Rattle.std.proofs.Common.{◌≡◌, ℕ, List, [], ◌∷◌, ◌++◌, refl, ap, ◌∙◌, append_assoc, append-nil}
 use Rattle.std.specs.Prelude.{codes, decimal}
 use Rattle.std.specs.Fmt.{digits}
-use Rattle.sab_xml.specs.Xml.{Node, no_attributes, attribute, char_text, text_of, node_text, nodes, nodes_text}
-use Rattle.sab_xml.proofs.Texts.{text_of_both, text_of_decimal}
+use Rattle.sab_svg.specs.Xml.Xml.{Node, no_attributes, attribute, char_text, text_of, node_text, nodes, nodes_text}
+use Rattle.sab_svg.proofs.OfXml.Texts.{text_of_both, text_of_decimal}
 use Rattle.sab_svg.specs.declared.shape.Shape.{Shape}
 use Rattle.sab_svg.specs.Shape.{width, height}
 use Rattle.sab_svg.specs.Pieces.{measure, rectangle, newline}

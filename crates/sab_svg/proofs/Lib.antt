@@ -8,3 +8,4 @@ pub mod Greatest
 pub mod Room
 pub mod Named
 pub mod DrawnPicture
+pub mod OfXml

@@ -18,10 +18,10 @@ use Rattle.sab_plan.specs.declared.standing.Standing.{Standing}
 use Rattle.sab_report_text.specs.Words.FactText.{is_same, fact_words}
 use Rattle.sab_report_text.specs.Words.Explained.{standing_words}
 use Rattle.sab_report_text.specs.Words.FactFormat.{noted, no_sinces}
-use Rattle.sab_xml.specs.Xml.{Node, nodes}
-use Rattle.sab_xml.specs.WellFormed.{attribute_names, AreAttributeNames, IsNamed, AreNamed, IsDocument}
-use Rattle.sab_xml.proofs.Names.{name_tested, attribute_names_tested, node_tested, nodes_tested}
-use Rattle.sab_xml.proofs.WellFormed.{document, named_both}
+use Rattle.sab_svg.specs.Xml.Xml.{Node, nodes}
+use Rattle.sab_svg.specs.Xml.WellFormed.{attribute_names, AreAttributeNames, IsNamed, AreNamed, IsDocument}
+use Rattle.sab_svg.proofs.OfXml.Names.{name_tested, attribute_names_tested, node_tested, nodes_tested}
+use Rattle.sab_svg.proofs.OfXml.WellFormed.{document, named_both}
 use Rattle.sab_svg.specs.declared.shape.Shape.{Shape}
 use Rattle.sab_svg.specs.Shape.{shape_of}
 use Rattle.sab_svg.specs.Pieces.{label, rectangle, across, down, title, agent_words, group, newline}

@@ -1,8 +1,8 @@
 -- The texts of pieces.
 use Rattle.std.proofs.Common.{◌≡◌, ℕ, List, [], ◌∷◌, ◌++◌, refl, sym, ap, ◌∙◌, append_assoc, append-nil}
 use Rattle.std.specs.Prelude.{codes, decimal}
-use Rattle.sab_xml.specs.Xml.{Node, element, text, nodes, Attributes, no_attributes, attribute, attributes_text, char_text, text_of, node_text, nodes_text}
-use Rattle.sab_xml.proofs.Texts.{text_of_both, text_of_decimal}
+use Rattle.sab_svg.specs.Xml.Xml.{Node, element, text, nodes, Attributes, no_attributes, attribute, attributes_text, char_text, text_of, node_text, nodes_text}
+use Rattle.sab_svg.proofs.OfXml.Texts.{text_of_both, text_of_decimal}
 use Rattle.sab_svg.specs.declared.class.Class.{Class}
 use Rattle.sab_svg.specs.declared.class.Class.TheVariants as C
 use Rattle.sab_svg.specs.Pieces.{measure, class_text, label, label_attributes, label_start, rectangle, across, down, line_start, title, agent_words, group, group_start, newline}

@@ -7,8 +7,8 @@ use Rattle.sab_plan.specs.Report.{items_of_each}
 use Rattle.sab_plan.specs.declared.standing.Standing.{Standing}
 use Rattle.sab_report_text.proofs.OfText.Appending.{left_written, appends_last}
 use Rattle.sab_report_text.proofs.OfWords.ChunkTexts.{room_then}
-use Rattle.sab_xml.specs.Xml.{nodes, nodes_text}
-use Rattle.sab_xml.proofs.Texts.{nodes_text_both}
+use Rattle.sab_svg.specs.Xml.Xml.{nodes, nodes_text}
+use Rattle.sab_svg.proofs.OfXml.Texts.{nodes_text_both}
 use Rattle.sab_svg.specs.declared.shape.Shape.{Shape}
 use Rattle.sab_svg.specs.Ends.{drawn_end, drawn_ends, block_line, drawn_blocks}
 use Rattle.sab_svg.specs.Frame.{lane, lanes}

@@ -5,7 +5,7 @@ use Rattle.sab_plan.specs.declared.standing.At.TheVariants as A
 use Rattle.sab_plan.specs.declared.standing.Standing.{Standing}
 use Rattle.sab_report_text.specs.Text.Text.{field, hex_byte}
 use Rattle.sab_report_text.specs.Words.Explained.{standing_words}
-use Rattle.sab_xml.specs.Xml.{Node}
+use Rattle.sab_svg.specs.Xml.Xml.{Node}
 use Rattle.sab_svg.specs.declared.shape.Shape.{Shape}
 use Rattle.sab_svg.specs.Shape.{lane_x, label_x, row_middle, row_text, rows_end}
 use Rattle.sab_svg.specs.Pieces.{label, open_call_bar, open_wait_bar, agent_words, group, newline}

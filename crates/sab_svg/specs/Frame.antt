@@ -1,6 +1,6 @@
 -- What stands behind and around the moves of a picture.
 use Rattle.std.specs.Prelude.{ℕ, zero, suc, ◌+◌, ◌*◌, ◌-◌, List, [], ◌∷◌, ◌++◌, codes, decimal}
-use Rattle.sab_xml.specs.Xml.{Node, element, text, nodes, Attributes, no_attributes, attribute, attributes_text}
+use Rattle.sab_svg.specs.Xml.Xml.{Node, element, text, nodes, Attributes, no_attributes, attribute, attributes_text}
 use Rattle.sab_svg.specs.declared.shape.Shape.{Shape}
 use Rattle.sab_svg.specs.Shape.{lane_x, change_x, row_top, row_middle, row_text, rows_end, width, height}
 use Rattle.sab_svg.specs.Pieces.{measure, label, rectangle, across, down, title, newline}

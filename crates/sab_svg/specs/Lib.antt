@@ -4,3 +4,4 @@ pub mod Moves
 pub mod Ends
 pub mod Frame
 pub mod Picture
+pub mod Xml

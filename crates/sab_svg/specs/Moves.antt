@@ -17,7 +17,7 @@ use Rattle.sab_report_text.specs.Text.Text.{operand_text, answer_text, why_text}
 use Rattle.sab_report_text.specs.Words.CallText.{call_text, element_text}
 use Rattle.sab_report_text.specs.Words.FactText.{is_same, fact_words}
 use Rattle.sab_report_text.specs.Words.FactFormat.{noted}
-use Rattle.sab_xml.specs.Xml.{Node}
+use Rattle.sab_svg.specs.Xml.Xml.{Node}
 use Rattle.sab_svg.specs.declared.shape.Shape.{Shape}
 use Rattle.sab_svg.specs.Shape.{lane_x, label_x, change_x, row_top, row_middle, row_text}
 use Rattle.sab_svg.specs.Pieces.{label, call_bar, wait_bar, across, agent_words, group, newline}

@@ -5,7 +5,7 @@ use Rattle.sab_plan.specs.Report.{ReportParts}
 use Rattle.sab_plan.specs.declared.fact.Fact.{Fact}
 use Rattle.sab_plan.specs.declared.standing.Standing.{Standing}
 use Rattle.sab_report_text.specs.Words.FactFormat.{Texts, no_sinces}
-use Rattle.sab_xml.specs.Xml.{Node, element, nodes, node_text, nodes_text}
+use Rattle.sab_svg.specs.Xml.Xml.{Node, element, nodes, node_text, nodes_text}
 use Rattle.sab_svg.specs.declared.shape.Shape.{Shape}
 use Rattle.sab_svg.specs.Shape.{shape_of}
 use Rattle.sab_svg.specs.Pieces.{newline}

@@ -1,6 +1,6 @@
 -- What a picture is made of: texts, bars, arrows, and groups of them (Scalable Vector Graphics 1.1).
 use Rattle.std.specs.Prelude.{ℕ, ◌-◌, List, [], ◌∷◌, ◌++◌, codes, decimal}
-use Rattle.sab_xml.specs.Xml.{Node, element, text, nodes, Attributes, no_attributes, attribute, attributes_text, node_text}
+use Rattle.sab_svg.specs.Xml.Xml.{Node, element, text, nodes, Attributes, no_attributes, attribute, attributes_text, node_text}
 use Rattle.sab_svg.specs.declared.class.Class.{Class}
 use Rattle.sab_svg.specs.declared.class.Class.TheVariants as C
 

@@ -1,7 +1,7 @@
 //! Arrows from entries to the agents that they woke.
 
 ghost use Rattle.std.specs.Prelude.{◌≡◌, ◌+◌, ◌*◌, ◌≤◌, ◌++◌, length, map};
-ghost use Rattle.sab_xml.specs.Xml.{node_text, nodes, nodes_text};
+ghost use Rattle.sab_svg.specs.Xml.Xml.{node_text, nodes, nodes_text};
 ghost use Rattle.sab_svg.specs.Moves.{arrow, answer_chars, arrows};
 
 use crate::class::Class;

@@ -1,7 +1,7 @@
 //! The bars of entries: the time that their agents spent in a call or in a wait.
 
 ghost use Rattle.std.specs.Prelude.{◌≡◌, ◌+◌, ◌≤◌, ◌++◌, length};
-ghost use Rattle.sab_xml.specs.Xml.{nodes, nodes_text};
+ghost use Rattle.sab_svg.specs.Xml.Xml.{nodes, nodes_text};
 ghost use Rattle.sab_svg.specs.Moves.{call_since, wait_since, bars_of};
 
 use crate::pieces::{RECTANGLE_LEN, push_call_bar, push_wait_bar};

@@ -4,7 +4,7 @@ ghost use Rattle.std.specs.Prelude.{◌≡◌, ◌+◌, ◌<◌, ◌≤◌, ◌^
 ghost use Rattle.std.specs.Io.KnownBytes.{Appends, append_known};
 ghost use Rattle.sab_plan.specs.Report.{items_of_each};
 ghost use Rattle.sab_report_text.specs.Text.Text.{hex_byte};
-ghost use Rattle.sab_xml.specs.Xml.{nodes, nodes_text};
+ghost use Rattle.sab_svg.specs.Xml.Xml.{nodes, nodes_text};
 ghost use Rattle.sab_svg.specs.Ends.{block_line, block_text, more_text, drawn_blocks};
 
 use crate::class::Class;

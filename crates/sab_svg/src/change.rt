@@ -1,17 +1,17 @@
 //! What entries changed, as texts behind the lanes.
 
 ghost use Rattle.std.specs.Prelude.{◌≡◌, ◌+◌, ◌≤◌, ◌++◌, length};
-ghost use Rattle.sab_xml.specs.Xml.{text_of, nodes, nodes_text};
+ghost use Rattle.sab_svg.specs.Xml.Xml.{text_of, nodes, nodes_text};
 ghost use Rattle.sab_svg.specs.Moves.{changed_text, changed, change_of};
 
 use crate::class::Class;
 use crate::pieces::{LABEL_END, LABEL_LEN, open_label};
 use crate::shape::{Shape, row_text};
+use crate::xml::push_escaped;
 use sab_block::Operand;
 use sab_plan::{Call, Found};
 use sab_report_text::text::Chunk;
 use sab_report_text::words::{ELEMENT_LEN, Name, is_same, push_element};
-use sab_xml::push_escaped;
 
 /// What stands between the element before and after: an arrow, by its reference.
 const ARROW: &[u8; 9] = b" &#8594; ";

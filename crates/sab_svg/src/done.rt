@@ -1,7 +1,7 @@
 //! What entries did, as texts in the lanes of their agents.
 
 ghost use Rattle.std.specs.Prelude.{◌≡◌, ◌+◌, ◌≤◌, ◌++◌, length};
-ghost use Rattle.sab_xml.specs.Xml.{node_text, nodes, nodes_text};
+ghost use Rattle.sab_svg.specs.Xml.Xml.{node_text, nodes, nodes_text};
 ghost use Rattle.sab_svg.specs.Pieces.{class_text, label};
 ghost use Rattle.sab_svg.specs.Moves.{answered_text, answered_class, calls_text, stuck_text, done_label};
 

@@ -2,7 +2,7 @@
 
 ghost use Rattle.std.specs.Prelude.{◌++◌, codes, OnOk};
 ghost use Rattle.std.specs.Io.KnownBytes.{Appends, append_known};
-ghost use Rattle.sab_xml.specs.Xml.{nodes, nodes_text};
+ghost use Rattle.sab_svg.specs.Xml.Xml.{nodes, nodes_text};
 ghost use Rattle.sab_svg.specs.Frame.{root_start, background, lanes, legend};
 
 use crate::frame::{

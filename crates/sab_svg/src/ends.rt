@@ -2,7 +2,7 @@
 
 ghost use Rattle.std.specs.Prelude.{◌≡◌, ◌+◌, ◌≤◌, ◌++◌, [], ◌∷◌, length, OnOk};
 ghost use Rattle.std.specs.Io.KnownBytes.{Appends, append_known};
-ghost use Rattle.sab_xml.specs.Xml.{nodes, nodes_text};
+ghost use Rattle.sab_svg.specs.Xml.Xml.{nodes, nodes_text};
 ghost use Rattle.sab_svg.specs.Pieces.{class_text, newline};
 ghost use Rattle.sab_svg.specs.Ends.{open_call, open_wait, open_bar, end_text, end_class, drawn_standing, drawn_end};
 ghost use Rattle.sab_svg.specs.Ends.{drawn_ends};

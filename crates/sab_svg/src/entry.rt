@@ -1,7 +1,7 @@
 //! Entries in a picture.
 
 ghost use Rattle.std.specs.Prelude.{◌≡◌, ◌+◌, ◌≤◌, ◌++◌, [], ◌∷◌, length, codes, decimal};
-ghost use Rattle.sab_xml.specs.Xml.{node_text, nodes, nodes_text};
+ghost use Rattle.sab_svg.specs.Xml.Xml.{node_text, nodes, nodes_text};
 ghost use Rattle.sab_svg.specs.Pieces.{label, newline};
 ghost use Rattle.sab_svg.specs.Moves.{pieces_of, drawn_entry};
 ghost use Rattle.sab_svg.specs.Shape as shapes;

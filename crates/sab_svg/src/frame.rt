@@ -1,7 +1,7 @@
 //! What stands behind and around the moves of a picture.
 
 ghost use Rattle.std.specs.Prelude.{◌≡◌, ◌+◌, ◌*◌, ◌<◌, ◌≤◌, ◌^◌, ◌++◌, length, codes};
-ghost use Rattle.sab_xml.specs.Xml.{node_text, nodes_text, nodes};
+ghost use Rattle.sab_svg.specs.Xml.Xml.{node_text, nodes_text, nodes};
 ghost use Rattle.sab_svg.specs.Pieces.{rectangle};
 ghost use Rattle.sab_svg.specs.Shape as shapes;
 ghost use Rattle.sab_svg.specs.Frame.{style, drawn_defs, lane, legend, legend_row, background, root_start};
@@ -12,8 +12,8 @@ use crate::pieces::{
     push_rectangle, push_title,
 };
 use crate::shape::{ROW_HEIGHT, ROWS_TOP, Shape, row_middle, row_text, row_top};
+use crate::xml::push_escaped;
 use sab_report_text::text::Chunk;
-use sab_xml::push_escaped;
 
 /// What a pointer shows over the whole picture.
 const TITLE: &[u8; 47] = b"The calls of agents, from top to bottom in time";

@@ -15,5 +15,6 @@ mod measuring;
 mod picture;
 mod pieces;
 mod shape;
+pub mod xml;
 
 pub use picture::Picture;

@@ -1,13 +1,13 @@
 //! What a picture is made of: texts, bars, lines, and groups of them.
 
 ghost use Rattle.std.specs.Prelude.{◌≡◌, ◌+◌, ◌*◌, ◌-◌, ◌≤◌, ◌<◌, ◌^◌, ◌++◌, [], length};
-ghost use Rattle.sab_xml.specs.Xml.{node_text};
+ghost use Rattle.sab_svg.specs.Xml.Xml.{node_text};
 ghost use Rattle.sab_svg.specs.Pieces.{class_text, label, label_start, rectangle, call_bar, wait_bar, open_call_bar};
 ghost use Rattle.sab_svg.specs.Pieces.{open_wait_bar, across, down, line_start, title, agent_words, group_start};
 
 use crate::class::Class;
+use crate::xml::push_escaped;
 use sab_report_text::text::Chunk;
-use sab_xml::push_escaped;
 
 /// The most bytes of a label before what it says: a class and two numbers.
 const LABEL_START_LEN: usize = 74;

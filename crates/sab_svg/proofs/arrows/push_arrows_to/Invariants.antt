@@ -1,6 +1,6 @@
 use Rattle.std.proofs.Common.{◌≡◌, ◌+◌, ◌*◌, ◌≤◌, ◌++◌, length, drop}
 use Rattle.std.specs.Prelude.{map}
-use Rattle.sab_xml.specs.Xml.{nodes, nodes_text}
+use Rattle.sab_svg.specs.Xml.Xml.{nodes, nodes_text}
 use Rattle.sab_svg.specs.declared.pieces.TheConstants.{LINE_LEN}
 use Rattle.sab_svg.specs.Moves.{arrow}
 use Rattle.sab_svg.proofs.arrows.push_arrows_to.Given as goal

@@ -1,6 +1,6 @@
 -- The label and the line feed, one behind the other.
 use Rattle.std.proofs.Common.{ℕ, List, ◌+◌, ◌++◌, ap, refl, ◌∙◌}
-use Rattle.sab_xml.specs.Xml.{char_text}
+use Rattle.sab_svg.specs.Xml.Xml.{char_text}
 use Rattle.sab_svg.specs.Shape.{row_text}
 use Rattle.sab_svg.specs.Ends.{block_text}
 use Rattle.sab_svg.proofs.Behind.{behind_as}

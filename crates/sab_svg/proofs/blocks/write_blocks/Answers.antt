@@ -2,7 +2,7 @@
 use Rattle.std.proofs.Common.{◌≡◌, ◌∙◌, List, ℕ, ◌++◌, ap, subst, Global}
 use Rattle.std.specs.Prelude.{Vec}
 use Rattle.std.specs.Io.KnownBytes.{append_known}
-use Rattle.sab_xml.specs.Xml.{nodes, nodes_text}
+use Rattle.sab_svg.specs.Xml.Xml.{nodes, nodes_text}
 use Rattle.sab_plan.specs.Report.{items_of_each}
 use Rattle.sab_svg.specs.Ends.{block_line, drawn_blocks}
 use Rattle.sab_svg.proofs.Writing.{blocks_after}

@@ -1,7 +1,7 @@
 use Rattle.std.proofs.Common.{drop}
 use Rattle.std.specs.Io.KnownBytes.{Appends, append_known}
 use Rattle.sab_plan.specs.Report.{items_of_each}
-use Rattle.sab_xml.specs.Xml.{nodes, nodes_text}
+use Rattle.sab_svg.specs.Xml.Xml.{nodes, nodes_text}
 use Rattle.sab_svg.specs.Ends.{drawn_blocks}
 use Rattle.sab_svg.proofs.blocks.write_blocks.Given as goal
 

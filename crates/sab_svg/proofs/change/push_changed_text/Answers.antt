@@ -1,7 +1,7 @@
 -- The element, and the operands before and after, one behind the other.
 use Rattle.std.proofs.Common.{ℕ, List, ◌++◌, ap, ◌∙◌}
 use Rattle.sab_report_text.specs.Words.CallText.{element_text}
-use Rattle.sab_xml.specs.Xml.{text_of}
+use Rattle.sab_svg.specs.Xml.Xml.{text_of}
 use Rattle.sab_svg.proofs.Behind.{behind, behind_as}
 use Rattle.sab_svg.proofs.Drawn.{change_text}
 use Rattle.sab_svg.proofs.change.push_changed_text.Goals as goal

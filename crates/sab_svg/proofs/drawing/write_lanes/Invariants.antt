@@ -1,6 +1,6 @@
 use Rattle.std.proofs.Common.{◌-◌}
 use Rattle.std.specs.Io.KnownBytes.{Appends, append_known}
-use Rattle.sab_xml.specs.Xml.{nodes, nodes_text}
+use Rattle.sab_svg.specs.Xml.Xml.{nodes, nodes_text}
 use Rattle.sab_svg.specs.Frame.{lanes}
 use Rattle.sab_svg.proofs.drawing.write_lanes.Given as goal
 

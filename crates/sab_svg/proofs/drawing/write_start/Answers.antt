@@ -1,6 +1,6 @@
 -- The root tag, what stands behind everything, and the lanes, one behind the other.
 use Rattle.std.specs.Io.KnownBytes.{append_known}
-use Rattle.sab_xml.specs.Xml.{nodes, nodes_text}
+use Rattle.sab_svg.specs.Xml.Xml.{nodes, nodes_text}
 use Rattle.sab_svg.specs.Frame.{root_start, background, lanes}
 use Rattle.sab_svg.proofs.Writing.{three_then}
 use Rattle.sab_svg.proofs.drawing.write_start.Goals as goal

@@ -1,6 +1,6 @@
 use Rattle.std.proofs.Common.{◌-◌}
 use Rattle.std.specs.Io.KnownBytes.{Appends, append_known}
-use Rattle.sab_xml.specs.Xml.{nodes, nodes_text}
+use Rattle.sab_svg.specs.Xml.Xml.{nodes, nodes_text}
 use Rattle.sab_svg.specs.Ends.{drawn_ends}
 use Rattle.sab_svg.proofs.ends.write_ends.Given as goal
 

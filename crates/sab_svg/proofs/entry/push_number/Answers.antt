@@ -1,7 +1,7 @@
 -- The start of a label, its number and its end, one behind the other.
 use Rattle.std.proofs.Common.{ap, ◌∙◌}
 use Rattle.std.specs.Prelude.{codes, decimal}
-use Rattle.sab_xml.proofs.Texts.{text_of_decimal}
+use Rattle.sab_svg.proofs.OfXml.Texts.{text_of_decimal}
 use Rattle.sab_svg.specs.Shape.{row_text}
 use Rattle.sab_svg.specs.Pieces.{label_start}
 use Rattle.sab_svg.proofs.Behind.{behind_as}

@@ -1,6 +1,6 @@
 -- The pieces, one behind the other.
 use Rattle.std.proofs.Common.{ℕ, ap, ap₂, ◌∙◌}
-use Rattle.sab_xml.specs.Xml.{nodes, nodes_text}
+use Rattle.sab_svg.specs.Xml.Xml.{nodes, nodes_text}
 use Rattle.sab_svg.specs.Shape.{row_text}
 use Rattle.sab_svg.specs.Moves.{done_label}
 use Rattle.sab_svg.proofs.Behind.{behind, behind_as}

@@ -1,7 +1,7 @@
 -- The pieces, one behind the other.
 use Rattle.std.proofs.Common.{ℕ, ap, ap₂}
 use Rattle.std.specs.Prelude.{codes}
-use Rattle.sab_xml.specs.Xml.{node_text, char_text}
+use Rattle.sab_svg.specs.Xml.Xml.{node_text, char_text}
 use Rattle.sab_svg.specs.Pieces.{rectangle, label}
 use Rattle.sab_svg.proofs.Behind.{behind, behind_as}
 use Rattle.sab_svg.proofs.frame.push_background.Goals as goal

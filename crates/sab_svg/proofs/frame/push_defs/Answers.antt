@@ -2,7 +2,7 @@
 use Rattle.std.proofs.Common.{ℕ, ap}
 use Rattle.std.specs.Prelude.{codes}
 use Rattle.std.specs.Fmt.{decimal}
-use Rattle.sab_xml.specs.Xml.{node_text}
+use Rattle.sab_svg.specs.Xml.Xml.{node_text}
 use Rattle.sab_svg.specs.Pieces.{rectangle}
 use Rattle.sab_svg.proofs.Behind.{behind, behind_as}
 use Rattle.sab_svg.proofs.FrameTexts.{defs_text}

@@ -2,7 +2,7 @@
 use Rattle.std.proofs.Common.{◌≡◌, ℕ, List, ◌-◌, ◌++◌, ap₂, refl}
 use Rattle.std.specs.Prelude.{codes}
 use Rattle.std.specs.Fmt.{decimal}
-use Rattle.sab_xml.specs.Xml.{node_text, char_text}
+use Rattle.sab_svg.specs.Xml.Xml.{node_text, char_text}
 use Rattle.sab_svg.specs.Pieces.{down, label}
 use Rattle.sab_svg.proofs.Behind.{behind, behind_as}
 use Rattle.sab_svg.proofs.frame.push_lane.Goals as goal

@@ -1,7 +1,7 @@
 -- The pieces, one behind the other.
 use Rattle.std.proofs.Common.{◌≡◌, ℕ, List, ◌+◌, ap, ◌∙◌}
 use Rattle.std.specs.Prelude.{codes}
-use Rattle.sab_xml.specs.Xml.{node_text, char_text}
+use Rattle.sab_svg.specs.Xml.Xml.{node_text, char_text}
 use Rattle.sab_svg.specs.Shape.{row_top, row_middle, row_text}
 use Rattle.sab_svg.specs.Frame.{legend_row}
 use Rattle.sab_svg.specs.Pieces.{across, label, rectangle}

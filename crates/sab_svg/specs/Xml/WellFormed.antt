@@ -2,7 +2,7 @@
 -- alone, whose bytes are their characters.
 use Rattle.std.specs.Prelude.{◌≡◌, ℕ, ◌==◌, ◌&&◌, ◌||◌, not, nat_lt, Bool, IsTrue, ⊤, List, [], ◌∷◌, ◌++◌, All, codes, decimal}
 use Rattle.std.specs.Char.{is_ascii_alphabetic, is_ascii_alphanumeric}
-use Rattle.sab_xml.specs.Xml.{Node, element, text, Nodes, no_nodes, node, Attributes, no_attributes, attribute}
+use Rattle.sab_svg.specs.Xml.Xml.{Node, element, text, Nodes, no_nodes, node, Attributes, no_attributes, attribute}
 
 -- a character that a document can hold (Char)
 abbrev pub is_char : ℕ → Bool

@@ -7,7 +7,7 @@ use Rattle.std.proofs.lemmas.Bool.Decides.{nat_tests}
 use Rattle.std.proofs.lemmas.Fmt.{length-decimal-le}
 use Rattle.std.proofs.lemmas.Grind.{flat_map-append}
 use Rattle.std.proofs.lemmas.List.Elements.{All-nil, All-cons, All-head, All-tail}
-use Rattle.sab_xml.specs.Xml.{Node, nodes, is_plain, char_text, text_of, nodes_text}
+use Rattle.sab_svg.specs.Xml.Xml.{Node, nodes, is_plain, char_text, text_of, nodes_text}
 
 pub text_of_both : (a b : List ℕ) → text_of (a ++ b) ≡ text_of a ++ text_of b
 text_of_both a b = flat_map-append char_text a b

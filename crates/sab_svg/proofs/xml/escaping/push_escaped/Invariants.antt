@@ -1,6 +1,6 @@
 use Rattle.std.proofs.Common.{◌≡◌, ◌+◌, ◌-◌, ◌*◌, ◌≤◌, ◌++◌, length, take, drop}
-use Rattle.sab_xml.specs.Xml.{text_of}
-use Rattle.sab_xml.proofs.escaping.push_escaped.Given as goal
+use Rattle.sab_svg.specs.Xml.Xml.{text_of}
+use Rattle.sab_svg.proofs.xml.escaping.push_escaped.Given as goal
 
 abbrev pub invariant-loop-i : goal.invariant-loop-i
 invariant-loop-i l = record {

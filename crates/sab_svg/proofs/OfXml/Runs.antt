@@ -1,8 +1,8 @@
 -- A text that is written run by run: characters that stand for themselves, and then a reference.
 use Rattle.std.proofs.Common.{◌≡◌, ℕ, ◌+◌, ◌-◌, ◌<◌, ◌≤◌, true, List, [], ◌∷◌, ◌++◌, length, get_or, take, drop, refl, ap, ◌∙◌, arith, append_assoc, append-nil, length-append, length-take, length-drop}
 use Rattle.std.proofs.lemmas.List.{get_or-drop, drop_more, take_more}
-use Rattle.sab_xml.specs.Xml.{is_plain, char_text, text_of}
-use Rattle.sab_xml.proofs.Texts.{plain_char}
+use Rattle.sab_svg.specs.Xml.Xml.{is_plain, char_text, text_of}
+use Rattle.sab_svg.proofs.OfXml.Texts.{plain_char}
 
 -- the run as it stands at i, and what is left from there
 module _ (text : List ℕ) (start i : ℕ) (behind : start ≤ i) (within : i < length text) where

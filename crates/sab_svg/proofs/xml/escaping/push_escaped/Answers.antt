@@ -1,7 +1,7 @@
 use Rattle.std.proofs.Common.{◌<◌, ◌∙◌, length, arith, sym}
-use Rattle.sab_xml.proofs.Runs.{run_longer, run_ended, run_room}
-use Rattle.sab_xml.proofs.escaping.push_escaped.Goals as goal
-use Rattle.sab_xml.proofs.escaping.push_escaped.Goals.{then-not-stands_for_itself, else-not-stands_for_itself}
+use Rattle.sab_svg.proofs.OfXml.Runs.{run_longer, run_ended, run_room}
+use Rattle.sab_svg.proofs.xml.escaping.push_escaped.Goals as goal
+use Rattle.sab_svg.proofs.xml.escaping.push_escaped.Goals.{then-not-stands_for_itself, else-not-stands_for_itself}
 
 pub loop-i-preserved : goal.loop-i-preserved
 loop-i-preserved c =

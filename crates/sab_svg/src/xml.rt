@@ -1,5 +1,4 @@
 //! Texts in XML.
-#![tactic(auto)]
 
 mod escaping;
 

@@ -5,8 +5,8 @@ use Rattle.std.specs.List.{list_all}
 use Rattle.std.specs.Char.{is_ascii_alphabetic}
 use Rattle.std.specs.Cmp.Lexicographic.{pointwise, other_text}
 use Rattle.std.proofs.lemmas.List.Elements.{All-nil, All-cons}
-use Rattle.sab_xml.specs.Xml.{Node, element, text, Nodes, no_nodes, node}
-use Rattle.sab_xml.specs.WellFormed.{is_name_char, IsName, attribute_names, AreAttributeNames, IsNamed, AreNamed}
+use Rattle.sab_svg.specs.Xml.Xml.{Node, element, text, Nodes, no_nodes, node}
+use Rattle.sab_svg.specs.Xml.WellFormed.{is_name_char, IsName, attribute_names, AreAttributeNames, IsNamed, AreNamed}
 
 both : (a b : Bool) → (a && b) ≡ true → IsTrue a × IsTrue b
 both true b h = (refl, h)

@@ -2,8 +2,8 @@
 use Rattle.std.proofs.Common.{◌≡◌, ℕ, ◌==◌, Bool, true, false, cond, List, [], ◌∷◌, ◌++◌, refl, arith, append_assoc, append-nil}
 use Rattle.std.specs.Prelude.{IsTrue, codes, nat_lt, ◌&&◌}
 use Rattle.std.proofs.lemmas.Bool.Decides.{nat_tests}
-use Rattle.sab_xml.specs.Xml.{Node, element, text, Nodes, no_nodes, node, nodes, Attributes, no_attributes, attribute, is_plain, char_text, text_of, attributes_text, node_text, nodes_text}
-use Rattle.sab_xml.specs.WellFormed.{is_char, is_data, IsName, IsText, empty, character, reference, less, greater, ampersand, quote, numbered, AreAttributes, none, one, IsElement, empty_tag, tags, IsContent, nothing, some_text, child, IsDocument, attribute_names, AreAttributeNames, IsNamed, AreNamed}
+use Rattle.sab_svg.specs.Xml.Xml.{Node, element, text, Nodes, no_nodes, node, nodes, Attributes, no_attributes, attribute, is_plain, char_text, text_of, attributes_text, node_text, nodes_text}
+use Rattle.sab_svg.specs.Xml.WellFormed.{is_char, is_data, IsName, IsText, empty, character, reference, less, greater, ampersand, quote, numbered, AreAttributes, none, one, IsElement, empty_tag, tags, IsContent, nothing, some_text, child, IsDocument, attribute_names, AreAttributeNames, IsNamed, AreNamed}
 
 -- ---- texts
 

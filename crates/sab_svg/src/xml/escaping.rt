@@ -1,7 +1,7 @@
 //! Texts as they stand between the tags of XML, and between quotation marks.
 
 ghost use Rattle.std.specs.Prelude.{◌≡◌, ◌+◌, ◌*◌, ◌≤◌, ◌++◌, false, length};
-ghost use Rattle.sab_xml.specs.Xml.{char_text, is_plain, reference, text_of};
+ghost use Rattle.sab_svg.specs.Xml.Xml.{char_text, is_plain, reference, text_of};
 
 use itoa::Buffer;
 use sab_report_text::text::Chunk;
@@ -37,7 +37,7 @@ fn stands_for_itself(byte: u8) -> bool
 }
 
 /// Appends the reference that stands for a character.
-#[tactic(auto, unfolding(crate::specs::Xml::char_text))]
+#[tactic(auto, unfolding(crate::specs::Xml::Xml::char_text))]
 fn push_reference(byte: u8, chunk: &mut Chunk)
     requires plain { is_plain byte ≡ false }
     requires room { length chunk.old + 8 ≤ Chunk.ROOM }
@@ -55,7 +55,7 @@ fn push_reference(byte: u8, chunk: &mut Chunk)
 }
 
 /// Appends the reference to a character by its number.
-#[tactic(auto, using(crate::proofs::Texts::short_number))]
+#[tactic(auto, using(crate::proofs::OfXml::Texts::short_number))]
 fn push_numbered(number: u16, chunk: &mut Chunk)
     requires { length chunk.old + 8 ≤ Chunk.ROOM }
     ensures bytes { chunk.new ≡ chunk.old ++ reference number }
