@@ -3,9 +3,9 @@
 ghost use Rattle.std.specs.Prelude.{◌≤◌};
 
 use crate::way::Way;
-use sab_faults::ToolFault;
 use sab_race::{MAX_SPINS, NoGate};
-use sab_script_runner::{Share, race_bytes, race_mixed};
+use sab_replay::faults::ToolFault;
+use sab_replay::script_runner::{Share, race_bytes, race_mixed};
 use std::alloc::Global;
 use std::sync::{Arc, Wait};
 use std::test::Fail;

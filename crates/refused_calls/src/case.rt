@@ -1,6 +1,6 @@
 //! The cases: calls that are made while memory or threads are refused.
 
-use sab_script_runner::Share;
+use sab_replay::script_runner::Share;
 
 /// What is called.
 #[derive(Clone, Copy)]

@@ -1,6 +1,6 @@
 //! What is found out about a call.
 
-use sab_faults::ToolFault;
+use sab_replay::faults::ToolFault;
 use std::alloc::{AllocError, AllocFailed};
 
 /// By what a call was refused.

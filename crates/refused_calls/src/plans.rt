@@ -1,7 +1,7 @@
 //! The plans that calls are given.
 
 use crate::found::Unmade;
-use sab_script_runner::setup_of;
+use sab_replay::script_runner::setup_of;
 use sab_sim::{Plan, Script};
 use std::alloc::Global;
 

@@ -4,7 +4,7 @@ use crate::found::{Found, Refusal, Unmade};
 use crate::gate::Counter;
 use crate::plans::four_adders;
 use sab_race::{RaceFault, run_locked, run_rings};
-use sab_script_runner::Share;
+use sab_replay::script_runner::Share;
 use sab_sim::{Progress, Report};
 use std::alloc::Global;
 use std::sync::{Arc, Wait};

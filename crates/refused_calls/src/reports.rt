@@ -3,8 +3,8 @@
 use crate::found::Found;
 use crate::scripts::{ITS_REPORT, STORE_AND_LOAD, STORED_AND_LOADED, THREE_WHO_WAIT};
 use crate::texts::{ROOM, is_text, is_unwritten};
-use sab_faults::ToolFault;
-use sab_script_runner::{Share, race_bytes, replay_bytes};
+use sab_replay::faults::ToolFault;
+use sab_replay::script_runner::{Share, race_bytes, replay_bytes};
 use std::alloc::Global;
 use std::sync::Wait;
 use std::thread::Threads;

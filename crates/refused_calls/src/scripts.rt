@@ -3,9 +3,9 @@
 use crate::found::{Found, Refusal, Unmade};
 use crate::plans::{TWO_WAITS, WAIT_AND_LOAD, plan_of};
 use crate::texts::{are_all, is_report};
-use sab_faults::{ReadFault, ToolFault};
 use sab_race::moves;
-use sab_script_runner::{read_input, read_setup, setup_of, write_report};
+use sab_replay::faults::{ReadFault, ToolFault};
+use sab_replay::script_runner::{read_input, read_setup, setup_of, write_report};
 use sab_sim::Move::{self, Step, TimeUp};
 use sab_sim::SimFault;
 use serde_json::Value;

@@ -1,6 +1,6 @@
 //! Texts that calls write, and arrays that they write them into.
 
-use sab_script_runner::write_report;
+use sab_replay::script_runner::write_report;
 use sab_sim::Report;
 
 /// How many bytes a text can have.

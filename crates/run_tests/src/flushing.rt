@@ -5,10 +5,10 @@
 use sab_automata::Timeouts;
 use sab_command::{Job, RaceJob, RunForm, SearchForm, SearchJob};
 use sab_exit::Outcome;
-use sab_faults::ToolFault;
-use sab_report::{Format, Lines, ReportForm, VerdictFormat};
+use sab_replay::faults::ToolFault;
+use sab_replay::report::{Format, Lines, ReportForm, VerdictFormat};
+use sab_replay::script_runner::Share;
 use sab_run::{Failure, judge_trace, run, run_race, run_search};
-use sab_script_runner::Share;
 use std::alloc::Global;
 use std::io;
 use std::io::Write;

@@ -2,7 +2,7 @@
 use Rattle.std.proofs.Common.{◌≡◌, true, refl, ap, rules}
 use denote.Enum.Bare.{same_true}
 use Rattle.std.proofs.lemmas.Bool.{false≢true}
-use Rattle.sab_faults.proofs.Equality.{same_tool_fault}
+use Rattle.sab_replay.proofs.OfFaults.Equality.{same_tool_fault}
 use Rattle.sab_exit.specs.declared.ending.Ending.{Ending}
 use Rattle.sab_exit.specs.declared.ending.Ending.TheVariants.{Done, Refused, ScriptRefused, Unfinished, Racy, Flawed, Open, Failed}
 use Rattle.sab_exit.specs.declared.fault_line.FaultLine.{FaultLine}

@@ -1,8 +1,8 @@
 -- What is reported about a job that failed.
 use Rattle.std.specs.Prelude.{ℕ, List, [], ◌++◌, Option, Some, None, codes, decimal}
 use Rattle.std.specs.Borrow.{Bor}
-use Rattle.sab_faults.specs.declared.tool_fault.ToolFault.{ToolFault}
-use Rattle.sab_faults.specs.declared.tool_fault.ToolFault.TheVariants.{OrdinaryData}
+use Rattle.sab_replay.specs.declared.faults.tool_fault.ToolFault.{ToolFault}
+use Rattle.sab_replay.specs.declared.faults.tool_fault.ToolFault.TheVariants.{OrdinaryData}
 use Rattle.sab_exit.specs.declared.complaint.Complaint.{Complaint}
 use Rattle.sab_exit.specs.FaultLine.{text_of}
 

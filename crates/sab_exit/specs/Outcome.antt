@@ -1,7 +1,7 @@
 -- What a run comes to.
 use Rattle.std.specs.Prelude.{Bool, true, false}
-use Rattle.sab_script_runner.specs.declared.ended.Ended.{Ended}
-use Rattle.sab_script_runner.specs.declared.ended.Ended.TheVariants as E
+use Rattle.sab_replay.specs.declared.script_runner.ended.Ended.{Ended}
+use Rattle.sab_replay.specs.declared.script_runner.ended.Ended.TheVariants as E
 use Rattle.sab_exit.specs.declared.outcome.Outcome.{Outcome}
 use Rattle.sab_exit.specs.declared.outcome.Outcome.TheVariants.{Done, Unfinished, Racy}
 

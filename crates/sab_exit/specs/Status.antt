@@ -1,7 +1,7 @@
 -- The exit statuses after faults.
 use Rattle.std.specs.Prelude.{ℕ}
-use Rattle.sab_faults.specs.declared.tool_fault.ToolFault.{ToolFault}
-use Rattle.sab_faults.specs.declared.tool_fault.ToolFault.TheVariants.{TooMany, OutOfMemory, TooManyMoves, NoThread, BadShape, BadName, BadNumber, BadCall, BadView, BadAgent, NotJson, WriteFailed, TooLong, ReadFailed, NoBlock, OrdinaryData, BadEdge, NoNode, BadRange}
+use Rattle.sab_replay.specs.declared.faults.tool_fault.ToolFault.{ToolFault}
+use Rattle.sab_replay.specs.declared.faults.tool_fault.ToolFault.TheVariants.{TooMany, OutOfMemory, TooManyMoves, NoThread, BadShape, BadName, BadNumber, BadCall, BadView, BadAgent, NotJson, WriteFailed, TooLong, ReadFailed, NoBlock, OrdinaryData, BadEdge, NoNode, BadRange}
 
 -- the table: 1 for an input that is refused, 3 for a device that failed, 4 for want of memory or of a thread
 abbrev pub status_after : ToolFault → ℕ

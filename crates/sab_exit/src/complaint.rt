@@ -5,7 +5,7 @@ ghost use Rattle.std.specs.Fmt.{WritesOnOk};
 ghost use Rattle.sab_exit.specs.Complaint.{file_text, line_text, advice_text};
 
 use crate::fault_line::FaultLine;
-use sab_faults::ToolFault;
+use sab_replay::faults::ToolFault;
 use std::fmt;
 
 /// What the program says on standard error of a job that failed, in lines.

@@ -5,7 +5,7 @@ ghost use Rattle.sab_exit.specs.Ending.{status_at, after_job};
 
 use crate::outcome::Outcome;
 use crate::status::status_of;
-use sab_faults::ToolFault;
+use sab_replay::faults::ToolFault;
 
 /// How the program ends.
 #[derive(Clone, Copy, Debug, PartialEq, Eq)]

@@ -1,6 +1,6 @@
 //! The line that reports a fault.
 
-use sab_faults::ToolFault;
+use sab_replay::faults::ToolFault;
 use std::fmt;
 
 /// What the program says on standard error of a fault.

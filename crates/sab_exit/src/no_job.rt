@@ -7,7 +7,7 @@ ghost use Rattle.sab_exit.specs.Ending.{after_no_job};
 use crate::ending::Ending;
 use clap::Error;
 use clap::error::ErrorKind;
-use sab_faults::ToolFault;
+use sab_replay::faults::ToolFault;
 
 /// Prints the help that was asked for, or why the command line was refused, and returns how the program ends.
 ///

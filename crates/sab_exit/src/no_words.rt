@@ -4,7 +4,7 @@ ghost use Rattle.std.specs.Prelude.{◌≡◌, ◌≢◌};
 ghost use Rattle.std.specs.IoError.{error_kind};
 
 use crate::ending::Ending;
-use sab_faults::ToolFault;
+use sab_replay::faults::ToolFault;
 use std::io::{Error, ErrorKind};
 
 /// Says on standard error that the words are no text, unless memory ran out, and returns how the program ends.

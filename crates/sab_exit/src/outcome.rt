@@ -3,7 +3,7 @@
 ghost use Rattle.std.specs.Prelude.{◌≡◌};
 ghost use Rattle.sab_exit.specs.Outcome.{judged_outcome, outcome_of};
 
-use sab_script_runner::Ended;
+use sab_replay::script_runner::Ended;
 
 /// What a job came to that wrote all that it had to.
 #[derive(Clone, Copy, Debug, PartialEq, Eq)]

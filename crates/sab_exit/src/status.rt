@@ -3,7 +3,7 @@
 ghost use Rattle.std.specs.Prelude.{◌≡◌};
 ghost use Rattle.sab_exit.specs.Status.{status_after};
 
-use sab_faults::ToolFault;
+use sab_replay::faults::ToolFault;
 
 /// The exit status after a fault: 1 if the input was refused, 3 where standard input or output failed, 4 where
 /// there was no memory or no thread.

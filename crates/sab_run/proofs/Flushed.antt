@@ -4,20 +4,20 @@ use Rattle.std.specs.Io.KnownBytes.{Appends, Keeps}
 use Rattle.sab_plan.specs.Plan.{PlanParts}
 use Rattle.sab_plan.specs.Report.{ReportParts}
 use Rattle.sab_reader.specs.Script.Setup.{SetupParts}
-use Rattle.sab_kept_script.specs.Keeping.{KeepsRun, IsRaceIn}
-use Rattle.sab_script_runner.specs.Replay.{IsReportOf}
+use Rattle.sab_replay.specs.KeptScript.Keeping.{KeepsRun, IsRaceIn}
+use Rattle.sab_replay.specs.ScriptRunner.Replay.{IsReportOf}
 use Rattle.sab_command.specs.declared.job.RunForm.{RunForm}
 use Rattle.sab_command.specs.declared.job.RunForm.TheVariants.{Report, Script}
-use Rattle.sab_faults.specs.declared.tool_fault.ToolFault.TheVariants.{WriteFailed}
+use Rattle.sab_replay.specs.declared.faults.tool_fault.ToolFault.TheVariants.{WriteFailed}
 use Rattle.sab_run.specs.Racing.{RacesIn, IsFaultOfRace}
 use Rattle.sab_run.specs.Running.{ReplaysIn, IsFaultOfReplay}
-use Rattle.sab_script_runner.specs.declared.ended.Ended.{Ended}
+use Rattle.sab_replay.specs.declared.script_runner.ended.Ended.{Ended}
 use Rattle.sab_report_text.specs.declared.text.format.ReportForm.{ReportForm}
 use Rattle.sab_report_text.specs.declared.text.format.VerdictFormat.{VerdictFormat}
-use Rattle.sab_report.specs.RunReport.{WritesReport}
-use Rattle.sab_report.specs.declared.judging.Judged.{Judged}
-use Rattle.sab_report.specs.Judging.{JudgesAs, IsJudgeFault}
-use Rattle.sab_report.specs.Reporting.{ReplaysAs, RacesAs}
+use Rattle.sab_replay.specs.Report.RunReport.{WritesReport}
+use Rattle.sab_replay.specs.declared.report.judging.Judged.{Judged}
+use Rattle.sab_replay.specs.Report.Judging.{JudgesAs, IsJudgeFault}
+use Rattle.sab_replay.specs.Report.Reporting.{ReplaysAs, RacesAs}
 
 pub appends_kept : (old mid new : Option (List ℕ)) (bs : List ℕ) → Appends old mid bs → Keeps mid new
     → Appends old new bs

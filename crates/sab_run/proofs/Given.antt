@@ -1,9 +1,9 @@
 -- A job or a race of the script that a reader gave.
 use Rattle.std.proofs.Common.{◌≡◌, ℕ, ◌≤◌, Bool, List, length, Option, Some, None, IfSome, subst, arith}
-use Rattle.sab_script_runner.specs.declared.input.TheConstants.{MAX_INPUT}
-use Rattle.sab_faults.specs.declared.tool_fault.ToolFault.{ToolFault}
-use Rattle.sab_faults.specs.declared.tool_fault.ToolFault.TheVariants.{OutOfMemory, TooLong, ReadFailed}
-use Rattle.sab_script_runner.specs.Input.{IsInputFault}
+use Rattle.sab_replay.specs.declared.script_runner.input.TheConstants.{MAX_INPUT}
+use Rattle.sab_replay.specs.declared.faults.tool_fault.ToolFault.{ToolFault}
+use Rattle.sab_replay.specs.declared.faults.tool_fault.ToolFault.TheVariants.{OutOfMemory, TooLong, ReadFailed}
+use Rattle.sab_replay.specs.ScriptRunner.Input.{IsInputFault}
 use Rattle.sab_command.specs.declared.job.Job.{Job}
 use Rattle.sab_command.specs.declared.job.RaceJob.{RaceJob}
 use Rattle.sab_exit.specs.declared.outcome.Outcome.{Outcome}

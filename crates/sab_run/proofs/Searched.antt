@@ -28,16 +28,16 @@ use Rattle.sab_automata_reader.specs.declared.automata_text.faults.Refusal.{Refu
 use Rattle.sab_automata_reader.specs.declared.automata_text.faults.Refusal.TheVariants as refusal
 use Rattle.sab_automata_reader.specs.AutomataText.Faults.{edge_number, edges_number, access_number, node_number, automaton_number}
 use Rattle.sab_automata_reader.specs.AutomataText.Faults.{automata_number, agent_number, agents_number, file_number, refusal_number}
-use Rattle.sab_faults.specs.declared.tool_fault.ToolFault.{ToolFault}
-use Rattle.sab_faults.specs.declared.tool_fault.ToolFault.TheVariants.{TooMany, OutOfMemory, BadShape, BadName, BadNumber, BadCall, BadView, BadAgent, NotJson, TooLong, NoBlock, BadEdge, NoNode, BadRange}
-use Rattle.sab_faults.specs.ToolFault.{number_of}
+use Rattle.sab_replay.specs.declared.faults.tool_fault.ToolFault.{ToolFault}
+use Rattle.sab_replay.specs.declared.faults.tool_fault.ToolFault.TheVariants.{TooMany, OutOfMemory, BadShape, BadName, BadNumber, BadCall, BadView, BadAgent, NotJson, TooLong, NoBlock, BadEdge, NoNode, BadRange}
+use Rattle.sab_replay.specs.Faults.ToolFault.{number_of}
 use Rattle.sab_command.specs.declared.job.SearchForm.{SearchForm}
 use Rattle.sab_command.specs.declared.job.SearchForm.TheVariants as F
 use Rattle.sab_command.specs.declared.job.SearchJob.{SearchJob}
 use Rattle.sab_exit.specs.declared.outcome.Outcome.{Outcome}
 use Rattle.sab_search.specs.declared.ending.SearchEnd.{SearchEnd}
-use Rattle.sab_script_runner.specs.Input.{IsFaultOfInput}
-use Rattle.sab_script_runner.proofs.ReplaySteps.{keeps_same}
+use Rattle.sab_replay.specs.ScriptRunner.Input.{IsFaultOfInput}
+use Rattle.sab_replay.proofs.OfScriptRunner.ReplaySteps.{keeps_same}
 use Rattle.sab_run.specs.declared.failure.Failure.{Failure}
 use Rattle.sab_run.specs.Failure.{unexplained}
 use Rattle.sab_run.proofs.Flushed.{appends_kept}

@@ -11,7 +11,7 @@ use Rattle.sab_report_text.specs.declared.text.format.VerdictFormat.{VerdictForm
 use Rattle.sab_verdict.specs.Json.{access_side, judged_trace}
 use Rattle.sab_verdict.specs.ReadsBack.{LinesReadBack}
 use Rattle.sab_verdict.specs.Verdict.{trace_verdict_text}
-use Rattle.sab_report.specs.declared.judging.TheConstants.{MAX_REPORTED}
+use Rattle.sab_replay.specs.declared.report.judging.TheConstants.{MAX_REPORTED}
 use Rattle.sab_exit.specs.declared.outcome.Outcome.{Outcome}
 use Rattle.sab_exit.specs.declared.outcome.Outcome.TheVariants.{Done, Racy}
 use Rattle.sab_run.specs.Tracing.{JudgesTrace, IsOutcomeOf}

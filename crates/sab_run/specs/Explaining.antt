@@ -1,8 +1,8 @@
 -- Why a script is refused, as a check reports it.
 use Rattle.std.specs.Prelude.{◌≡◌, ℕ, ◌≤◌, List, length, Bool, true, Option, Some, None, String, string_bytes}
 use Rattle.std.specs.declared.alloc.Global.{Global}
-use Rattle.sab_script_runner.specs.declared.input.TheConstants.{MAX_INPUT}
-use Rattle.sab_faults.specs.declared.tool_fault.ToolFault.{ToolFault}
+use Rattle.sab_replay.specs.declared.script_runner.input.TheConstants.{MAX_INPUT}
+use Rattle.sab_replay.specs.declared.faults.tool_fault.ToolFault.{ToolFault}
 use Rattle.sab_reader.specs.Check.Checked.{IsAccepted, IsRefused}
 use Rattle.sab_exit.specs.Status.{status_after}
 use Rattle.sab_run.specs.declared.failure.Explanation.{Explanation}

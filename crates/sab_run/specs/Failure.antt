@@ -5,8 +5,8 @@ use Rattle.std.specs.Borrow.{Bor}
 use Rattle.std.specs.Char.{is_control}
 use Rattle.std.specs.Int.{is_in_range}
 use Rattle.std.specs.Str.{chars}
-use Rattle.sab_faults.specs.declared.tool_fault.ToolFault.{ToolFault}
-use Rattle.sab_faults.specs.declared.tool_fault.ToolFault.TheVariants.{ReadFailed}
+use Rattle.sab_replay.specs.declared.faults.tool_fault.ToolFault.{ToolFault}
+use Rattle.sab_replay.specs.declared.faults.tool_fault.ToolFault.TheVariants.{ReadFailed}
 use Rattle.sab_command.specs.declared.request.Source.{Source}
 use Rattle.sab_command.specs.declared.request.Source.TheVariants.{Standard, File}
 use Rattle.sab_run.specs.declared.failure.Explanation.{Explanation}

@@ -1,13 +1,13 @@
 -- What a race does with the script that a reader gives.
 use Rattle.std.specs.Prelude.{◌≡◌, ◌⊎◌, ℕ, ◌≤◌, List, length, Option, IfSome}
 use Rattle.std.specs.Io.KnownBytes.{Keeps}
-use Rattle.sab_script_runner.specs.declared.input.TheConstants.{MAX_INPUT}
-use Rattle.sab_faults.specs.declared.tool_fault.ToolFault.{ToolFault}
-use Rattle.sab_script_runner.specs.Input.{IsInputFault}
-use Rattle.sab_script_runner.specs.Racing.{IsRaceFault}
-use Rattle.sab_script_runner.specs.declared.ended.Ended.{Ended}
-use Rattle.sab_report.specs.Reporting.{RacesAs}
-use Rattle.sab_kept_script.specs.Keeping.{IsRaceIn, IsRaceUnkept, IsKeepFault}
+use Rattle.sab_replay.specs.declared.script_runner.input.TheConstants.{MAX_INPUT}
+use Rattle.sab_replay.specs.declared.faults.tool_fault.ToolFault.{ToolFault}
+use Rattle.sab_replay.specs.ScriptRunner.Input.{IsInputFault}
+use Rattle.sab_replay.specs.ScriptRunner.Racing.{IsRaceFault}
+use Rattle.sab_replay.specs.declared.script_runner.ended.Ended.{Ended}
+use Rattle.sab_replay.specs.Report.Reporting.{RacesAs}
+use Rattle.sab_replay.specs.KeptScript.Keeping.{IsRaceIn, IsRaceUnkept, IsKeepFault}
 use Rattle.sab_command.specs.declared.job.RunForm.{RunForm}
 use Rattle.sab_command.specs.declared.job.RunForm.TheVariants.{Report, Script}
 use Rattle.sab_command.specs.declared.job.RaceJob.{RaceJob}

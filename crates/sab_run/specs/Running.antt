@@ -1,19 +1,19 @@
 -- What a job without threads does with the script that a reader gives.
 use Rattle.std.specs.Prelude.{◌≡◌, ◌⊎◌, ℕ, ◌≤◌, List, length, Option, IfSome}
 use Rattle.std.specs.Io.KnownBytes.{Appends, Keeps}
-use Rattle.sab_script_runner.specs.declared.input.TheConstants.{MAX_INPUT}
-use Rattle.sab_faults.specs.declared.tool_fault.ToolFault.{ToolFault}
-use Rattle.sab_faults.specs.declared.tool_fault.ToolFault.TheVariants.{OutOfMemory, WriteFailed}
-use Rattle.sab_script_runner.specs.Input.{IsInputFault}
+use Rattle.sab_replay.specs.declared.script_runner.input.TheConstants.{MAX_INPUT}
+use Rattle.sab_replay.specs.declared.faults.tool_fault.ToolFault.{ToolFault}
+use Rattle.sab_replay.specs.declared.faults.tool_fault.ToolFault.TheVariants.{OutOfMemory, WriteFailed}
+use Rattle.sab_replay.specs.ScriptRunner.Input.{IsInputFault}
 use Rattle.sab_plan.specs.Report.{ReportParts}
 use Rattle.sab_reader.specs.Script.Setup.{SetupParts}
-use Rattle.sab_script_runner.specs.Replay.{IsReportOf, IsReplayFault}
-use Rattle.sab_script_runner.specs.declared.ended.Ended.{Ended}
-use Rattle.sab_script_runner.specs.Ended.{ended_of}
-use Rattle.sab_report.specs.Reporting.{ReplaysAs}
-use Rattle.sab_report.specs.declared.judging.Judged.{Judged}
-use Rattle.sab_report.specs.Judging.{JudgesAs, IsJudgeFault}
-use Rattle.sab_kept_script.specs.Keeping.{KeepsRun, IsReplayUnkept, IsKeepFault}
+use Rattle.sab_replay.specs.ScriptRunner.Replay.{IsReportOf, IsReplayFault}
+use Rattle.sab_replay.specs.declared.script_runner.ended.Ended.{Ended}
+use Rattle.sab_replay.specs.ScriptRunner.Ended.{ended_of}
+use Rattle.sab_replay.specs.Report.Reporting.{ReplaysAs}
+use Rattle.sab_replay.specs.declared.report.judging.Judged.{Judged}
+use Rattle.sab_replay.specs.Report.Judging.{JudgesAs, IsJudgeFault}
+use Rattle.sab_replay.specs.KeptScript.Keeping.{KeepsRun, IsReplayUnkept, IsKeepFault}
 use Rattle.sab_reader.specs.Check.Checked.{IsAccepted, IsRefused}
 use Rattle.sab_command.specs.declared.job.RunForm.{RunForm}
 use Rattle.sab_command.specs.declared.job.RunForm.TheVariants.{Report, Script}

@@ -1,9 +1,9 @@
 -- What a search of a file of automata returns.
 use Rattle.std.specs.Prelude.{◌≡◌, ◌⊎◌, ℕ, ◌≤◌, Bool, true, false, List, length, Option, IfSome, string_bytes, ◌++◌, codes}
 use Rattle.std.specs.Io.KnownBytes.{Keeps}
-use Rattle.sab_script_runner.specs.Input.{IsFaultOfInput}
-use Rattle.sab_faults.specs.ToolFault.{number_of}
-use Rattle.sab_faults.specs.declared.tool_fault.ToolFault.TheVariants.{TooMany, OutOfMemory, WriteFailed}
+use Rattle.sab_replay.specs.ScriptRunner.Input.{IsFaultOfInput}
+use Rattle.sab_replay.specs.Faults.ToolFault.{number_of}
+use Rattle.sab_replay.specs.declared.faults.tool_fault.ToolFault.TheVariants.{TooMany, OutOfMemory, WriteFailed}
 use Rattle.sab_automata_reader.specs.declared.automata_text.limits.TheConstants.{MAX_FILE}
 use Rattle.sab_automata_reader.specs.declared.automata_text.faults.Refusal.{Refusal}
 use Rattle.sab_automata_reader.specs.AutomataText.Faults.{refusal_number}

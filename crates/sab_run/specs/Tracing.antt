@@ -13,8 +13,8 @@ use Rattle.sab_report_text.specs.declared.text.format.VerdictFormat.{VerdictForm
 use Rattle.sab_verdict.specs.Json.{access_side, judged_trace}
 use Rattle.sab_verdict.specs.ReadsBack.{LinesReadBack}
 use Rattle.sab_verdict.specs.Verdict.{trace_verdict_text}
-use Rattle.sab_faults.specs.declared.tool_fault.ToolFault.TheVariants.{TooMany, OutOfMemory, BadShape, BadNumber, BadAgent, NotJson, WriteFailed, TooLong, ReadFailed}
-use Rattle.sab_report.specs.declared.judging.TheConstants.{MAX_REPORTED}
+use Rattle.sab_replay.specs.declared.faults.tool_fault.ToolFault.TheVariants.{TooMany, OutOfMemory, BadShape, BadNumber, BadAgent, NotJson, WriteFailed, TooLong, ReadFailed}
+use Rattle.sab_replay.specs.declared.report.judging.TheConstants.{MAX_REPORTED}
 use Rattle.sab_exit.specs.declared.outcome.Outcome.{Outcome}
 use Rattle.sab_exit.specs.declared.outcome.Outcome.TheVariants.{Done, Racy}
 use Rattle.sab_run.specs.declared.failure.Explanation.TheVariants.{AtLine}

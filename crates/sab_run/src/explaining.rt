@@ -5,8 +5,8 @@ ghost use Rattle.sab_run.specs.Explaining.{IsExplained, IsExplanation};
 
 use crate::failure::Explanation;
 use sab_exit::Ending;
-use sab_faults::ToolFault;
 use sab_reader::check::{Checked, check_script};
+use sab_replay::faults::ToolFault;
 use std::alloc::{AllocError, Global};
 
 /// What a check says about a script that it refuses, which is a line; none about a script that it doesn't refuse.

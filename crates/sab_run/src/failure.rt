@@ -8,7 +8,7 @@ ghost use Rattle.sab_run.specs.Failure.{NamesFile, changes_line, explanation_tex
 
 use sab_command::Source;
 use sab_exit::Complaint;
-use sab_faults::ToolFault;
+use sab_replay::faults::ToolFault;
 use std::io::{Error, ErrorKind};
 
 /// What is reported about a refusal besides its fault.

@@ -10,11 +10,11 @@ use crate::explaining::explanation_of;
 use crate::failure::Failure;
 use sab_command::{Job, RunForm};
 use sab_exit::Outcome;
-use sab_faults::ToolFault;
-use sab_kept_script::keep_replay;
 use sab_reader::check::{Checked, check_script};
-use sab_report::{Ended, VerdictFormat, judge_as, replay_as};
-use sab_script_runner::read_input;
+use sab_replay::faults::ToolFault;
+use sab_replay::kept_script::keep_replay;
+use sab_replay::report::{Ended, VerdictFormat, judge_as, replay_as};
+use sab_replay::script_runner::read_input;
 use std::alloc::Global;
 use std::io::{Read, Write};
 
@@ -22,7 +22,7 @@ use std::io::{Read, Write};
 /// and flushes.
 ///
 /// It needs only memory, the reader and the writer, so it returns if these two do. TooLong if the reader gave more than
-/// [`MAX_INPUT`](sab_script_runner::MAX_INPUT) bytes, ReadFailed if a read failed, and WriteFailed if a write or the
+/// [`MAX_INPUT`](sab_replay::script_runner::MAX_INPUT) bytes, ReadFailed if a read failed, and WriteFailed if a write or the
 /// flush failed; nothing is said then about how much was written. Every other fault is that of the script's replay, or
 /// want of memory, and nothing was written. A check of a script that is refused doesn't return its fault: what is
 /// written reports it. If the script is refused, and that is to be explained, the failure has what a check says about

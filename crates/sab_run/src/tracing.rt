@@ -10,9 +10,9 @@ ghost use Rattle.sab_run.specs.Tracing.{JudgesTrace, IsTraceFailure, refused_at}
 
 use crate::failure::{Explanation, Failure};
 use sab_exit::Outcome;
-use sab_faults::ToolFault;
 use sab_judge::{Trace, Verdict, judge};
-use sab_report::{MAX_REPORTED, VerdictFormat};
+use sab_replay::faults::ToolFault;
+use sab_replay::report::{MAX_REPORTED, VerdictFormat};
 use sab_trace::{LineFault, Refusal, read_trace};
 use sab_verdict::write_trace_verdict;
 use std::alloc::Global;

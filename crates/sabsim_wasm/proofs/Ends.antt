@@ -2,8 +2,8 @@
 use Rattle.std.proofs.Common.{◌≡◌, ◌≢◌, ℕ, Bool, List, [], ◌++◌, Option, Some, Result, Ok, Err, IfOk, OnOk}
 use Rattle.std.proofs.Common.{codes, inl, inr, refl, sym, subst, ap}
 use Rattle.sab_report_text.specs.declared.text.format.VerdictFormat.{VerdictFormat}
-use Rattle.sab_faults.specs.declared.tool_fault.ToolFault.{ToolFault}
-use Rattle.sab_faults.specs.declared.tool_fault.ToolFault.TheVariants.{WriteFailed}
+use Rattle.sab_replay.specs.declared.faults.tool_fault.ToolFault.{ToolFault}
+use Rattle.sab_replay.specs.declared.faults.tool_fault.ToolFault.TheVariants.{WriteFailed}
 use Rattle.sab_command.specs.declared.job.Job.{Job}
 use Rattle.sab_command.specs.declared.job.SearchForm.{SearchForm}
 use Rattle.sab_command.specs.declared.job.SearchForm.TheVariants as S

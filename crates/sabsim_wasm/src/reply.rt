@@ -5,7 +5,7 @@ ghost use Rattle.sabsim_wasm.specs.Room.{AsksFor, IsCut, Puts, PutsBoth, PutsLin
 
 use sab_command::Source;
 use sab_exit::Ending;
-use sab_faults::ToolFault;
+use sab_replay::faults::ToolFault;
 
 /// How a call ended, and how much of the room it needs.
 #[repr(C)]

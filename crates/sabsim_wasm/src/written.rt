@@ -1,7 +1,7 @@
 //! What the program writes.
 
 ghost use Rattle.std.specs.Prelude.{[], ◌≡◌, ◌≢◌, IfOk, IfSome, MatchResult, OnOk};
-ghost use Rattle.sab_faults.specs.declared.tool_fault.ToolFault.TheVariants.{ReadFailed};
+ghost use Rattle.sab_replay.specs.declared.faults.tool_fault.ToolFault.TheVariants.{ReadFailed};
 ghost use Rattle.sab_run.specs.Failure.{unexplained};
 ghost use Rattle.sab_command.specs.declared.request.Task.TheVariants.{OfSearch};
 ghost use Rattle.sab_command.specs.Job.{HasRoom, IsTaskWithinLimits};
@@ -13,7 +13,7 @@ ghost use Rattle.sabsim_wasm.specs.Room.{Puts};
 use crate::reply::{Reply, put, put_lines, put_no_memory};
 use sab_command::{Job, SearchJob, Source, Task};
 use sab_exit::{Complaint, Ending, Outcome};
-use sab_faults::ToolFault;
+use sab_replay::faults::ToolFault;
 use sab_report_text::text::VerdictFormat;
 use sab_run::{Explanation, Failure, judge_trace, run, run_search};
 use std::alloc::{AllocError, Global};

@@ -1,7 +1,7 @@
 //! Scripts of which one byte is changed.
 
-use sab_faults::ToolFault;
-use sab_script_runner::replay_bytes;
+use sab_replay::faults::ToolFault;
+use sab_replay::script_runner::replay_bytes;
 use std::alloc::{AllocError, Global};
 use std::test::Fail;
 use test_helpers::{SHARED_WORD, TWO_BLOCKS, expect};

@@ -1,7 +1,9 @@
 //! Readers and writers that fail, and slow ones.
 
-use sab_faults::ToolFault;
-use sab_script_runner::{MAX_INPUT, Share, race_bytes, read_input, replay_bytes, write_report};
+use sab_replay::faults::ToolFault;
+use sab_replay::script_runner::{
+    MAX_INPUT, Share, race_bytes, read_input, replay_bytes, write_report,
+};
 use sab_sim::Report;
 use std::alloc::Global;
 use std::io;

@@ -1,8 +1,8 @@
 //! What errors print.
 
 use sab_block::Thrown;
-use sab_faults::{ReadFault, ToolFault};
 use sab_race::RaceFault;
+use sab_replay::faults::{ReadFault, ToolFault};
 use sab_sim::{PlanFault, SimFault};
 use std::alloc::{AllocError, Global};
 use std::fmt;

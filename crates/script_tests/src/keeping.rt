@@ -1,8 +1,8 @@
 //! Races that are kept as scripts.
 
-use sab_faults::ToolFault;
-use sab_kept_script::{keep_race, recorded_move};
-use sab_script_runner::{Share, replay_bytes, write_report};
+use sab_replay::faults::ToolFault;
+use sab_replay::kept_script::{keep_race, recorded_move};
+use sab_replay::script_runner::{Share, replay_bytes, write_report};
 use sab_sim::Report;
 use std::alloc::Global;
 use std::sync::Wait;

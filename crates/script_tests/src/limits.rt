@@ -1,7 +1,7 @@
 //! Scripts at the ends of their limits.
 
-use sab_faults::ToolFault;
-use sab_script_runner::{MAX_INPUT, read_input, replay_bytes};
+use sab_replay::faults::ToolFault;
+use sab_replay::script_runner::{MAX_INPUT, read_input, replay_bytes};
 use std::alloc::{AllocError, Global};
 use std::test::Fail;
 use test_helpers::expect;

@@ -1,7 +1,7 @@
 //! Scripts of as many moves as races can have, and of more.
 
-use sab_faults::ToolFault;
-use sab_script_runner::{Share, race_bytes};
+use sab_replay::faults::ToolFault;
+use sab_replay::script_runner::{Share, race_bytes};
 use std::alloc::{AllocError, Global};
 use std::sync::Wait;
 use std::test::Fail;

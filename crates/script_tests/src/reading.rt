@@ -1,7 +1,7 @@
 //! Scripts that are read, and the parts of their setups.
 
-use sab_faults::ReadFault;
-use sab_script_runner::{Setup, read_setup};
+use sab_replay::faults::ReadFault;
+use sab_replay::script_runner::{Setup, read_setup};
 use serde_json::Value;
 use std::alloc::{AllocError, Global};
 use std::test::Fail;

@@ -1,8 +1,8 @@
 //! The text of a report.
 
 use sab_block::Thrown;
-use sab_faults::ToolFault;
-use sab_script_runner::write_report;
+use sab_replay::faults::ToolFault;
+use sab_replay::script_runner::write_report;
 use sab_sim::{Answer, Entry, Progress, Report, What, Why};
 use std::alloc::Global;
 use std::test::Fail;

@@ -1,8 +1,8 @@
 //! Scripts, and the reports that are expected of them.
 
 use crate::expecting::expect;
-use sab_faults::ToolFault;
-use sab_script_runner::{Setup, read_setup, replay_bytes, write_report};
+use sab_replay::faults::ToolFault;
+use sab_replay::script_runner::{Setup, read_setup, replay_bytes, write_report};
 use sab_sim::{Move, Plan, Report, replay};
 use serde_json::Value;
 use std::alloc::Global;

@@ -1,6 +1,0 @@
-use Rattle.std.proofs.Common.{◌≡◌, take}
-use Rattle.sab_events.specs.Events.{events_of}
-use Rattle.sab_events.proofs.events.trace_of.Given as goal
-
-abbrev pub invariant-loop-entry : goal.invariant-loop-entry
-invariant-loop-entry l = l.trace ≡ events_of l.plan (take l.entry-index l.journal)

@@ -1,6 +1,0 @@
--- What is no act accesses nothing.
-use Rattle.sab_events.proofs.Reporting.{is_of_its_agent}
-use Rattle.sab_events.proofs.laws.an_event_is_of_its_agent.Goals as goal
-
-pub returns : goal.returns
-returns c = is_of_its_agent

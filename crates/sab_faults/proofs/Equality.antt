@@ -1,9 +1,0 @@
--- Equality of faults: values that the derived `==` finds equal are the same.
-use Rattle.std.proofs.Common.{◌≡◌, true, rules}
-use denote.Enum.Bare.{same_true}
-use Rattle.sab_faults.specs.declared.tool_fault.ToolFault.{ToolFault}
-use Rattle.sab_faults.specs.contracts.tool_fault.ToolFault.{the_type as tool_fault_type}
-use Rattle.sab_faults.specs.contracts.tool_fault.ToolFaultPartialEq.TheImpl as tool_fault
-
-pub same_tool_fault : (x y : ToolFault) → (tool_fault.ghosts).eq x y ≡ true → x ≡ y
-same_tool_fault = same_true tool_fault_type (search rules)

@@ -1,0 +1,6 @@
+pub mod OfEvents
+pub mod OfExplain
+pub mod OfFaults
+pub mod OfKeptScript
+pub mod OfReport
+pub mod OfScriptRunner

@@ -1,6 +1,0 @@
--- Each entry that has an effect is noted of its own agent.
-use Rattle.sab_report.proofs.LastNoted.{notes_last}
-use Rattle.sab_report.proofs.laws.the_last_entry_of_an_agent_is_noted.Goals as goal
-
-pub returns : goal.returns
-returns c = notes_last
