@@ -81,7 +81,7 @@ test("nothing else is installed with it", () => {
 });
 
 test("a program's version is the package's", () => {
-  const words = readFileSync(join(TOP, "crates/sab_command/src/help.rt"), "utf8");
+  const words = readFileSync(join(TOP, "crates/sab_cli/src/command/help.rt"), "utf8");
   assert.equal(/^pub\(crate\) const VERSION: &str = "([0-9.]+)[^0-9.]/m.exec(words)?.[1], version);
 });
 

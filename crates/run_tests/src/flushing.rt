@@ -3,12 +3,12 @@
 //! The program's standard output has no flush that can fail, so the built program can't show this.
 
 use sab_automata::Timeouts;
-use sab_command::{Job, RaceJob, RunForm, SearchForm, SearchJob};
-use sab_exit::Outcome;
+use sab_cli::command::{Job, RaceJob, RunForm, SearchForm, SearchJob};
+use sab_cli::exit::Outcome;
+use sab_cli::run::{Failure, judge_trace, run, run_race, run_search};
 use sab_replay::faults::ToolFault;
 use sab_replay::report::{Format, Lines, ReportForm, VerdictFormat};
 use sab_replay::script_runner::Share;
-use sab_run::{Failure, judge_trace, run, run_race, run_search};
 use std::alloc::Global;
 use std::io;
 use std::io::Write;

@@ -2,11 +2,11 @@
 //! accesses, and searches all schedules of automata.
 #![tactic(auto)]
 
-ghost use Rattle.sab_command.specs.Job.{IsTaskWithinLimits};
+ghost use Rattle.sab_cli.specs.Command.Job.{IsTaskWithinLimits};
 
-use sab_command::{Request, Source, Task, request_of};
-use sab_exit::{Ending, FaultLine, Outcome, without_job, without_words};
-use sab_run::{Failure, judge_trace, run, run_race, run_search};
+use sab_cli::command::{Request, Source, Task, request_of};
+use sab_cli::exit::{Ending, FaultLine, Outcome, without_job, without_words};
+use sab_cli::run::{Failure, judge_trace, run, run_race, run_search};
 use std::io::{IsTerminal, Read};
 use std::process::ExitCode;
 use std::random::RandomSource;

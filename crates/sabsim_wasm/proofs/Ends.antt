@@ -4,24 +4,24 @@ use Rattle.std.proofs.Common.{codes, inl, inr, refl, sym, subst, ap}
 use Rattle.sab_report_text.specs.declared.text.format.VerdictFormat.{VerdictFormat}
 use Rattle.sab_replay.specs.declared.faults.tool_fault.ToolFault.{ToolFault}
 use Rattle.sab_replay.specs.declared.faults.tool_fault.ToolFault.TheVariants.{WriteFailed}
-use Rattle.sab_command.specs.declared.job.Job.{Job}
-use Rattle.sab_command.specs.declared.job.SearchForm.{SearchForm}
-use Rattle.sab_command.specs.declared.job.SearchForm.TheVariants as S
-use Rattle.sab_command.specs.declared.job.SearchJob.{SearchJob}
-use Rattle.sab_command.specs.declared.request.Source.{Source}
-use Rattle.sab_exit.specs.declared.complaint.Complaint.{Complaint}
-use Rattle.sab_exit.specs.declared.outcome.Outcome.{Outcome}
-use Rattle.sab_exit.specs.Status.{status_after}
-use Rattle.sab_exit.specs.FaultLine.{text_of}
-use Rattle.sab_exit.specs.Complaint.{advice_text, complaint_text, file_text, line_text}
-use Rattle.sab_run.specs.declared.failure.Failure.{Failure}
-use Rattle.sab_run.specs.Failure.{NamesFile, explanation_text, line_of}
-use Rattle.sab_run.specs.Explaining.{IsExplanation}
-use Rattle.sab_run.specs.Running.{RunsGiven, IsRunFault, IsUnwritten}
-use Rattle.sab_run.specs.Tracing.{JudgesTrace, IsTraceFailure}
+use Rattle.sab_cli.specs.declared.command.job.Job.{Job}
+use Rattle.sab_cli.specs.declared.command.job.SearchForm.{SearchForm}
+use Rattle.sab_cli.specs.declared.command.job.SearchForm.TheVariants as S
+use Rattle.sab_cli.specs.declared.command.job.SearchJob.{SearchJob}
+use Rattle.sab_cli.specs.declared.command.request.Source.{Source}
+use Rattle.sab_cli.specs.declared.exit.complaint.Complaint.{Complaint}
+use Rattle.sab_cli.specs.declared.exit.outcome.Outcome.{Outcome}
+use Rattle.sab_cli.specs.Exit.Status.{status_after}
+use Rattle.sab_cli.specs.Exit.FaultLine.{text_of}
+use Rattle.sab_cli.specs.Exit.Complaint.{advice_text, complaint_text, file_text, line_text}
+use Rattle.sab_cli.specs.declared.run.failure.Failure.{Failure}
+use Rattle.sab_cli.specs.Run.Failure.{NamesFile, explanation_text, line_of}
+use Rattle.sab_cli.specs.Run.Explaining.{IsExplanation}
+use Rattle.sab_cli.specs.Run.Running.{RunsGiven, IsRunFault, IsUnwritten}
+use Rattle.sab_cli.specs.Run.Tracing.{JudgesTrace, IsTraceFailure}
 use Rattle.sab_search.specs.declared.asked.SearchFault.{SearchFault}
 use Rattle.sab_search.specs.declared.asked.SearchFault.TheVariants as F
-use Rattle.sab_run.specs.Searching.{RunsSearchGiven, IsFaultBy, IsSearchFailure, IsFailureAfter, IsFailureOf}
+use Rattle.sab_cli.specs.Run.Searching.{RunsSearchGiven, IsFaultBy, IsSearchFailure, IsFailureAfter, IsFailureOf}
 use Rattle.sabsim_wasm.specs.declared.written.Written.{Written}
 use Rattle.sabsim_wasm.specs.Program.{WrittenParts, written_of, written_by, done, Fails, EndsOfScript, EndsOfTrace}
 use Rattle.sabsim_wasm.specs.Program.{EndsOfSearch, IsOfBytes}

@@ -6,17 +6,17 @@ use Rattle.clap.specs.Words.{kind_of}
 use Rattle.clap.specs.declared.error.Error.{Error}
 use Rattle.clap.specs.declared.error.kind.ErrorKind.{ErrorKind}
 use Rattle.clap.specs.declared.error.kind.ErrorKind.TheVariants.{OutOfMemory}
-use Rattle.sab_command.specs.declared.request.Request.{Request}
-use Rattle.sab_command.specs.declared.request.Source.{Source}
-use Rattle.sab_command.specs.declared.request.Task.{Task}
-use Rattle.sab_command.specs.declared.request.Task.TheVariants.{OfSearch}
-use Rattle.sab_command.specs.declared.job.SearchJob.{SearchJob}
-use Rattle.sab_command.specs.Asked.{IsAsked, IsRefused}
-use Rattle.sab_command.specs.Job.{IsTaskWithinLimits}
-use Rattle.sab_exit.specs.declared.outcome.Outcome.{Outcome}
-use Rattle.sab_exit.specs.Ending.{status_at, after_job}
-use Rattle.sab_run.specs.declared.failure.Failure.{Failure}
-use Rattle.sab_run.specs.Searching.{RunsSearchGiven, IsSearchFailure}
+use Rattle.sab_cli.specs.declared.command.request.Request.{Request}
+use Rattle.sab_cli.specs.declared.command.request.Source.{Source}
+use Rattle.sab_cli.specs.declared.command.request.Task.{Task}
+use Rattle.sab_cli.specs.declared.command.request.Task.TheVariants.{OfSearch}
+use Rattle.sab_cli.specs.declared.command.job.SearchJob.{SearchJob}
+use Rattle.sab_cli.specs.Command.Asked.{IsAsked, IsRefused}
+use Rattle.sab_cli.specs.Command.Job.{IsTaskWithinLimits}
+use Rattle.sab_cli.specs.declared.exit.outcome.Outcome.{Outcome}
+use Rattle.sab_cli.specs.Exit.Ending.{status_at, after_job}
+use Rattle.sab_cli.specs.declared.run.failure.Failure.{Failure}
+use Rattle.sab_cli.specs.Run.Searching.{RunsSearchGiven, IsSearchFailure}
 use Rattle.sabsim_wasm.specs.declared.written.Written.{Written}
 use Rattle.sabsim_wasm.specs.declared.reply.Reply.{Reply}
 use Rattle.sabsim_wasm.specs.Exports.{PutsSuch, PutsTask, RepliesToTask, RepliesToSearch, RepliesToInput, RepliesToRefusal, RepliesToWords}

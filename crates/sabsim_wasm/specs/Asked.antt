@@ -8,13 +8,13 @@ use Rattle.sab_report_text.specs.declared.text.format.VerdictFormat.{VerdictForm
 use Rattle.sab_report_text.specs.declared.text.format.VerdictFormat.TheVariants as V
 use Rattle.sab_report_text.specs.declared.text.lines.Lines.{Lines}
 use Rattle.sab_report_text.specs.declared.text.lines.Lines.TheVariants.{All, Acts}
-use Rattle.sab_command.specs.declared.job.RunForm.{RunForm}
-use Rattle.sab_command.specs.declared.job.RunForm.TheVariants.{Report, Script}
-use Rattle.sab_command.specs.declared.job.Job.TheVariants.{Replay, Check, Judge}
-use Rattle.sab_command.specs.declared.job.SearchForm.TheVariants.{Findings}
-use Rattle.sab_command.specs.declared.job.SearchJob.{SearchJob}
-use Rattle.sab_command.specs.declared.request.Task.{Task}
-use Rattle.sab_command.specs.declared.request.Task.TheVariants.{OfScript, OfTrace}
+use Rattle.sab_cli.specs.declared.command.job.RunForm.{RunForm}
+use Rattle.sab_cli.specs.declared.command.job.RunForm.TheVariants.{Report, Script}
+use Rattle.sab_cli.specs.declared.command.job.Job.TheVariants.{Replay, Check, Judge}
+use Rattle.sab_cli.specs.declared.command.job.SearchForm.TheVariants.{Findings}
+use Rattle.sab_cli.specs.declared.command.job.SearchJob.{SearchJob}
+use Rattle.sab_cli.specs.declared.command.request.Task.{Task}
+use Rattle.sab_cli.specs.declared.command.request.Task.TheVariants.{OfScript, OfTrace}
 
 abbrev pub format_at : ℕ → Option Format
 format_at number =

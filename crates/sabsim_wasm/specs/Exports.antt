@@ -5,15 +5,15 @@ use Rattle.clap.specs.declared.error.Error.{Error}
 use Rattle.clap.specs.declared.error.kind.ErrorKind.{ErrorKind}
 use Rattle.clap.specs.declared.error.kind.ErrorKind.TheVariants.{OutOfMemory, DisplayHelp, DisplayVersion}
 use Rattle.sab_replay.specs.declared.faults.tool_fault.ToolFault.TheVariants.{ReadFailed}
-use Rattle.sab_command.specs.declared.request.Request.{Request}
-use Rattle.sab_command.specs.declared.request.Source.{Source}
-use Rattle.sab_command.specs.declared.request.Source.TheVariants.{Standard}
-use Rattle.sab_command.specs.declared.job.SearchJob.{SearchJob}
-use Rattle.sab_command.specs.declared.request.Task.{Task}
-use Rattle.sab_command.specs.declared.request.Task.TheVariants.{OfSearch}
-use Rattle.sab_command.specs.Asked.{IsAsked, IsRefused}
-use Rattle.sab_command.specs.Job.{IsTaskWithinLimits}
-use Rattle.sab_run.specs.Failure.{unexplained}
+use Rattle.sab_cli.specs.declared.command.request.Request.{Request}
+use Rattle.sab_cli.specs.declared.command.request.Source.{Source}
+use Rattle.sab_cli.specs.declared.command.request.Source.TheVariants.{Standard}
+use Rattle.sab_cli.specs.declared.command.job.SearchJob.{SearchJob}
+use Rattle.sab_cli.specs.declared.command.request.Task.{Task}
+use Rattle.sab_cli.specs.declared.command.request.Task.TheVariants.{OfSearch}
+use Rattle.sab_cli.specs.Command.Asked.{IsAsked, IsRefused}
+use Rattle.sab_cli.specs.Command.Job.{IsTaskWithinLimits}
+use Rattle.sab_cli.specs.Run.Failure.{unexplained}
 use Rattle.sabsim_wasm.specs.declared.reply.Reply.{Reply}
 use Rattle.sabsim_wasm.specs.Asked.{task_at}
 use Rattle.sabsim_wasm.specs.Program.{WrittenParts, written_of, no_memory, no_text, parsed, Ends, Fails}

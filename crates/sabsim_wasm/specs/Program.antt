@@ -5,22 +5,22 @@ use Rattle.std.specs.Borrow.{Bor}
 use Rattle.sab_report_text.specs.declared.text.format.VerdictFormat.{VerdictFormat}
 use Rattle.sab_replay.specs.declared.faults.tool_fault.ToolFault.{ToolFault}
 use Rattle.sab_replay.specs.declared.faults.tool_fault.ToolFault.TheVariants.{NoThread, OutOfMemory, ReadFailed, WriteFailed}
-use Rattle.sab_command.specs.declared.job.Job.{Job}
-use Rattle.sab_command.specs.declared.job.SearchJob.{SearchJob}
-use Rattle.sab_command.specs.declared.request.Source.{Source}
-use Rattle.sab_command.specs.declared.request.Task.{Task}
-use Rattle.sab_command.specs.declared.request.Task.TheVariants.{OfScript, OfRace, OfTrace, OfSearch}
-use Rattle.sab_exit.specs.declared.outcome.Outcome.{Outcome}
-use Rattle.sab_exit.specs.Status.{status_after}
-use Rattle.sab_exit.specs.Ending.{status_at, after_job}
-use Rattle.sab_exit.specs.FaultLine.{text_of}
-use Rattle.sab_exit.specs.Complaint.{advice_text, file_text, line_text}
-use Rattle.sab_run.specs.declared.failure.Failure.{Failure}
-use Rattle.sab_run.specs.Failure.{NamesFile, explanation_text, line_of}
-use Rattle.sab_run.specs.Explaining.{IsExplanation}
-use Rattle.sab_run.specs.Running.{RunsGiven, IsRunFault}
-use Rattle.sab_run.specs.Tracing.{JudgesTrace, IsTraceFailure}
-use Rattle.sab_run.specs.Searching.{RunsSearchGiven, IsSearchFailure}
+use Rattle.sab_cli.specs.declared.command.job.Job.{Job}
+use Rattle.sab_cli.specs.declared.command.job.SearchJob.{SearchJob}
+use Rattle.sab_cli.specs.declared.command.request.Source.{Source}
+use Rattle.sab_cli.specs.declared.command.request.Task.{Task}
+use Rattle.sab_cli.specs.declared.command.request.Task.TheVariants.{OfScript, OfRace, OfTrace, OfSearch}
+use Rattle.sab_cli.specs.declared.exit.outcome.Outcome.{Outcome}
+use Rattle.sab_cli.specs.Exit.Status.{status_after}
+use Rattle.sab_cli.specs.Exit.Ending.{status_at, after_job}
+use Rattle.sab_cli.specs.Exit.FaultLine.{text_of}
+use Rattle.sab_cli.specs.Exit.Complaint.{advice_text, file_text, line_text}
+use Rattle.sab_cli.specs.declared.run.failure.Failure.{Failure}
+use Rattle.sab_cli.specs.Run.Failure.{NamesFile, explanation_text, line_of}
+use Rattle.sab_cli.specs.Run.Explaining.{IsExplanation}
+use Rattle.sab_cli.specs.Run.Running.{RunsGiven, IsRunFault}
+use Rattle.sab_cli.specs.Run.Tracing.{JudgesTrace, IsTraceFailure}
+use Rattle.sab_cli.specs.Run.Searching.{RunsSearchGiven, IsSearchFailure}
 use Rattle.sabsim_wasm.specs.declared.written.Written.{Written}
 
 -- an exit status, and the bytes that go to standard output and to standard error

@@ -1,7 +1,7 @@
 -- What a call puts into the host's room.
 use Rattle.std.specs.Prelude.{◌≡◌, ◌≢◌, ◌⊎◌, ◌+◌, ◌-◌, ◌≤◌, ◌<◌, ℕ, List, [], ◌++◌, length, take, drop, slice_index}
-use Rattle.sab_command.specs.declared.request.Source.{Source}
-use Rattle.sab_command.specs.declared.request.Source.TheVariants.{Standard, File}
+use Rattle.sab_cli.specs.declared.command.request.Source.{Source}
+use Rattle.sab_cli.specs.declared.command.request.Source.TheVariants.{Standard, File}
 use Rattle.sabsim_wasm.specs.declared.reply.Reply.{Reply}
 use Rattle.sabsim_wasm.specs.Program.{WrittenParts, written_of}
 

@@ -1,11 +1,11 @@
 //! What a host asks for by numbers.
 
 ghost use Rattle.std.specs.Prelude.{◌≡◌, IfSome};
-ghost use Rattle.sab_command.specs.Job.{HasRoom, IsTaskWithinLimits};
+ghost use Rattle.sab_cli.specs.Command.Job.{HasRoom, IsTaskWithinLimits};
 ghost use Rattle.sabsim_wasm.specs.Asked.{form_at, format_at, search_at, task_at, timeouts_at, verdict_format_at};
 
 use sab_automata::Timeouts;
-use sab_command::{Job, RunForm, SearchForm, SearchJob, Task};
+use sab_cli::command::{Job, RunForm, SearchForm, SearchJob, Task};
 use sab_report_text::text::{Format, Lines, ReportForm, VerdictFormat};
 
 /// What is to be done with the input; none if a number has no meaning.

@@ -2,7 +2,7 @@
 
 ghost use Rattle.std.specs.Prelude.{◌≡◌, ◌||◌, IfOk, map};
 ghost use Rattle.clap.specs.Words.{kind_of};
-ghost use Rattle.sab_command.specs.Job.{IsTaskWithinLimits};
+ghost use Rattle.sab_cli.specs.Command.Job.{IsTaskWithinLimits};
 ghost use Rattle.sabsim_wasm.specs.Exports.{RepliesToInput, RepliesToRefusal, RepliesToWords};
 ghost use Rattle.sabsim_wasm.specs.Words.{words_of};
 
@@ -10,8 +10,8 @@ use crate::reply::{Reply, ask_for, put, put_no_memory};
 use crate::written::{put_task, put_unreadable};
 use clap::Error;
 use clap::error::ErrorKind;
-use sab_command::{Request, request_of};
-use sab_exit::Ending;
+use sab_cli::command::{Request, request_of};
+use sab_cli::exit::Ending;
 use std::alloc::{AllocError, Global};
 
 /// What the program prints about words that are no text.

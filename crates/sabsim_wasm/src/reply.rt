@@ -3,8 +3,8 @@
 ghost use Rattle.sabsim_wasm.specs.Program.{no_memory, written_of};
 ghost use Rattle.sabsim_wasm.specs.Room.{AsksFor, IsCut, Puts, PutsBoth, PutsLines};
 
-use sab_command::Source;
-use sab_exit::Ending;
+use sab_cli::command::Source;
+use sab_cli::exit::Ending;
 use sab_replay::faults::ToolFault;
 
 /// How a call ended, and how much of the room it needs.

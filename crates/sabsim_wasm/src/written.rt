@@ -2,20 +2,20 @@
 
 ghost use Rattle.std.specs.Prelude.{[], ◌≡◌, ◌≢◌, IfOk, IfSome, MatchResult, OnOk};
 ghost use Rattle.sab_replay.specs.declared.faults.tool_fault.ToolFault.TheVariants.{ReadFailed};
-ghost use Rattle.sab_run.specs.Failure.{unexplained};
-ghost use Rattle.sab_command.specs.declared.request.Task.TheVariants.{OfSearch};
-ghost use Rattle.sab_command.specs.Job.{HasRoom, IsTaskWithinLimits};
+ghost use Rattle.sab_cli.specs.Run.Failure.{unexplained};
+ghost use Rattle.sab_cli.specs.declared.command.request.Task.TheVariants.{OfSearch};
+ghost use Rattle.sab_cli.specs.Command.Job.{HasRoom, IsTaskWithinLimits};
 ghost use Rattle.sabsim_wasm.specs.Exports.{PutsSuch, PutsTask, RepliesToSearch, RepliesToTask};
 ghost use Rattle.sabsim_wasm.specs.Program.{EndsOfRace, EndsOfScript, EndsOfTrace, Fails, IsOfBytes, done, no_memory};
 ghost use Rattle.sabsim_wasm.specs.Program.{written_by, written_of};
 ghost use Rattle.sabsim_wasm.specs.Room.{Puts};
 
 use crate::reply::{Reply, put, put_lines, put_no_memory};
-use sab_command::{Job, SearchJob, Source, Task};
-use sab_exit::{Complaint, Ending, Outcome};
+use sab_cli::command::{Job, SearchJob, Source, Task};
+use sab_cli::exit::{Complaint, Ending, Outcome};
+use sab_cli::run::{Explanation, Failure, judge_trace, run, run_search};
 use sab_replay::faults::ToolFault;
 use sab_report_text::text::VerdictFormat;
-use sab_run::{Explanation, Failure, judge_trace, run, run_search};
 use std::alloc::{AllocError, Global};
 
 /// What the program writes to the standard streams, and its exit status.

@@ -1,6 +1,6 @@
 -- What a search writes to an empty output, and what it fails for.
 use Rattle.std.proofs.Common.{ap, ◌∙◌}
-use Rattle.sab_exit.specs.Ending.{status_at}
+use Rattle.sab_cli.specs.Exit.Ending.{status_at}
 use Rattle.sabsim_wasm.proofs.Replies.{puts_found, puts_failed}
 use Rattle.sabsim_wasm.proofs.written.put_search.Goals as goal
 

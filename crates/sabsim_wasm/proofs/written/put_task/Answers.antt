@@ -1,6 +1,6 @@
 -- What is made of a task is put as it is.
 use Rattle.std.proofs.Common.{sym, subst}
-use Rattle.sab_command.specs.declared.request.Task.{Task}
+use Rattle.sab_cli.specs.declared.command.request.Task.{Task}
 use Rattle.sabsim_wasm.specs.Exports.{PutsTask}
 use Rattle.sabsim_wasm.specs.Program.{EndsOfRace, EndsOfScript, EndsOfTrace}
 use Rattle.sabsim_wasm.proofs.Replies.{puts_made}

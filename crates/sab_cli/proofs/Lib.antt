@@ -1,0 +1,3 @@
+pub mod OfCommand
+pub mod OfExit
+pub mod OfRun
