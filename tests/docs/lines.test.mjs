@@ -12,7 +12,7 @@ const ENDINGS = /\.(?:[cm][jt]s|py|rt|c|md)$/;
 /** Texts that a program prints, or with which its output is compared, each in one line. By file: how they begin. */
 const COMPARED = {
   "crates/script_tests/src/accesses.rt": ['        "0 0 0 act '],
-  "crates/run_tests/src/flushing.rt": ['    r#"{"event":0,', '    "data race at byte 7 of block 0: '],
+  "crates/script_tests/src/run/flushing.rt": ['    r#"{"event":0,', '    "data race at byte 7 of block 0: '],
   "crates/sab_cli/src/command/help.rt": ["  data race at byte 1 of block 0: "],
 };
 

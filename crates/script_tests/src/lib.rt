@@ -23,4 +23,6 @@ mod reading;
 #[cfg(test)]
 mod reports;
 #[cfg(test)]
+mod run;
+#[cfg(test)]
 mod stepping;

@@ -1,5 +1,4 @@
 //! Worked examples of jobs, races, verdicts and searches between a reader and a writer, as tests.
-#![tactic(auto)]
 
 #[cfg(test)]
 mod flushing;
