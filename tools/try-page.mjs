@@ -9,7 +9,7 @@ import { fileURLToPath } from "node:url";
 import { builtSimulator } from "../recorder/lib/keeping/document.mjs";
 import { tryPageOf } from "../recorder/lib/keeping/try-page.mjs";
 
-const EXAMPLES = new URL("../tests/scripts/examples/", import.meta.url);
+const EXAMPLES = new URL("../examples/", import.meta.url);
 const PAGE = fileURLToPath(new URL("../docs/try.html", import.meta.url));
 
 const simulator = builtSimulator();

@@ -7,7 +7,7 @@ from glob import glob
 
 COMMANDS = os.path.dirname(os.path.realpath(__file__))
 TESTS = os.path.dirname(COMMANDS)
-EXAMPLES = os.path.join(TESTS, "scripts", "examples")
+EXAMPLES = os.path.join(os.path.dirname(TESTS), "examples")
 WORD = {"name": "a", "kind": "Int32", "block": 0, "offset": 0, "length": None}
 WAIT, STORE, LOAD = ["wait", "a", 0, 0, 5], ["store", "a", 0, 5], ["load", "a", 0]
 

@@ -1,11 +1,11 @@
-// What the documents name exists: the targets of their links, with the headings in these, and in CONTRIBUTING.md and
-// docs/ARCHITECTURE.md paths, crates and functions.
+// What the documents name exists: the targets of their links, with the headings in these, paths, and in
+// docs/ARCHITECTURE.md crates and functions. Each link of the tree leads to a file or a folder.
 
 import assert from "node:assert/strict";
-import { existsSync } from "node:fs";
-import { dirname, join } from "node:path";
+import { existsSync, readdirSync } from "node:fs";
+import { dirname, join, posix } from "node:path";
 import { test } from "node:test";
-import { DOCUMENTS, TOP, filesBelow, proseOf, spansOf, textOf } from "./documents.mjs";
+import { DOCUMENTS, LEFT_OUT, TOP, filesBelow, proseOf, spansOf, textOf } from "./documents.mjs";
 
 const MAPS = ["CONTRIBUTING.md", "docs/ARCHITECTURE.md"];
 
@@ -37,6 +37,35 @@ for (const map of MAPS) {
     assert.deepEqual(paths.filter((path) => !isThere(path)), []);
   });
 }
+
+/** The folders at the top of the repository. A path of another document is one of the repository if it begins so. */
+const FOLDERS = new Set(PATHS.filter((path) => path.includes("/")).map((path) => path.split("/")[0]));
+
+for (const path of DOCUMENTS.filter((each) => !MAPS.includes(each))) {
+  test(`each path of the repository that ${path} names is there`, () => {
+    const paths = spansOf(path).filter((span) => PATH.test(span) && FOLDERS.has(span.split("/")[0]));
+    assert.deepEqual(paths.filter((each) => !isThere(each)), []);
+  });
+}
+
+/** @param {string} folder from the top @returns {string[]} the paths of the links in it and below */
+function linksBelow(folder) {
+  return readdirSync(join(TOP, folder), { withFileTypes: true }).flatMap((entry) => {
+    const path = posix.join(folder, entry.name);
+    if (LEFT_OUT.has(entry.name)) return [];
+    if (entry.isDirectory()) return linksBelow(path);
+    return entry.isSymbolicLink() ? [path] : [];
+  });
+}
+
+test("each link of the tree leads to a file or a folder", () => {
+  assert.deepEqual(linksBelow("").filter((path) => !existsSync(join(TOP, path))), []);
+});
+
+test("the pattern of an editor for scripts names the folder of the examples", () => {
+  const [, folder] = /"fileMatch": \["\/(\w+)\/\*\.json"\]/.exec(textOf("docs/FORMATS.md"));
+  assert.ok(PATHS.some((path) => path.startsWith(`${folder}/`) && path.endsWith(".json")), folder);
+});
 
 test("each example of CONTRIBUTING is named by some files of its kind", () => {
   const examples = [...textOf("CONTRIBUTING.md").matchAll(/, such as `(\w+)`/g)].map(([, name]) => name);

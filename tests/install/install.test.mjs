@@ -15,7 +15,7 @@ import { NODES, PROJECT, TOP, environment, filesOf, packagedFiles, packed, pathO
 
 const ENGINE = pathOf("../../recorder/tests/engine/main.mjs");
 const FILES = packagedFiles();
-const EXAMPLES = join(TOP, "tests/scripts/examples");
+const EXAMPLES = join(TOP, "examples");
 const PROGRAM_FILES = [`program/${MACHINE}/sabsim`, `program/${MACHINE}/sabsim.txt`];
 
 const withCompiler = needing("tsc", spawnSync("tsc", ["--version"]).status === 0);

@@ -7,6 +7,7 @@ import { Dice, generatedScript, timedScript } from "../../recorder/tests/helpers
 
 const ROOT = new URL("../../", import.meta.url);
 const CASES = new URL("tests/scripts/", ROOT);
+const EXAMPLES = new URL("examples/", ROOT);
 const VERDICTS = new URL("tests/verdicts/", ROOT);
 const SEARCHES = new URL("tests/search/examples/", ROOT);
 const MOVES = 100_000;
@@ -38,14 +39,14 @@ function filesIn(folder, ending = ".json") {
 }
 
 /** @returns {Input[]} every script of the cases, and of the verdicts */
-export const cases = () => [...filesIn(CASES), ...filesIn(VERDICTS)];
+export const cases = () => [...filesIn(CASES), ...filesIn(EXAMPLES), ...filesIn(VERDICTS)];
 
 /** @returns {Input[]} the cases that are programs people know */
-export const examples = () => filesIn(new URL("examples/", CASES));
+export const examples = () => filesIn(EXAMPLES);
 
 /** @param {string} name of an example @param {string} ending @returns {Uint8Array} what is kept beside it */
 export const besideExample = (name, ending) =>
-  readFileSync(new URL(`examples/${name.replace(/json$/, ending)}`, CASES));
+  readFileSync(new URL(name.replace(/json$/, ending), EXAMPLES));
 
 /** What can be put in place of a part. */
 const PUT = ["-1", "null", "9e9", '"', "}", "\\", "0", "\xff"];
@@ -115,7 +116,7 @@ export function largeInputs() {
   ];
 }
 
-const FILE = fileURLToPath(new URL("examples/futex-mutex.json", CASES));
+const FILE = fileURLToPath(new URL("futex-mutex.json", EXAMPLES));
 const NOWHERE = "/nowhere/script.json";
 const searched = (name) => fileURLToPath(new URL(`${name}.json`, SEARCHES));
 const AUTOMATA = searched("late-notify");

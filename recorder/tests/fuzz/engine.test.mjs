@@ -16,7 +16,7 @@ import { seedsTo } from "../helpers/recorded.mjs";
 import { generatedScript, timedScript } from "../helpers/scripts.mjs";
 
 const DATA = pathOf("tests/scripts");
-const EXAMPLES = `${DATA}/examples`;
+const EXAMPLES = pathOf("examples");
 const ENGINE = pathOf("recorder/tests/engine/main.mjs");
 const SCRIPTS = 200;
 const TIMED_SCRIPTS = 10;
@@ -73,12 +73,14 @@ describe("generated scripts", () => {
 });
 
 describe("scripts with their reports", () => {
-  const folders = readdirSync(DATA, { withFileTypes: true }).filter((entry) => entry.isDirectory());
-  const read = (folder, name) => readFileSync(`${DATA}/${folder}/${name}`, "utf8");
+  const subjects = readdirSync(DATA, { withFileTypes: true }).filter((entry) => entry.isDirectory());
+  const folders = new Map(subjects.map(({ name }) => [name, `${DATA}/${name}`]));
+  folders.set("examples", EXAMPLES);
+  const read = (folder, name) => readFileSync(`${folders.get(folder)}/${name}`, "utf8");
   const countsOfReports = new Map();
 
-  for (const { name: folder } of folders) {
-    const reports = readdirSync(`${DATA}/${folder}`).filter((name) => name.endsWith(".report"));
+  for (const [folder, path] of folders) {
+    const reports = readdirSync(path).filter((name) => name.endsWith(".report"));
     if (reports.length === 0) continue;
     countsOfReports.set(folder, reports.length);
     test(`the engine's reports on ${folder} are the ${reports.length} beside them`, async () => {

@@ -27,7 +27,7 @@ const BROWSERS = {
   Chromium: { isThere: BROWSER !== undefined, begin: () => new Browser() },
   Firefox: { isThere: FIREFOX !== undefined, begin: () => Firefox.begun() },
 };
-const FOLDER = pathOf("tests/scripts/examples");
+const FOLDER = pathOf("examples");
 const EXAMPLES = readdirSync(FOLDER).filter((name) => name.endsWith(".json")).sort().map((name) => {
   return { name, text: readFileSync(`${FOLDER}/${name}`, "utf8") };
 });

@@ -295,7 +295,7 @@ test("a standard input that doesn't block is read to its end", withPipe, async (
   const folder = temporaryFolder(context);
   const pipe = join(folder, "pipe");
   const [script, report] = ["json", "report"].map((ending) =>
-    readFileSync(new URL(`../../../tests/scripts/examples/lost-wake-up.${ending}`, import.meta.url)));
+    readFileSync(new URL(`../../../examples/lost-wake-up.${ending}`, import.meta.url)));
   assert.equal(spawnSync("mkfifo", [pipe]).status, 0);
   const from = openSync(pipe, constants.O_RDONLY | constants.O_NONBLOCK);
   const to = openSync(pipe, "a");

@@ -12,7 +12,7 @@ import { scheduleText, scriptText } from "../../script/text.mjs";
 import { groupOf } from "../helpers/groups.mjs";
 import { logOf } from "../helpers/logs.mjs";
 
-const EXAMPLES = new URL("../../../tests/scripts/examples/", import.meta.url);
+const EXAMPLES = new URL("../../../examples/", import.meta.url);
 const kind = (name) => KINDS.indexOf(name);
 
 test("a view is named by its kind and place, and no two have one name or one key", () => {

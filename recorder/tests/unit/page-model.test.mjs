@@ -15,6 +15,7 @@ import { KINDS, SIZES } from "../../script/kinds.mjs";
 import { EVENTS, FACTS, FILE, FLAG, OUTCOME, SCRIPT, lines, runOf, view } from "../helpers/page-run.mjs";
 
 const CASES = fileURLToPath(new URL("../../../tests/scripts", import.meta.url));
+const EXAMPLES = fileURLToPath(new URL("../../../examples", import.meta.url));
 
 /** The words behind the lines of an explained report, by the lines. */
 function explainedLines(path) {
@@ -44,9 +45,10 @@ function wordsOf(path) {
 
 test("facts in words are those of the explained report", () => {
   let compared = 0;
-  for (const folder of readdirSync(CASES, { withFileTypes: true }).filter((each) => each.isDirectory())) {
-    const names = readdirSync(join(CASES, folder.name)).filter((name) => name.endsWith(".explained"));
-    for (const name of names.map((each) => join(CASES, folder.name, each.replace(/\.explained$/, "")))) {
+  const subjects = readdirSync(CASES, { withFileTypes: true }).filter((each) => each.isDirectory());
+  for (const folder of [EXAMPLES, ...subjects.map(({ name }) => join(CASES, name))]) {
+    const names = readdirSync(folder).filter((name) => name.endsWith(".explained"));
+    for (const name of names.map((each) => join(folder, each.replace(/\.explained$/, "")))) {
       const lines = explainedLines(`${name}.explained`);
       wordsOf(name).forEach((words, at) => {
         assert.equal(words, lines[at], `${name}: line ${at + 1}`);

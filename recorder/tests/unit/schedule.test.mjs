@@ -265,7 +265,7 @@ describe("by hand", () => {
   });
 
   it("the changed examples are still scripts with their own layout", () => {
-    const text = readFileSync(pathOf("tests/scripts/examples/futex-mutex.json"), "utf8");
+    const text = readFileSync(pathOf("examples/futex-mutex.json"), "utf8");
     const editing = new Editing(text, simulate);
     const at = editing.now.turns.findIndex((_, each) => "turns" in later(editing.now, each));
     editing.change(later, at);

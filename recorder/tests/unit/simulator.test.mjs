@@ -9,7 +9,7 @@ import { limited } from "../helpers/limited-module.mjs";
 import { moduleOfOne } from "../helpers/wrong-modules.mjs";
 
 const WASM = new URL("../../wasm/", import.meta.url);
-const EXAMPLES = new URL("../../../tests/scripts/examples/", import.meta.url);
+const EXAMPLES = new URL("../../../examples/", import.meta.url);
 const HELP = new URL("../../../tests/help/", import.meta.url);
 const BYTES = readFileSync(new URL("sabsim.wasm", WASM));
 const NAMES = readdirSync(EXAMPLES).filter((name) => name.endsWith(".json"));

@@ -3,7 +3,8 @@
 ghost use Rattle.std.specs.Prelude.{◌≡◌, IfOk, Ok, false};
 ghost use Rattle.clap.specs.Words.{app_of, new_app, rule_of};
 ghost use Rattle.sab_cli.specs.Command.CommandLine.{HaveRules, IsLocal, Lists, command_line};
-ghost use Rattle.sab_cli.specs.Command.CommandLine.{failure_rule, file_rule, flag_rule, format_rule, limit_rule, mix_rule};
+ghost use Rattle.sab_cli.specs.Command.CommandLine.{failure_rule, file_rule, flag_rule, format_rule, limit_rule};
+ghost use Rattle.sab_cli.specs.Command.CommandLine.{mix_rule};
 ghost use Rattle.sab_cli.specs.Command.CommandLine.{number_rule, share_rule};
 ghost use Rattle.sab_cli.specs.Command.CommandLine.{judge_rules, report_rules, search_rules, spins_rule, thread_rules};
 ghost use Rattle.sab_cli.specs.Command.CommandLine.{timeouts_rule, trace_rule, with_command, with_rules};

@@ -2,7 +2,8 @@
 
 ghost use Rattle.std.specs.Prelude.{◌≡◌, ◌<◌, ◌≤◌, IfErr, IfOk, codes, map};
 ghost use Rattle.clap.specs.Words.{first_value, found_of, one_text, rows_of};
-ghost use Rattle.sab_cli.specs.Command.Asked.{AreTimeouts, AsksFor, IsAsked, IsFailure, IsForm, IsFormat, IsGiven, IsJudge};
+ghost use Rattle.sab_cli.specs.Command.Asked.{AreTimeouts, AsksFor, IsAsked, IsFailure, IsForm, IsFormat, IsGiven};
+ghost use Rattle.sab_cli.specs.Command.Asked.{IsJudge};
 ghost use Rattle.sab_cli.specs.Command.Asked.{IsLimit, IsLines, IsMix, IsRaceJob, IsRefused, IsReplay, IsSearchForm};
 ghost use Rattle.sab_cli.specs.Command.Asked.{IsSearchJob, IsShare, IsSpins, IsVerdictFormat};
 ghost use Rattle.sab_cli.specs.Command.Job.{HasRoom, IsTaskWithinLimits, IsWithinLimits};

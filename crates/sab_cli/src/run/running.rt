@@ -22,11 +22,11 @@ use std::io::{Read, Write};
 /// and flushes.
 ///
 /// It needs only memory, the reader and the writer, so it returns if these two do. TooLong if the reader gave more than
-/// [`MAX_INPUT`](sab_replay::script_runner::MAX_INPUT) bytes, ReadFailed if a read failed, and WriteFailed if a write or the
-/// flush failed; nothing is said then about how much was written. Every other fault is that of the script's replay, or
-/// want of memory, and nothing was written. A check of a script that is refused doesn't return its fault: what is
-/// written reports it. If the script is refused, and that is to be explained, the failure has what a check says about
-/// it.
+/// [`MAX_INPUT`](sab_replay::script_runner::MAX_INPUT) bytes, ReadFailed if a read failed, and WriteFailed if a write
+/// or the flush failed; nothing is said then about how much was written. Every other fault is that of the script's
+/// replay, or want of memory, and nothing was written. A check of a script that is refused doesn't return its fault:
+/// what is written reports it. If the script is refused, and that is to be explained, the failure has what a check says
+/// about it.
 #[tactic(auto, using(crate::proofs::OfRun::Given::ran, crate::proofs::OfRun::Given::failed, crate::proofs::OfRun::Given::explained, crate::proofs::OfRun::Given::unread))]
 pub fn run<R: Read, W: Write>(
     alloc: Global,

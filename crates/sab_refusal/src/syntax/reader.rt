@@ -79,9 +79,12 @@ pub(crate) struct Reader {
 
 impl Reader {
     ghost use Rattle.std.specs.Prelude.{Ok, Err};
-    ghost use Rattle.sab_refusal.specs.Syntax.Reader.{opening, takes_value, takes_name, Steps, step, begin, begin_string};
-    ghost use Rattle.sab_refusal.specs.Syntax.Reader.{begin_word, no_word, open_bracket, close_bracket, pass_comma, pass_colon};
-    ghost use Rattle.sab_refusal.specs.Syntax.Reader.{in_string, in_literal, in_number, by_operator, is_between, is_in_string};
+    ghost use Rattle.sab_refusal.specs.Syntax.Reader.{opening, takes_value, takes_name, Steps, step, begin};
+    ghost use Rattle.sab_refusal.specs.Syntax.Reader.{begin_string};
+    ghost use Rattle.sab_refusal.specs.Syntax.Reader.{begin_word, no_word, open_bracket, close_bracket, pass_comma};
+    ghost use Rattle.sab_refusal.specs.Syntax.Reader.{pass_colon};
+    ghost use Rattle.sab_refusal.specs.Syntax.Reader.{in_string, in_literal, in_number, by_operator, is_between};
+    ghost use Rattle.sab_refusal.specs.Syntax.Reader.{is_in_string};
 
     /// Before a text.
     pub fn new() -> Reader

@@ -64,7 +64,8 @@ impl StringPart {
 }
 
 ghost use Rattle.std.specs.Prelude.{◌≡◌};
-ghost use Rattle.sab_refusal.specs.Syntax.String.{plain_to, escape_to, is_escape, is_hex, is_from_c, digit_to, surrogate_to};
+ghost use Rattle.sab_refusal.specs.Syntax.String.{plain_to, escape_to, is_escape, is_hex, is_from_c, digit_to};
+ghost use Rattle.sab_refusal.specs.Syntax.String.{surrogate_to};
 ghost use Rattle.sab_refusal.specs.Syntax.String.{pair_to, second_to};
 
 /// Behind a byte of the text itself.

@@ -3,7 +3,8 @@
 ghost use Rattle.std.specs.Prelude.{◌≡◌, ◌+◌, ◌*◌, ◌≤◌, ◌++◌, true, length, codes};
 ghost use Rattle.serde_json.specs.Written.{compact_text, items_text};
 ghost use Rattle.sab_plan.specs.Call.{function_of};
-ghost use Rattle.sab_report_text.specs.JsonLines.CallData.{AreNames, operand_data, argument_data, argument_items, call_data};
+ghost use Rattle.sab_report_text.specs.JsonLines.CallData.{AreNames, operand_data, argument_data, argument_items};
+ghost use Rattle.sab_report_text.specs.JsonLines.CallData.{call_data};
 
 use crate::text::Chunk;
 use crate::words::{Name, push_name};

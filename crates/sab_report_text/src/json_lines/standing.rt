@@ -5,7 +5,8 @@ ghost use Rattle.std.specs.Io.KnownBytes.{Appends, append_known};
 ghost use Rattle.serde_json.specs.Written.{compact_text};
 ghost use Rattle.sab_report_text.specs.JsonLines.Members.{member_text_if};
 ghost use Rattle.sab_report_text.specs.JsonLines.CallData.{AreNames};
-ghost use Rattle.sab_report_text.specs.JsonLines.StandingData.{at_name, notified_in, waker_in, standing_data, agent_data};
+ghost use Rattle.sab_report_text.specs.JsonLines.StandingData.{at_name, notified_in, waker_in, standing_data};
+ghost use Rattle.sab_report_text.specs.JsonLines.StandingData.{agent_data};
 ghost use Rattle.sab_report_text.specs.JsonLines.Lines.{line, agent_lines};
 
 use crate::json_lines::call::{CALL_LEN, push_call_data};

@@ -1,7 +1,8 @@
 //! The line of an entry.
 
 ghost use Rattle.std.specs.Prelude.{◌≡◌, ◌+◌, ◌≤◌, ◌++◌, length};
-ghost use Rattle.sab_report_text.specs.Text.Text.{operand_text, answer_text, why_text, what_text, entry_text, entry_line};
+ghost use Rattle.sab_report_text.specs.Text.Text.{operand_text, answer_text, why_text, what_text, entry_text};
+ghost use Rattle.sab_report_text.specs.Text.Text.{entry_line};
 ghost use Rattle.sab_report_text.specs.Text.Lines.{line_if};
 
 use crate::text::chunk::Chunk;

@@ -3,7 +3,8 @@
 ghost use Rattle.std.specs.Prelude.{◌≡◌, ◌+◌, ◌≤◌, ◌++◌, length};
 ghost use Rattle.sab_report_text.specs.Text.Lines.{line_if};
 ghost use Rattle.sab_report_text.specs.Words.CallText.{call_text};
-ghost use Rattle.sab_report_text.specs.Words.FactText.{wait_text, stuck_text, done_text, return_words, called_words, fact_words};
+ghost use Rattle.sab_report_text.specs.Words.FactText.{wait_text, stuck_text, done_text, return_words, called_words};
+ghost use Rattle.sab_report_text.specs.Words.FactText.{fact_words};
 ghost use Rattle.sab_report_text.specs.Words.Column.{spaced};
 ghost use Rattle.sab_report_text.specs.Words.Explained.{explained_line};
 

@@ -2,7 +2,8 @@
 
 ghost use Rattle.std.specs.Prelude.{◌≡◌, ◌+◌, ◌≤◌, ◌++◌, length};
 ghost use Rattle.sab_report_text.specs.Words.CallText.{call_text, element_text};
-ghost use Rattle.sab_report_text.specs.Words.Explained.{passed_text, at_text, begun_text, waits_text, unleft_text, standing_words};
+ghost use Rattle.sab_report_text.specs.Words.Explained.{passed_text, at_text, begun_text, waits_text, unleft_text};
+ghost use Rattle.sab_report_text.specs.Words.Explained.{standing_words};
 ghost use Rattle.sab_report_text.specs.Words.Explained.{standing_line};
 
 use crate::text::{Chunk, Line, prepend_agent};

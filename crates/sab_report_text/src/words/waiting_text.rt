@@ -3,8 +3,10 @@
 ghost use Rattle.std.specs.Prelude.{◌≡◌, ◌+◌, ◌<◌, ◌≤◌, ◌++◌, length};
 ghost use Rattle.sab_plan.specs.declared.plan.TheConstants.Plan.{MAX_AGENTS};
 ghost use Rattle.sab_report_text.specs.Words.CallText.{element_text};
-ghost use Rattle.sab_report_text.specs.Words.FactText.{ahead_text, unwoken_text, idle_text, nobody_text, one_woken_text};
-ghost use Rattle.sab_report_text.specs.Words.FactText.{more_woken_text, woken_text, still_text, some_text, notified_text};
+ghost use Rattle.sab_report_text.specs.Words.FactText.{ahead_text, unwoken_text, idle_text, nobody_text};
+ghost use Rattle.sab_report_text.specs.Words.FactText.{one_woken_text};
+ghost use Rattle.sab_report_text.specs.Words.FactText.{more_woken_text, woken_text, still_text, some_text};
+ghost use Rattle.sab_report_text.specs.Words.FactText.{notified_text};
 
 use crate::text::Chunk;
 use crate::words::call_text::push_element;
