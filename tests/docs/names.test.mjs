@@ -86,11 +86,49 @@ test("each definition and function that ARCHITECTURE names is in the file that i
   assert.deepEqual(missing.map(([words]) => words), []);
 });
 
+/** The crates, each with those that crates.txt lists for it. @type {Map<string, string[]>} */
+const CRATES = new Map(textOf("crates.txt").split("\n").filter(Boolean).map((line) => {
+  const [names, uses] = line.split(":");
+  return [names.split(" ")[0], uses.split(" ").filter(Boolean)];
+}));
+
 test("ARCHITECTURE says what each crate is for", () => {
-  const crates = textOf("crates.txt").split("\n").map((line) => /^(\w+)/.exec(line)?.[1]).filter(Boolean);
-  assert.ok(crates.length > 20);
   const rows = proseOf("docs/ARCHITECTURE.md").split("\n").filter((line) => line.startsWith("| `"));
-  assert.deepEqual(crates.filter((name) => !rows.some((row) => row.split("|")[1].includes(`\`${name}\``))), []);
+  const said = new Set(rows.map((row) => /`(\w+)`/.exec(row.split("|")[1])?.[1]));
+  assert.deepEqual([...CRATES.keys()].filter((name) => !said.has(name)), []);
+});
+
+/** The row of each crate in ARCHITECTURE's picture. A line without a number goes on with the row above it. */
+function rowsOfCrates() {
+  const [, picture] = /\n {4}row  READS.*\n((?: {4}.*\n)+)/.exec(textOf("docs/ARCHITECTURE.md"));
+  const rows = new Map();
+  let row = NaN;
+  for (const line of picture.split("\n")) {
+    row = Number(/^ {4}(\d+)/.exec(line)?.[1] ?? row);
+    for (const [name] of line.matchAll(/\w+/g)) if (CRATES.has(name) && !rows.has(name)) rows.set(name, row);
+  }
+  return rows;
+}
+
+test("there are at most 30 crates in 10 rows, and each uses only crates of lower rows", () => {
+  const rows = rowsOfCrates();
+  assert.deepEqual([...CRATES.keys()].filter((name) => !rows.has(name)), []);
+  assert.ok(CRATES.size <= 30 && Math.max(...rows.values()) < 10, `${CRATES.size} crates`);
+  const wrong = [...CRATES].flatMap(([name, uses]) =>
+    uses.filter((used) => rows.get(used) >= rows.get(name)).map((used) => `${name} uses ${used}`));
+  assert.deepEqual(wrong, []);
+});
+
+test("crates.txt lists the crates that the files of a crate name, and no others", () => {
+  const wrong = [...CRATES].flatMap(([name, uses]) => {
+    const files = PATHS.filter((path) => path.startsWith(`crates/${name}/`) && /\.(?:rt|antt)$/.test(path));
+    const text = files.map(textOf).join("\n");
+    const named = (/** @type {string} */ other) => new RegExp(`(?<![\\w:.])${other}::|\\bRattle\\.${other}\\.`);
+    const others = [...CRATES.keys()].filter((other) => other !== name);
+    const differ = others.filter((other) => named(other).test(text) !== uses.includes(other));
+    return differ.map((other) => `${name}: ${other}`);
+  });
+  assert.deepEqual(wrong, []);
 });
 
 /** A link of a document, or a picture in it: its path, and the fragment behind it. */
