@@ -2,4 +2,4 @@ pub mod Added
 pub mod Entered
 pub mod Rows
 pub mod Spelled
-mod Equality
+pub mod Equality

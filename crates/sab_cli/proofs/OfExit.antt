@@ -1,1 +1,1 @@
-mod Equality
+pub mod Equality

@@ -1,4 +1,4 @@
-mod WrittenBytes
+pub mod WrittenBytes
 pub mod Runs
 pub mod Depending
 pub mod Reporting

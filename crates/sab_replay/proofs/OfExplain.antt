@@ -1,9 +1,9 @@
-mod Noting
-mod Seeing
-mod Explaining
+pub mod Noting
+pub mod Seeing
+pub mod Explaining
 pub mod LastOnes
-mod Concluding
-mod Waking
-mod OneFact
-mod Stepping
-mod OneStanding
+pub mod Concluding
+pub mod Waking
+pub mod OneFact
+pub mod Stepping
+pub mod OneStanding
