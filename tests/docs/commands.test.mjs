@@ -8,10 +8,10 @@ import {
   cpSync, mkdirSync, mkdtempSync, readFileSync, readdirSync, rmSync, symlinkSync, writeFileSync,
 } from "node:fs";
 import { tmpdir } from "node:os";
-import { basename, join } from "node:path";
+import { join, relative } from "node:path";
 import { after, test } from "node:test";
 import { SABSIM, needing, withSabsim } from "../../recorder/tests/helpers/needs.mjs";
-import { LEFT_OUT, TOP, spansOf, textOf } from "./documents.mjs";
+import { TOP, isLeftOut, spansOf, textOf } from "./documents.mjs";
 
 const built = { isBuilt: true, when: withSabsim };
 
@@ -132,7 +132,7 @@ const copy = mkdtempSync(join(tmpdir(), "sabsim documents "));
 after(() => rmSync(copy, { recursive: true, force: true }));
 const PROGRAM = join(copy, "crates/sabsim/out/sabsim");
 
-cpSync(TOP, copy, { recursive: true, verbatimSymlinks: true, filter: (from) => !LEFT_OUT.has(basename(from)) });
+cpSync(TOP, copy, { recursive: true, verbatimSymlinks: true, filter: (from) => !isLeftOut(relative(TOP, from)) });
 for (const [name, text] of filesShown()) writeFileSync(join(copy, name), text);
 
 /** What a user's shell has: nothing of this test's own run. */

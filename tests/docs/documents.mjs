@@ -17,13 +17,19 @@ export const DOCUMENTS = [
 ];
 
 /** What no copy of the repository needs: what tools have made, and the history. */
-export const LEFT_OUT = new Set([".git", "out", "node_modules", "found"]);
+const LEFT_OUT = new Set([".git", "out", "node_modules"]);
+
+/** Where the recorder keeps what it finds, if a command was run at the top. */
+const KEPT = "found";
+
+/** Whether a path is one of what tools have made, or of the history. @param {string} path from the top */
+export const isLeftOut = (path) => path === KEPT || LEFT_OUT.has(posix.basename(path));
 
 /** @param {string} folder from the top @returns {string[]} the paths of the files in it and below */
 export function filesBelow(folder) {
   return readdirSync(join(TOP, folder), { withFileTypes: true }).flatMap((entry) => {
     const path = posix.join(folder, entry.name);
-    if (LEFT_OUT.has(entry.name)) return [];
+    if (isLeftOut(path)) return [];
     if (entry.isDirectory()) return filesBelow(path);
     return entry.isFile() ? [path] : [];
   });

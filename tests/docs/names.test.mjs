@@ -5,7 +5,7 @@ import assert from "node:assert/strict";
 import { existsSync, readdirSync } from "node:fs";
 import { dirname, join, posix } from "node:path";
 import { test } from "node:test";
-import { DOCUMENTS, LEFT_OUT, TOP, filesBelow, proseOf, spansOf, textOf } from "./documents.mjs";
+import { DOCUMENTS, TOP, filesBelow, isLeftOut, proseOf, spansOf, textOf } from "./documents.mjs";
 
 const MAPS = ["CONTRIBUTING.md", "docs/ARCHITECTURE.md"];
 
@@ -52,7 +52,7 @@ for (const path of DOCUMENTS.filter((each) => !MAPS.includes(each))) {
 function linksBelow(folder) {
   return readdirSync(join(TOP, folder), { withFileTypes: true }).flatMap((entry) => {
     const path = posix.join(folder, entry.name);
-    if (LEFT_OUT.has(entry.name)) return [];
+    if (isLeftOut(path)) return [];
     if (entry.isDirectory()) return linksBelow(path);
     return entry.isSymbolicLink() ? [path] : [];
   });
