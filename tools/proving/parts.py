@@ -6,6 +6,7 @@ import tempfile
 import time
 from dataclasses import dataclass, field
 
+from .figures import TESTS, of_kind
 from .kit import rtlib
 from .lanes import Task
 
@@ -89,7 +90,7 @@ def why_bad(said, status):
 def part_task(part, tasks, tally):
     """Returns the task of running a part from the root of the repository, once what it needs has ended well."""
     waits_for = [tasks[name] for name in part.needs if name in tasks]
-    return Task(part.name, lambda _: run_part(part, tally), waits_for, part.seconds)
+    return Task(part.name, of_kind(TESTS, lambda _: run_part(part, tally)), waits_for, part.seconds)
 
 
 def run_part(part, tally):

@@ -8,6 +8,7 @@ import time
 import traceback
 
 from .crates import Proving, why_refused
+from .figures import EDITS, PROOFS, TESTS, of_kind
 from .kit import rt, rtlib
 from .lanes import Task
 from .parts import LeftOut
@@ -88,7 +89,7 @@ class Proofs:
         memory = rt.need(crate) * (NEEDED_WITH_CODE if is_compiled else NEEDED)
         waits_for = [self.tasks[below.name] for below in crate.below()]
         run = lambda jobs: self.guarded(proving.name, lambda: self.prove(proving, jobs))
-        task = Task(proving.name, run, waits_for, seconds, memory, most_jobs=4)
+        task = Task(proving.name, of_kind(PROOFS, run), waits_for, seconds, memory, most_jobs=4)
         self.tasks[proving.name] = task
         self.proofs += 1
         return task
@@ -97,8 +98,10 @@ class Proofs:
         """Adds the task of running a program, or the tests of a crate, once it is proved."""
         name = f"{crate.name}_tests" if is_of_tests else crate.name
         run = lambda _: self.guarded(name, lambda: self.run(crate, is_of_tests))
+        waits_for = [self.tasks[name]]
         # Some tests watch threads by the clock.
-        self.tasks[f"run {name}"] = Task(f"run {name}", run, [self.tasks[name]], seconds=20, is_alone=is_of_tests)
+        task = Task(f"run {name}", of_kind(TESTS, run), waits_for, seconds=20, is_alone=is_of_tests)
+        self.tasks[task.name] = task
 
     def add_edits(self, crate, names=None, alone=False):
         """Adds the task of trying a crate's must-fail edits, or those of some names, once it is proved."""
@@ -111,7 +114,8 @@ class Proofs:
         if files:
             name, waits_for = f"edits of {crate.name}", [self.tasks[crate.name]]
             run = lambda _: self.guarded(name, lambda: self.try_edits(crate, files, alone))
-            self.tasks[name] = Task(name, run, waits_for, 20 + 8 * len(files), rt.need(crate) * NEEDED)
+            seconds, memory = 20 + 8 * len(files), rt.need(crate) * NEEDED
+            self.tasks[name] = Task(name, of_kind(EDITS, run), waits_for, seconds, memory)
 
     def guarded(self, name, call):
         """Makes a call, and counts its failure: it returns whether all is well."""
