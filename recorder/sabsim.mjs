@@ -17,9 +17,13 @@ const NOT_RUN = 2;
 const NOT_WRITTEN = 3;
 const MODULE = new URL("./wasm/sabsim.wasm", import.meta.url);
 
-// The simulator refuses a script, or a file of automata, that has so many bytes, whatever comes behind them.
-const MOST_OF_SCRIPT = SCRIPT_LIMITS.text + 1;
-const MOST_OF_FILE = MOST_OF_AUTOMATA + 1;
+/**
+ * How many bytes of an input the simulator needs. It refuses a script, or a file of automata, that has so many, whatever
+ * comes behind them.
+ */
+const MOST_READ = {
+  script: SCRIPT_LIMITS.text + 1, trace: Infinity, automata: MOST_OF_AUTOMATA + 1, states: MOST_OF_AUTOMATA + 1,
+};
 
 /** Where the program is: in the package, or where the repository builds it. */
 const PROGRAMS = [`../program/${MACHINE}/sabsim${HERE.programEnding}`, "../crates/sabsim/out/sabsim"];
@@ -73,23 +77,16 @@ function endBy(signal) {
 
 /**
  * Reads an input, or as much of it as the simulator needs: standard input may have no end.
- * @param {number} most how many bytes
- * @returns {(file?: string) => Uint8Array} undefined: standard input
+ * @param {string | undefined} file undefined: standard input
+ * @param {import("./wasm/simulator.mjs").InputKind} kind
  */
-const readUpTo = (most) => (file) => {
+function readInput(file, kind) {
   const from = file === undefined ? 0 : openSync(file);
   try {
-    return readAll(from, most);
+    return readAll(from, MOST_READ[kind]);
   } finally {
     if (file !== undefined) closeSync(from);
   }
-};
-
-/** @param {string[]} words of the command line @returns {(file?: string) => Uint8Array} what reads its input */
-function readerOf(words) {
-  if (words[0] === "search") return readUpTo(MOST_OF_FILE);
-  if (!words.includes("--trace")) return readUpTo(MOST_OF_SCRIPT);
-  return (file) => (file === undefined ? readAll(0) : readFileSync(file));
 }
 
 /**
@@ -99,7 +96,7 @@ function readerOf(words) {
  */
 function endedBy(words) {
   const simulator = new Simulator(new WebAssembly.Module(readFileSync(MODULE)));
-  return simulator.command(words, readerOf(words), process.stderr.isTTY === true);
+  return simulator.command(words, readInput, process.stderr.isTTY === true);
 }
 
 /** @param {number} bytes of what a search has found that had no room */

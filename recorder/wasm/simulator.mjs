@@ -24,6 +24,15 @@ const REPLY = { status: 0, output: 8, complaint: 16, wants: 24, leftOut: 32, siz
 const WANTS_NOTHING = 0;
 const WANTS_STANDARD = 1;
 
+/**
+ * What that is, by the status of the reply; `states` is a file of automata whose states are to be written.
+ * @type {readonly InputKind[]}
+ */
+const INPUTS = ["script", "trace", "automata", "states"];
+
+/** How many bytes the output may have, if what is left out isn't made again. @type {{ [kind: string]: number }} */
+const ROOMS = { automata: ROOM_OF_SEARCH, states: ROOM_OF_STATES };
+
 /** A list of no bytes. */
 const NOTHING = new Uint8Array();
 
@@ -59,6 +68,8 @@ const GIVEN = { nothing: 0, bytes: 1, unreadable: 2 };
  */
 
 /** @typedef {CommandResult & { leftOut: number }} SearchCommandResult how many bytes of the output had no room */
+
+/** @typedef {"script" | "trace" | "automata" | "states"} InputKind what a command line's input is */
 
 /** The simulator has stopped in the middle of a call: it is defective, or it needs a deeper stack. */
 export class Trapped extends Error {
@@ -253,8 +264,8 @@ export class Simulator {
   /**
    * Does what a command line asks for.
    * @param {string[]} words without the program's name; none has a character 0
-   * @param {(file: string | undefined) => Uint8Array} read returns what a file has, or what standard input has if none
-   * is named; if it throws, the input can't be read
+   * @param {(file: string | undefined, kind: InputKind) => Uint8Array} read returns what a file has, or what standard
+   * input has if none is named; if it throws, the input can't be read
    * @param {boolean} [isTerminal] whether refusals are to be explained, as on a terminal
    * @returns {SearchCommandResult}
    * @throws {Trapped}
@@ -264,10 +275,11 @@ export class Simulator {
     const ended = this.#calling((instance) => {
       const first = instance.command(line, GIVEN.nothing, NOTHING, isTerminal);
       if (first.wants === WANTS_NOTHING) return first.ended;
+      const kind = INPUTS[first.ended.status];
       const name = first.wants === WANTS_STANDARD ? undefined : decoder.decode(first.ended.output);
-      const input = bytesOf(read, name);
+      const input = bytesOf(() => read(name, kind));
       const given = input === undefined ? GIVEN.unreadable : GIVEN.bytes;
-      return instance.command(line, given, input ?? NOTHING, isTerminal, roomOf(words)).ended;
+      return instance.command(line, given, input ?? NOTHING, isTerminal, ROOMS[kind]).ended;
     });
     return { leftOut: 0, ...ended };
   }
@@ -292,20 +304,13 @@ export class Simulator {
   }
 }
 
-/** @param {string[]} words of a command line @returns {number | undefined} how many bytes its output may have */
-function roomOf(words) {
-  if (words[0] !== "search") return undefined;
-  return words.includes("--states") ? ROOM_OF_STATES : ROOM_OF_SEARCH;
-}
-
 /**
- * @param {(file: string | undefined) => Uint8Array} read
- * @param {string | undefined} name
+ * @param {() => Uint8Array} read
  * @returns {Uint8Array | undefined} undefined: it can't be read
  */
-function bytesOf(read, name) {
+function bytesOf(read) {
   try {
-    return read(name);
+    return read();
   } catch {
     return undefined;
   }

@@ -53,7 +53,7 @@ RepliesToSearch (Some job) explain input old new reply = PutsTask (OfSearch job)
 -- the input isn't read yet, or these are its bytes, or it can't be read
 abbrev pub RepliesToInput : ℕ → Task → Source → Bool → List ℕ → List ℕ → List ℕ → Reply → Type 0
 RepliesToInput given task source explain input old new reply =
-    ((given ≡ 0) × AsksFor source old new reply)
+    ((given ≡ 0) × AsksFor task source old new reply)
     ⊎ (((given ≡ 1) × PutsTask task source explain input old new reply)
     ⊎ ((given ≢ 0) × (given ≢ 1) × PutsSuch (Fails (unexplained ReadFailed) source) old new reply))
 

@@ -1,5 +1,10 @@
 -- What a call puts into the host's room.
 use Rattle.std.specs.Prelude.{◌≡◌, ◌≢◌, ◌⊎◌, ◌+◌, ◌-◌, ◌≤◌, ◌<◌, ℕ, List, [], ◌++◌, length, take, drop, slice_index}
+use Rattle.std.specs.Prelude.{true, false}
+use Rattle.sab_cli.specs.declared.command.job.SearchForm.{SearchForm}
+use Rattle.sab_cli.specs.declared.command.job.SearchForm.TheVariants.{Findings, Script}
+use Rattle.sab_cli.specs.declared.command.request.Task.{Task}
+use Rattle.sab_cli.specs.declared.command.request.Task.TheVariants.{OfScript, OfRace, OfTrace, OfSearch}
 use Rattle.sab_cli.specs.declared.command.request.Source.{Source}
 use Rattle.sab_cli.specs.declared.command.request.Source.TheVariants.{Standard, File}
 use Rattle.sabsim_wasm.specs.declared.reply.Reply.{Reply}
@@ -50,7 +55,21 @@ PutsSearch written old new reply =
     ((written.complaint ≡ []) × PutsLines written.status written.output old new reply)
     ⊎ ((written.output ≡ []) × Puts 0 written old new reply)
 
--- the host is asked for what the source has
-abbrev pub AsksFor : Source → List ℕ → List ℕ → Reply → Type 0
-AsksFor Standard old new reply = Puts 1 (written_of 0 [] []) old new reply
-AsksFor (File name) old new reply = Puts 2 (written_of 0 name.now []) old new reply
+-- a file of automata, and whether lines of states are to be written
+abbrev pub searched_input : SearchForm → ℕ
+searched_input (Findings format true) = 3
+searched_input (Findings format false) = 2
+searched_input (Script failure) = 2
+
+-- what the input of a task is: 0 a script, 1 a trace, 2 a file of automata, 3 the same if lines of states are to be
+-- written
+abbrev pub input_of : Task → ℕ
+input_of (OfScript job) = 0
+input_of (OfRace race) = 0
+input_of (OfTrace format) = 1
+input_of (OfSearch job) = searched_input job.form
+
+-- the host is asked for what the source has, and learns what that is
+abbrev pub AsksFor : Task → Source → List ℕ → List ℕ → Reply → Type 0
+AsksFor task Standard old new reply = Puts 1 (written_of (input_of task) [] []) old new reply
+AsksFor task (File name) old new reply = Puts 2 (written_of (input_of task) name.now []) old new reply

@@ -63,7 +63,7 @@ fn reply_to(
 {
     let explain = either(request.explain, is_terminal);
     match given {
-        0 => ask_for(request.source, room),
+        0 => ask_for(request.task, request.source, room),
         1 => put_task(alloc, request.task, request.source, explain, input, room),
         _ => put_unreadable(alloc, request.source, room),
     }

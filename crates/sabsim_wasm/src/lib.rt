@@ -79,7 +79,8 @@ pub extern "C" fn sabsim_search(
 /// Each word has a byte 0 after it, and the first is the program's name. `given` says what the host has read of the
 /// input that the words name: 0 for nothing yet, 1 for the bytes in `input`, and any other number if it can't be read.
 /// At 0 the reply says what the host has to read, if anything: `wants` is 1 for standard input, and 2 for the file
-/// whose name is in the room. `is_terminal`: whether standard error is a terminal, on which each refusal is explained.
+/// whose name is in the room; `status` says what that is ([`Reply`]). `is_terminal`: whether standard error is a
+/// terminal, on which each refusal is explained.
 ///
 /// A race ends with 9 NoThread once its script is read: it needs threads, which only the native program has. Of a
 /// search the room has the lines that fit, as after [`sabsim_search`].

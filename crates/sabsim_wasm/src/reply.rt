@@ -1,9 +1,9 @@
 //! What the host gets.
 
 ghost use Rattle.sabsim_wasm.specs.Program.{no_memory, written_of};
-ghost use Rattle.sabsim_wasm.specs.Room.{AsksFor, IsCut, Puts, PutsBoth, PutsLines};
+ghost use Rattle.sabsim_wasm.specs.Room.{AsksFor, IsCut, Puts, PutsBoth, PutsLines, input_of, searched_input};
 
-use sab_cli::command::Source;
+use sab_cli::command::{SearchForm, Source, Task};
 use sab_cli::exit::Ending;
 use sab_replay::faults::ToolFault;
 
@@ -11,7 +11,8 @@ use sab_replay::faults::ToolFault;
 #[repr(C)]
 #[derive(Clone, Copy, Debug, PartialEq, Eq)]
 pub struct Reply {
-    /// The exit status of the program.
+    /// The exit status of the program; or what the input is that is to be read: 0 for a script, 1 for a trace, 2 for a
+    /// file of automata, 3 for one whose states are to be written.
     pub status: u64,
     /// How many bytes are for standard output; or the length of the name of the file that is to be read.
     pub output_len: u64,
@@ -88,18 +89,40 @@ pub(crate) fn put_no_memory(room: &mut [u8]) -> Reply
     put(status, &[], NO_MEMORY, room)
 }
 
-/// Asks the host for the input.
-pub(crate) fn ask_for(source: Source<'_>, room: &mut [u8]) -> Reply
-    ensures { AsksFor source.entry room.old room.new result }
+/// Asks the host for the input of a task.
+pub(crate) fn ask_for(task: Task, source: Source<'_>, room: &mut [u8]) -> Reply
+    ensures { AsksFor task source.entry room.old room.new result }
 {
+    let input = input_of(task);
     match source {
         Source::Standard => Reply {
             wants: 1,
-            ..put(0, &[], "", room)
+            ..put(input, &[], "", room)
         },
         Source::File(name) => Reply {
             wants: 2,
-            ..put(0, name.as_bytes(), "", room)
+            ..put(input, name.as_bytes(), "", room)
         },
+    }
+}
+
+/// What the input of a task is.
+fn input_of(task: Task) -> u8
+    ensures { result ≡ input_of task }
+{
+    match task {
+        Task::OfScript(_) | Task::OfRace(_) => 0,
+        Task::OfTrace(_) => 1,
+        Task::OfSearch(job) => searched_input(job.form),
+    }
+}
+
+/// What the input of a search is.
+fn searched_input(form: SearchForm) -> u8
+    ensures { result ≡ searched_input form }
+{
+    match form {
+        SearchForm::Findings { states: true, .. } => 3,
+        SearchForm::Findings { states: false, .. } | SearchForm::Script { .. } => 2,
     }
 }

@@ -71,6 +71,25 @@ test("with `--finish` a call that hasn't returned gives status 5", () => {
   assert.equal(simulator.run({ job: "replay" }, read("lost-wake-up.json")).status, 0);
 });
 
+for (const [line, file, kind] of [
+  ["replay", undefined, "script"],
+  ["check a.json", "a.json", "script"],
+  ["race --mix 1", undefined, "script"],
+  ["judge --trace a.jsonl", "a.jsonl", "trace"],
+  ["search --limit 5", undefined, "automata"],
+  ["search --states a.json", "a.json", "states"],
+  ["search --format script --failure 1", undefined, "automata"],
+]) {
+  test(`"${line}" asks for ${kind} of ${file ?? "standard input"}`, () => {
+    const asked = [];
+    command(line.split(" "), (...words) => {
+      asked.push(words);
+      throw new Error("it can't be read");
+    });
+    assert.deepEqual(asked, [[file, kind]]);
+  });
+}
+
 test("a trace is judged", () => {
   const rows = new URL("../judge-rows/", import.meta.url);
   const traces = readdirSync(rows).filter((name) => name.endsWith(".jsonl"));
