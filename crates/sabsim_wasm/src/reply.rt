@@ -1,5 +1,6 @@
 //! What the host gets.
 
+ghost use Rattle.std.specs.Prelude.{◌≡◌};
 ghost use Rattle.sabsim_wasm.specs.Program.{no_memory, written_of};
 ghost use Rattle.sabsim_wasm.specs.Room.{AsksFor, IsCut, Puts, PutsBoth, PutsLines, input_of, searched_input};
 
