@@ -11,6 +11,7 @@ from .crates import Proving, why_refused
 from .figures import EDITS, PROOFS, TESTS, of_kind
 from .kit import rt, rtlib
 from .lanes import Task
+from .libraries import library_sum
 from .parts import LeftOut
 from .static_library import StaticProving, StaticTrial
 from .store import Sums, sum_of, sum_of_scripts
@@ -135,9 +136,9 @@ class Proofs:
         if why:
             self.tally.say(f"{crate.name}: {why}")
             return False
-        key = sum_of(self.sums.of(crate), proving.made, *self.sums_of_static(crate))
-        path = known = self.store.find(crate.name, key)
-        path = path or self.store.keep(crate.name, key, lambda folder: proving.make(folder, jobs))
+        keys = self.keys_of(proving)
+        path = known = next((path for path in (self.store.find(crate.name, key) for key in keys) if path), None)
+        path = path or self.store.keep(crate.name, keys[0], lambda folder: proving.make(folder, jobs))
         if not path:
             self.tally.say(f"{proving.said}{proving.name} isn't proved, or isn't built")
             return False
@@ -145,6 +146,13 @@ class Proofs:
         took = "known" if known else f"{time.monotonic() - begun:.0f} s"
         self.tally.add_proof(f"{{:2}} of {self.proofs}: {proving.name}, {took}", bool(known))
         return True
+
+    def keys_of(self, proving):
+        """Returns the keys under which what is made of a crate may be kept. A library is kept by its own files and the
+        libraries below it; by all files, as everything was once; a program, tests and a static library still are."""
+        crate = proving.crate
+        by_files = sum_of(self.sums.of(crate), proving.made, *self.sums_of_static(crate))
+        return [sum_of(self.sums.over(crate), proving.made), by_files] if is_library(proving) else [by_files]
 
     def sums_of_static(self, crate):
         """Returns a sum of the scripts on which only a static library depends, if the crate is one."""
@@ -154,8 +162,9 @@ class Proofs:
         """Puts what was made of a crate where others look for it."""
         crate = next(it for it in self.crates if it.name == proving.crate.name)
         self.paths[proving.made] = path
-        if proving.made.endswith(".rlib"):
+        if is_library(proving):
             crate.rlib = f"{path}/{proving.made}"
+            self.sums.libraries[crate.name] = library_sum(path, crate.rlib)
             return
         to = f"{crate.folder}/out/{proving.made}"
         os.makedirs(os.path.dirname(to), exist_ok=True)
@@ -209,6 +218,11 @@ def has_only_tests(crate):
         return False
     text = re.sub(r"^(//|#!\[).*", "", rtlib.text_of(f"{crate.folder}/src/lib.rt"), flags=re.MULTILINE)
     return bool(re.fullmatch(r"(\s*#\[cfg\(test\)\]\s*mod \w+;)+\s*", text))
+
+
+def is_library(proving):
+    """Returns whether a library is made, which crates above read."""
+    return proving.made.endswith(".rlib")
 
 
 def proving_of(crate, is_of_tests=False):

@@ -45,13 +45,24 @@ class Sums:
 
     def __init__(self):
         self.base, self.known = sum_of(kit_sum(), rt.Crate.allowed, sum_of_scripts("crates kit")), {}
+        # The sums of proved libraries, by their names, once they are there (libraries.py).
+        self.libraries = {}
 
     def of(self, crate):
+        """Returns the sum of a crate with the files of those below it."""
         if crate.name not in self.known:
-            files = [(os.path.relpath(file, crate.folder), rtlib.sum_of(file)) for file in rtlib.files_of(crate.folder)]
             below = [self.of(dep) for dep in crate.deps]
-            self.known[crate.name] = sum_of(self.base, crate.said, files, below)
+            self.known[crate.name] = sum_of(self.base, crate.said, self.files_of(crate), below)
         return self.known[crate.name]
+
+    def over(self, crate):
+        """Returns the sum of a crate with the libraries below it, which are proved."""
+        below = [(it.name, self.libraries[it.name]) for it in crate.below()]
+        return sum_of("over libraries", self.base, crate.said, self.files_of(crate), below)
+
+    @staticmethod
+    def files_of(crate):
+        return [(os.path.relpath(file, crate.folder), rtlib.sum_of(file)) for file in rtlib.files_of(crate.folder)]
 
 
 class Store:
