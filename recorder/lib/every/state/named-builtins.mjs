@@ -12,6 +12,8 @@ const PLAIN = [
   Object, Array, Map, Set, WeakMap, WeakSet, Function, Date, RegExp, ArrayBuffer, SharedArrayBuffer, Error, RangeError,
   TypeError, SyntaxError, ReferenceError, EvalError, URIError, AggregateError, DataView, TextEncoder, TextDecoder,
   EventEmitter, Boolean, Number, String, Symbol, BigInt, Promise, Reflect.getPrototypeOf(Int8Array), ...CONSTRUCTORS,
+  // The prototype of a function that makes generators is a plain object.
+  Reflect.getPrototypeOf(function* made() {}), Reflect.getPrototypeOf(async function* made() {}),
 ].map((one) => /** @type {Function} */ (one));
 
 const KINDS = /** @type {const} */ (["value", "get", "set"]);
