@@ -72,6 +72,21 @@ export const check = ([buffer]) => {
   assert.deepEqual(details.map((detail) => isShownBy(finding, ran(detail))), [true, false, false]);
 });
 
+test("what `init` and `check` keep is theirs: agents see nothing of it, and they nothing of agents", async (context) => {
+  const module = moduleOf(context, `let kept = 0;
+export const setup = { agents: 2, buffers: [8] };
+export const init = () => { kept = 4; };
+export default function agent({ buffers, agent: self }) {
+  kept += 1;
+  Atomics.store(new Int32Array(buffers[0]), self, kept);
+}
+export const check = () => kept === 4;
+`);
+  const { finals, found, realRuns } = await everySchedule({ ...FEW_WORKERS, module, seeds: 3 });
+  assert.deepEqual({ found, realRuns }, { found: [], realRuns: 3 });
+  assert.deepEqual(finals.map(({ blocks }) => blocks), [["0100000001000000"]]);
+});
+
 test("an error whose text is its own, or can't be made, is found as real runs show it", async (context) => {
   for (const own of ["return 'E!';", "throw new Error('no text');"]) {
     const throws = `class E extends Error { toString() { ${own} } }
