@@ -243,7 +243,7 @@ export class Walk {
       for (const key of Reflect.ownKeys(fn)) this.#property(fn, key);
       return;
     }
-    if (made === undefined) throw new CantShow(`the function ${fn.name}, which isn't of the modules`);
+    if (made === undefined) throw new CantShow(`${functionText(fn)}, which isn't of the modules`);
     if (made.isHidden === true) throw new CantShow("a function with a `super` or with names that aren't shown");
     this.out.push(made.id);
     for (const key of made.keys ?? []) this.value(key);
@@ -402,6 +402,12 @@ export class Walk {
       this.value(set);
     }
   }
+}
+
+/** @param {Function} fn @returns {string} what it is called, if that is a text: no code of agents runs for it */
+function functionText(fn) {
+  const name = Reflect.getOwnPropertyDescriptor(fn, "name")?.value;
+  return typeof name === "string" && name !== "" ? `the function ${name}` : "a function";
 }
 
 /**
