@@ -140,7 +140,9 @@ export function loadCode(url, asker, platform, flaw) {
   const runtime = new Runtime();
   const own = new AgentModules(platform);
   own.take(PRELUDE);
-  installLoops(/** @type {any} */ (own.made(runtime.calls).get(PRELUDE)));
+  const prelude = /** @type {any} */ (own.made(runtime.calls).get(PRELUDE));
+  installLoops(prelude);
+  runtime.calls.elementsOf = prelude.elementsOf;
   const graph = new AgentModules(platform);
   graph.take(url, true);
   const builtins = new NamedBuiltins();

@@ -3,7 +3,7 @@
 import { positionOutsideComments } from "./comments.mjs";
 import { NAME_OF_KEY } from "./function-names.mjs";
 import { engineName, keyOfShorthand } from "./naming.mjs";
-import { childrenOf, hasOptional, isClass, isConstant, isMethod, isPattern, runsCode } from "./tree.mjs";
+import { childrenOf, givesMembers, hasOptional, isClass, isConstant, isMethod, isPattern, runsCode } from "./tree.mjs";
 
 /** @typedef {import("./tree.mjs").Tree} Tree */
 /** @typedef {import("./scopes.mjs").Info} Info */
@@ -89,6 +89,7 @@ export const EXPRESSIONS = {
   UpdateExpression: writeUpdate,
   VariableDeclarator: (writer, { id, init }, info) => {
     beginIterating(writer, id, init);
+    if (init !== null && givesMembers(id)) writer.within(init, `(${writer.room(info, id.start, id.end)} = (`, "))");
     writer.writeAll([id, init], info);
   },
 };

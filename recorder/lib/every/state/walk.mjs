@@ -7,6 +7,7 @@ import { slotOf } from "../../primordials.mjs";
 import { hexOf } from "../search/raw-elements.mjs";
 import { boundOf } from "./bound-functions.mjs";
 import { hadOtherPrototype } from "./first-prototypes.mjs";
+import { intlOf } from "./intl-objects.mjs";
 import { LoopSteps } from "./loop-steps.mjs";
 import { CantShow, boxedIn, bytesIn, isResizable, objectKind, numberText, patternOf, timeOf } from "./object-kinds.mjs";
 import { settledOf } from "./promises.mjs";
@@ -281,6 +282,7 @@ export class Walk {
       case "Promise": this.#settled(object); return;
       case "boxed": this.value(boxedIn(object)); return;
       case "iterator": this.#iteration(object); return;
+      case "Intl": this.out.push(JSON.stringify(intlOf(object))); return;
       case "WeakMap": this.weak.push({ object, shown: new Set(), hasValues: true }); return;
       case "WeakSet": this.weak.push({ object, shown: new Set(), hasValues: false }); return;
       default:
@@ -349,7 +351,7 @@ export class Walk {
     const isTyped = anyWatchedOf(object) !== undefined || ArrayBuffer.isView(object);
     const isOfPlain = this.builtins.plain.has(/** @type {any} */ (prototype));
     const isPlain = name === undefined || isTyped || isOfPlain || types.isAnyArrayBuffer(object)
-      || iterationOf(object) !== undefined;
+      || iterationOf(object) !== undefined || intlOf(object) !== undefined;
     if (!isPlain && typeof object !== "function") throw new CantShow(`an object of ${name}`);
     this.value(prototype);
   }
