@@ -311,11 +311,13 @@ function serve(module, agents) {
     for (let at = 0; at < args.length; at += 1) list[at] = args[at];
     return list;
   };
+  // It is called without an object: none of the recorder's is its `this`.
+  const { default: agent } = module;
   for (;;) {
     onceMore();
     const order = player.awaitOrder();
     const own = { agents, args: words() };
-    const play = () => module.default({ buffers: buffers(), agent: self.agent, agents, args: words() });
+    const play = () => agent({ buffers: buffers(), agent: self.agent, agents, args: words() });
     if (order === ORDER.PLAY) player.play(play, described);
     else player.serve(() => (order === ORDER.INIT ? module.init : module.check)?.(buffers(), own), described);
   }

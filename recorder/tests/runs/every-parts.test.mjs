@@ -87,6 +87,32 @@ export const check = () => kept === 4;
   assert.deepEqual(finals.map(({ blocks }) => blocks), [["0100000001000000"]]);
 });
 
+test("an error whose message has the text of a stack is found as real runs show it", async (context) => {
+  const throws = `export const setup = { agents: 2, buffers: [4] };
+const fails = (text) => { throw new Error(text); };
+function caught() { try { return [1].map(() => fails("lost")); } catch (error) { return error.stack; } }
+export default function agent({ buffers }) {
+  if (Atomics.add(new Int32Array(buffers[0]), 0, 1) === 1) fails(\`late: \${caught()}\`);
+}
+export const check = () => fails(caught());
+`;
+  const { found } = await everySchedule({ ...FEW_WORKERS, module: moduleOf(context, throws), seeds: 2 });
+  assert.deepEqual(found.map(({ kind, text }) => [kind, text]), [["threw", "Error: late: Error: lost"]]);
+  const checked = moduleOf(context, throws.replace("=== 1", "=== 2"));
+  const { found: [other] } = await everySchedule({ ...FEW_WORKERS, module: checked, seeds: 2 });
+  assert.deepEqual([other.kind, other.text], ["check", "threw Error: Error: lost"]);
+});
+
+test("an agent is called without an object", async (context) => {
+  const module = moduleOf(context, `export const setup = { agents: 2, buffers: [4] };
+export default function agent({ buffers }) {
+  Atomics.add(new Int32Array(buffers[0]), 0, this === undefined ? 1 : 2);
+}
+`);
+  const { finals, realRuns } = await everySchedule({ ...FEW_WORKERS, module, seeds: 2 });
+  assert.deepEqual([finals.map(({ blocks }) => blocks), realRuns], [[["02000000"]], 2]);
+});
+
 test("an error whose text is its own, or can't be made, is found as real runs show it", async (context) => {
   for (const own of ["return 'E!';", "throw new Error('no text');"]) {
     const throws = `class E extends Error { toString() { ${own} } }

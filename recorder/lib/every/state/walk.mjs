@@ -238,7 +238,7 @@ export class Walk {
     const made = this.runtime.functions.get(fn);
     const bound = made === undefined ? boundOf(fn) : undefined;
     if (bound !== undefined) {
-      this.out.push("bound", bound.given.length);
+      this.out.push(bound.kind, bound.given.length);
       this.value(bound.target);
       for (const one of bound.given) this.value(one);
       for (const key of Reflect.ownKeys(fn)) this.#property(fn, key);
