@@ -1,6 +1,7 @@
 // The worker of one agent. It replaces what shows an agent the world: Atomics, typed arrays, clocks, random numbers. It
 // imports the agents' module, and then carries out orders, one after the other: the agent's part in a run, or the
-// module's `init` or `check`. It never gets back to its event loop.
+// module's `init` or `check`. A module that has these gets one worker more, which only calls them: so what they keep in
+// the module's variables isn't the agents'. A worker never gets back to its event loop.
 //
 // All of this runs beside the agents' code, which may change what it finds. So it uses functions that it has kept from
 // before that code is loaded, and loops in place of the methods of arrays.
@@ -82,7 +83,8 @@ const { port, args, ordinary, clock, unrecorded, module: file } = /** @type {Age
 const post = port.postMessage.bind(port);
 
 /**
- * Which agent it is, and how its calls are made; none can be while its module is being loaded.
+ * Which agent it is, or the number of agents if it only calls `init` and `check`; and how its calls are made. None can
+ * be while its module is being loaded.
  * @type {{ agent: number, player: Player | undefined, buffers: unknown[] }}
  */
 const self = { agent: 0, player: undefined, buffers: [] };
@@ -164,6 +166,8 @@ function installReplacements() {
   threads.workerData = null;
   if (clock === "run") simulateTime(() => (isRecording() ? playing().look() : 0));
   simulateChance(chance);
+  // Else each small one has a place in memory that they share, which goes by all that were made before.
+  Buffer.poolSize = 0;
   if (ordinary === "watch") watchOrdinary(watching);
   else watchWaysOut(watching);
   watchMaking(unseen);
@@ -250,6 +254,16 @@ async function loaded(load) {
 }
 
 /**
+ * What the worker alone writes: an agent's, or one that calls only `init` and `check`.
+ * @param {AgentGroupData["memory"]} memory
+ */
+function ownMemory({ caller, notes, records, sources }) {
+  const { agent } = self;
+  if (agent === notes.length && caller !== undefined) return caller;
+  return { notes: notes[agent], records: records[agent], sources: sources[agent] };
+}
+
+/**
  * The agent's player, over the memory that the group shares.
  * @param {AgentGroupData} handed
  * @param {UnfinishedWork} noting
@@ -257,7 +271,8 @@ async function loaded(load) {
 function playerOf({ memory, plan, rules }, { later, messages }) {
   later.enable();
   unseen.exclude(memory);
-  unseen.notes = new Notes(memory.notes[self.agent]);
+  const { notes, records, sources } = ownMemory(memory);
+  unseen.notes = new Notes(notes);
   const board = new Board(memory.board, rules);
   const buffers = new RecordedMemory(memory.buffers, memory.copies);
   return new Player(self.agent, {
@@ -265,8 +280,8 @@ function playerOf({ memory, plan, rules }, { later, messages }) {
     memory: buffers,
     log: board.logIn(memory.log),
     stores: board.storesIn(memory.stores, buffers),
-    records: new Records(memory.records[self.agent]),
-    sources: new Sources(memory.sources[self.agent]),
+    records: new Records(records),
+    sources: new Sources(sources),
     later,
     messages,
     unseen,
@@ -296,11 +311,13 @@ function serve(module, agents) {
     for (let at = 0; at < args.length; at += 1) list[at] = args[at];
     return list;
   };
+  // It is called without an object: none of the recorder's is its `this`.
+  const { default: agent } = module;
   for (;;) {
     onceMore();
     const order = player.awaitOrder();
     const own = { agents, args: words() };
-    const play = () => module.default({ buffers: buffers(), agent: self.agent, agents, args: words() });
+    const play = () => agent({ buffers: buffers(), agent: self.agent, agents, args: words() });
     if (order === ORDER.PLAY) player.play(play, described);
     else player.serve(() => (order === ORDER.INIT ? module.init : module.check)?.(buffers(), own), described);
   }

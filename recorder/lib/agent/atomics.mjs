@@ -4,11 +4,11 @@
 import { CALLS, CALL_NUMBERS, kindOf } from "../../script/kinds.mjs";
 import { isWhole } from "../../script/operands.mjs";
 import { bufferOf, likeEngine, lengthOf, offsetOf, put } from "../primordials.mjs";
-import { countFrom, indexFrom, limitOf, operandFrom, timeoutFrom } from "./conversions.mjs";
+import { countFrom, heldOperand, indexFrom, limitOf, operandFrom, timeoutFrom } from "./conversions.mjs";
 import { callElsewhere } from "./elsewhere.mjs";
 import { unwrapped } from "./ordinary/watched.mjs";
 
-const { wait: WAIT, notify: NOTIFY } = CALL_NUMBERS;
+const { store: STORE, wait: WAIT, notify: NOTIFY } = CALL_NUMBERS;
 
 /** @typedef {import("../memory/records.mjs").Call} Call */
 /** @typedef {import("./elsewhere.mjs").Functions} Functions */
@@ -24,28 +24,39 @@ const { wait: WAIT, notify: NOTIFY } = CALL_NUMBERS;
 /** @typedef {AgentCalls & import("./elsewhere.mjs").Elsewhere} Asking */
 
 /**
+ * Adds an operand that is no safe integer. A store returns the operand as the language has it, whatever a script holds.
+ * @param {Call} asked
+ * @param {number | bigint} value
+ */
+function addOperand(asked, value) {
+  const held = heldOperand(value);
+  if (held !== value && asked.call === STORE) asked.returns = value;
+  asked.operands[asked.operands.length] = held;
+}
+
+/**
  * What a script has for a call. What the language converts is converted here, in its order.
  * @param {number} call
  * @param {any[]} given
  * @param {object} view the typed array, as the engine knows it
  * @param {number} kind
  * @param {number} block
- * @param {(why: string) => never} refuse
  * @returns {Call}
  */
-export function callOf(call, given, view, kind, block, refuse) {
+export function callOf(call, given, view, kind, block) {
   /** @type {Call} */
   const asked = {
     call, kind, block, offset: offsetOf(view), length: lengthOf(view), index: 0, operands: [], limit: undefined,
-    milliseconds: undefined,
+    milliseconds: undefined, returns: undefined,
   };
   const index = given[1];
-  asked.index = isWhole(index) ? index + 0 : indexFrom(index, asked, refuse);
+  asked.index = isWhole(index) ? index + 0 : indexFrom(index, asked);
   for (let at = 0; at < CALLS[call].operands; at += 1) {
     const value = given[2 + at];
-    asked.operands[at] = isWhole(value) ? value + 0 : operandFrom(value, asked, refuse);
+    if (isWhole(value)) asked.operands[at] = value + 0;
+    else addOperand(asked, operandFrom(value, asked));
   }
-  if (call === NOTIFY) asked.limit = countFrom(given[2], asked, refuse);
+  if (call === NOTIFY) asked.limit = countFrom(given[2], asked);
   if (call === WAIT) {
     // A script has no fraction of a timeout, but the run's time goes on by all of it.
     asked.milliseconds = timeoutFrom(given[3], asked);
@@ -63,7 +74,6 @@ export function callOf(call, given, view, kind, block, refuse) {
  */
 function recorded(engine, asking, call) {
   const { name } = CALLS[call];
-  const refuse = (/** @type {string} */ why) => asking.refuse(`Atomics.${name}: ${why}: no script can hold it`);
   const made = (/** @type {any[]} */ ...given) => {
     const view = unwrapped(given[0]);
     const kind = kindOf(view);
@@ -72,7 +82,9 @@ function recorded(engine, asking, call) {
       given[0] = view;
       return callElsewhere(engine, asking, name, given, kind < 0 ? undefined : bufferOf(view));
     }
-    return asking.make(callOf(call, given, view, kind, block, refuse), view, made);
+    const asked = callOf(call, given, view, kind, block);
+    const answer = asking.make(asked, view, made);
+    return asked.returns ?? answer;
   };
   return made;
 }

@@ -2,21 +2,18 @@
 // conversion may run the agent's own code. So it is made once, before the agent asks for the call, and only when the
 // engine's checks of all that comes before it have passed.
 
-import { CALLS, CALL_NUMBERS, CONSTRUCTORS, isBigKind } from "../../script/kinds.mjs";
+import { CALLS, CONSTRUCTORS, isBigKind } from "../../script/kinds.mjs";
 import { SCRIPT_LIMITS } from "../../script/limits.mjs";
-import { isWhole, isWithin128Bits, shown } from "../../script/operands.mjs";
+import { isWhole, isWithin128Bits } from "../../script/operands.mjs";
 import { engineCall } from "./engine.mjs";
 import { bigOf, wholeOf } from "./ordinary/argument-conversions.mjs";
 
-const { wait: WAIT, compareExchange: COMPARE_EXCHANGE } = CALL_NUMBERS;
 const { RangeError: EngineRangeError, SharedArrayBuffer: EngineShared } = globalThis;
-const { isNaN, isFinite, MAX_SAFE_INTEGER } = Number;
+const { isNaN, MAX_SAFE_INTEGER } = Number;
+const { asIntN } = BigInt;
 const { max, min, trunc } = Math;
 
 /** @typedef {import("../memory/records.mjs").Call} Call */
-/** @typedef {(why: string) => never} Refuse ends the run, for what no script can have */
-
-const NUMBERS = "within ±(2^53 - 1)";
 
 /** @type {SharedArrayBuffer | undefined} memory for checks, which nobody else has */
 let room;
@@ -38,71 +35,58 @@ function check({ call, kind, index, operands }, length) {
 }
 
 /**
- * An index, by ToIndex. It may lie outside the view: the call itself throws then.
+ * An index, by ToIndex. It may lie outside the view: the call itself throws then. ToIndex throws beyond 2^53 - 1, and
+ * so does the engine for any other index that no script can have.
  * @param {any} value that is no safe integer
  * @param {Call} asked without its index
- * @param {Refuse} refuse
  * @returns {number}
  */
-export function indexFrom(value, asked, refuse) {
+export function indexFrom(value, asked) {
   check(asked, 1);
   const index = wholeOf(value);
   if (isWhole(index)) return index;
-  if (!isFinite(index)) throw new EngineRangeError("Invalid atomic access index");
-  return refuse(`the index ${shown(index)} isn't ${NUMBERS}`);
-}
-
-/** @param {Call} asked @returns {string} what the next operand of a call is named in a refusal */
-function operandName({ call, operands }) {
-  if (call === COMPARE_EXCHANGE) return operands.length === 0 ? "the expected value" : "the replacement";
-  return "the value";
+  throw new EngineRangeError("Invalid atomic access index");
 }
 
 /**
- * An operand of an array of Numbers, by ToIntegerOrInfinity. The operand of a wait is converted by ToInt32, which makes
- * 0 of an infinite one.
- * @param {any} value
- * @param {Call} asked
- * @param {Refuse} refuse
- */
-function numberFrom(value, asked, refuse) {
-  const number = wholeOf(value);
-  if (isWhole(number)) return number;
-  if (asked.call === WAIT && !isFinite(number)) return 0;
-  return refuse(`${operandName(asked)} ${shown(number)} isn't ${NUMBERS}`);
-}
-
-/**
- * The next operand of a call, as the kind of its array has it. A BigInt that a script can have is taken as it is. With
- * an array of Numbers the call itself throws then, as it does for a Number with BigInts.
+ * The next operand of a call, as the kind of its array has it: a whole Number or an infinite one, by
+ * ToIntegerOrInfinity, or a BigInt. A BigInt that a script can have is taken as it is. With an array of Numbers the
+ * call itself throws then, as it does for a Number with BigInts.
  * @param {any} value that is no safe integer
  * @param {Call} asked with its index, and with the operands before this one
- * @param {Refuse} refuse
  * @returns {number | bigint}
  */
-export function operandFrom(value, asked, refuse) {
+export function operandFrom(value, asked) {
   if (typeof value === "bigint" && isWithin128Bits(value)) return value;
   check(asked, asked.length);
-  if (!isBigKind(asked.kind)) return numberFrom(value, asked, refuse);
-  const big = bigOf(value);
-  return isWithin128Bits(big) ? big : refuse(`${operandName(asked)} ${shown(big)} is a BigInt of more than 128 bits`);
+  return isBigKind(asked.kind) ? bigOf(value) : wholeOf(value);
 }
 
 /**
- * The count of a notify, by ToIntegerOrInfinity. None means that there is no bound, and so does Infinity.
+ * An operand as a script has it. Elements take a Number modulo 2^32 at most, and a BigInt modulo 2^64; an infinite
+ * Number is 0 to them. So one that a script can't hold is taken modulo that: the call finds and leaves the same bytes.
+ * @param {number | bigint} value
+ * @returns {number | bigint}
+ */
+export function heldOperand(value) {
+  if (typeof value === "bigint") return isWithin128Bits(value) ? value : asIntN(64, value);
+  return isWhole(value) ? value : value | 0;
+}
+
+/**
+ * The count of a notify, by ToIntegerOrInfinity. None means that there is no bound. So does one that no script can
+ * hold: there are never as many waiters. One below 0 is 0.
  * @param {any} value
  * @param {Call} asked with its index
- * @param {Refuse} refuse
  * @returns {number | undefined}
  */
-export function countFrom(value, asked, refuse) {
+export function countFrom(value, asked) {
   if (value === undefined || value === Infinity) return undefined;
   if (isWhole(value)) return value + 0;
   check(asked, asked.length);
   const count = wholeOf(value);
   if (isWhole(count)) return count;
-  if (count === Infinity) return undefined;
-  return count === -Infinity ? 0 : refuse(`the count ${shown(count)} isn't ${NUMBERS}`);
+  return count > 0 ? undefined : 0;
 }
 
 /**

@@ -55,11 +55,13 @@ export class Board {
   /** @returns {BoardMemory} */
   static memory() {
     const { agents, views } = SCRIPT_LIMITS;
+    // Besides the agents there may be a worker that calls `init` and `check`.
+    const workers = agents + 1;
     return {
-      words: new SharedArrayBuffer(wordsFor(agents) * 4),
+      words: new SharedArrayBuffer(wordsFor(workers) * 4),
       views: new SharedArrayBuffer(views * 8),
       text: new SharedArrayBuffer(TEXT_BYTES),
-      reasons: new SharedArrayBuffer(agents * REASON_BYTES),
+      reasons: new SharedArrayBuffer(workers * REASON_BYTES),
       times: Clock.memory(agents),
       early: Deadlines.memory(),
       lags: Lags.memory(agents),
@@ -131,7 +133,7 @@ export class Board {
     return new Stores(memory, this.words, buffers);
   }
 
-  /** @returns {number} the number of the run, or of what agent 0 was ordered to do else */
+  /** @returns {number} the number of the run, or of what a worker was ordered to do else */
   get run() {
     return this.words[WORD.RUN];
   }
@@ -147,12 +149,13 @@ export class Board {
   }
 
   /**
-   * Orders agent 0 to do something else than its part in a run. No agent may be busy.
+   * Orders a worker to do something else than an agent's part in a run. No agent may be busy.
    * @param {number} order one of `ORDER`
+   * @param {number} worker its agent's number, or the one behind the agents'
    */
-  order(order) {
+  order(order, worker) {
     this.#prepare(order);
-    this.turn.start(0);
+    this.turn.start(worker);
   }
 
   /** Cancels the agents that ask or wait in a run that has ended. */

@@ -8,12 +8,16 @@ import { Sources } from "../memory/sources.mjs";
 import { Stores } from "../memory/stores.mjs";
 import { Board } from "./board.mjs";
 
+/** The worker that calls `init` and `check` makes no calls that are recorded. */
+const NO_CALLS = 1;
+
 /**
  * The memory that a group shares.
  * @param {{ agents: number, buffers: number[] }} plan how many agents there are, and the length of each buffer in bytes
  * @param {number} [logEvents] how many events its log has room for
+ * @param {boolean} [hasCaller] whether a worker of its own calls `init` and `check`
  */
-export function memoryOf({ agents, buffers }, logEvents) {
+export function memoryOf({ agents, buffers }, logEvents, hasCaller = false) {
   return {
     board: Board.memory(),
     log: Log.memory(logEvents),
@@ -24,5 +28,10 @@ export function memoryOf({ agents, buffers }, logEvents) {
     records: Array.from({ length: agents }, () => Records.memory()),
     runs: CopiedRuns.memory(),
     notes: Array.from({ length: agents }, () => Notes.memory()),
+    caller: hasCaller ? callerMemory() : undefined,
   };
 }
+
+/** What that worker has besides. */
+const callerMemory = () =>
+  ({ sources: Sources.memory(), records: Records.memory(NO_CALLS), notes: Notes.memory() });

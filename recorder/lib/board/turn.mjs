@@ -258,7 +258,8 @@ export class Turn {
     for (let turn = inCode(agent); turn <= inCall(agent); turn += 1) {
       if (compareExchange(this.words, WORD.TURN, turn, NOBODY) === turn) {
         const why = this.#reason(agent).toString("utf8").split("\0")[0];
-        this.end.close("failed", `agent ${agent}'s worker died: ${why}`);
+        const whose = agent < this.agents ? `agent ${agent}'s` : "its";
+        this.end.close("failed", `${whose} worker died: ${why}`);
       }
     }
   }

@@ -22,6 +22,8 @@ const { asIntN, asUintN } = BigInt;
  * @property {(number | bigint)[]} operands
  * @property {number | undefined} limit the timeout of a wait, or the count of a notify
  * @property {number} [milliseconds] the timeout of a wait that has one, with its fraction; it isn't recorded
+ * @property {number | bigint} [returns] what the code gets of a store whose operand no script can hold; it isn't
+ * recorded
  */
 
 /** What a call can return besides a value, as a report spells it. A word's position is its number in a record. */

@@ -95,11 +95,11 @@ export class Group {
     this.threads = new Set();
     /** Whether they were all ended: one that begins later, for a run that was under way, is ended at once. */
     this.isClosed = false;
-    /** @type {Thread[]} */
+    /** @type {Thread[]} the worker of each agent, and one that calls `init` and `check`, if the module has them */
     this.agents = [];
     /** @type {Promise<Thread>[]} agents' workers that don't know yet which agent's they are, as they come */
     this.begun = [];
-    /** @type {Promise<Loaded>[]} for some agents the worker that will replace the one that they have */
+    /** @type {Promise<Loaded>[]} for some of these the worker that will be there in its place */
     this.next = [];
     /** @type {RefereeThread | undefined} */
     this.referee = undefined;
@@ -212,25 +212,27 @@ export class Group {
     if (options.init !== undefined && this.plan.agents === SCRIPT_LIMITS.agents) {
       throw new Refused(`with ${SCRIPT_LIMITS.agents} agents none is left for the stores of \`init\`: give one less`);
     }
-    this.memory = memoryOf(this.plan, this.options.logEvents);
+    this.memory = memoryOf(this.plan, this.options.logEvents, options.hasCaller);
     this.board = new Board(this.memory.board, this.rules);
     const { memory, plan, rules } = this;
     referee.give({ memory, plan, rules, options });
-    const others = Array.from({ length: this.plan.agents - 1 }, (_, other) => other + 1);
-    const hasPilots = learns(this.plan.agents, everywhere);
-    this.#beginUpTo(others.length + (hasPilots ? this.plan.agents : 0));
+    const workers = options.hasCaller ? plan.agents + 1 : plan.agents;
+    const hasPilots = learns(plan.agents, everywhere);
+    const others = Array.from({ length: (hasPilots ? plan.agents : workers) - 1 }, (_, other) => other + 1);
+    this.#beginUpTo(others.length + (hasPilots ? workers : 0));
     if (!hasPilots) meanwhile();
-    await Promise.all(others.map((agent) => this.#load(agent)));
-    await Promise.all(this.agents.map((_, agent) => this.#hand(agent)));
-    if (hasPilots) await this.#learn(meanwhile);
+    await Promise.all(others.map((worker) => this.#load(worker)));
+    await Promise.all(this.agents.map((_, worker) => this.#hand(worker)));
+    if (hasPilots) await this.#learn(workers, meanwhile);
   }
 
   /**
-   * Asks for the pilots. Meanwhile the workers load the module that the agents have afterwards.
+   * Asks for the pilots. Meanwhile the workers load the module that are there afterwards.
+   * @param {number} workers how many
    * @param {() => void} meanwhile
    */
-  async #learn(meanwhile) {
-    this.next = this.agents.map((_, agent) => this.#loaded(agent));
+  async #learn(workers, meanwhile) {
+    this.next = Array.from({ length: workers }, (_, worker) => this.#loaded(worker));
     // If one can't load it, that is reported when it is needed.
     for (const loading of this.next) loading.catch(() => {});
     const learning = this.#work({ learns: true }, () => {});
@@ -238,7 +240,7 @@ export class Group {
     await learning;
   }
 
-  /** Begins a worker for each agent, so that it is there when the agents are to have others. */
+  /** Begins as many workers as there are, so that they are there when others are needed. */
   beginAhead() {
     this.#beginUpTo(this.agents.length);
   }
@@ -285,7 +287,8 @@ export class Group {
     /** @type {(own: OfBuffers | undefined, hasOwn: boolean) => "library" | "module" | undefined} */
     const whose = (own, hasOwn) => (own !== undefined ? "library" : hasOwn ? "module" : undefined);
     const asked = { init: whose(init, hasInit), check: whose(check, hasCheck), kind: runKindOf(this.options) };
-    return { module, seconds, fresh, trace, isBrief, ordinary, races, limits, unrecorded, ...asked };
+    const hasCaller = asked.init === "module" || asked.check === "module";
+    return { module, seconds, fresh, trace, isBrief, ordinary, races, limits, unrecorded, hasCaller, ...asked };
   }
 
   /**
@@ -299,11 +302,11 @@ export class Group {
     return problemIn(this.options[name], started(this.memory).buffers, { agents, args: [...args] });
   }
 
-  /** @param {number} agent whose worker is ended, and started anew */
+  /** @param {number} agent whose worker is ended, if it has begun, and started anew */
   async replace(agent) {
     const loading = this.next[agent] ?? this.#loaded(agent);
     delete this.next[agent];
-    await this.agents[agent].stop();
+    await this.agents[agent]?.stop();
     this.threads.delete(this.agents[agent]);
     this.agents[agent] = (await loading).thread;
     await this.#hand(agent);

@@ -93,8 +93,7 @@ class Referee {
   }
 
   /**
-   * Learns by pilots where agents meet. A module's agents have other workers afterwards, so that it doesn't remember
-   * pilots. A program's threads are kept from run to run, and so from pilots.
+   * Learns by pilots where agents meet. A module has other workers afterwards, so that it doesn't remember pilots. A program's threads are kept from run to run, and so from pilots.
    */
   async #learn() {
     const { maker, maker: { board, log, state }, options: { kind } } = this;
@@ -113,7 +112,7 @@ class Referee {
     board.mode.isPilot = false;
     if (isSeen) pilots.teach();
     else state.forget();
-    if (!kind.keepsThreads) await maker.replace(maker.agents);
+    if (!kind.keepsThreads) await maker.replace(maker.workers);
   }
 
   /** @param {WantedRun} wanted @returns {Promise<Sent>} the outcome of a seed */
@@ -203,7 +202,7 @@ class Referee {
 
   /** All threads are started anew. */
   async #startAnew() {
-    await this.maker.replace(this.maker.state.all);
+    await this.maker.replace(this.maker.workers);
     this.sinceFresh = 0;
   }
 
@@ -306,7 +305,7 @@ class Referee {
 
   /** @param {RunResult} run after which workers that can't run again are started anew, or all if the option says so */
   async #replace({ gone }) {
-    await this.maker.replace(this.options.fresh ? this.maker.state.all : gone);
+    await this.maker.replace(this.options.fresh ? this.maker.workers : gone);
   }
 
   /** @param {WantedRun} wanted @param {boolean} isFirst as above @returns {boolean} whether a run's trace is made */

@@ -49,6 +49,7 @@ import { unseenText } from "./words/unseen-text.mjs";
  * @property {"fail" | "allow"} unrecorded
  * @property {"library" | "module" | undefined} init whose it is, if there is one
  * @property {"library" | "module" | undefined} check whose it is, if there is one
+ * @property {boolean} hasCaller whether one of them is the module's: a worker of its own calls it
  * @property {"fail" | "allow"} [stuck] whether a run of a program that is stuck fails
  * @property {import("../options/run-kinds.mjs").RunKind} kind of the runs
  */
@@ -95,6 +96,11 @@ export class RunMaker {
     /** @type {import("./agents-state.mjs").RunState} */
     this.state = State === undefined ? agentsState(this.memory, this.agents)
       : new State(/** @type {any} */ (memory), this.board, this.memory, plan);
+  }
+
+  /** @returns {number[]} all workers, for each of which another one can be started */
+  get workers() {
+    return this.options.hasCaller ? [...this.state.all, this.plan.agents] : this.state.all;
   }
 
   /**
@@ -236,9 +242,11 @@ export class RunMaker {
   async #asked(name) {
     const { board, options } = this;
     if (options[name] === "library") return (await this.#answered({ ask: name })).problem;
-    board.order(name === "init" ? ORDER.INIT : ORDER.CHECK);
+    // In pilots it is agent 0's worker, which another one follows.
+    const caller = options.hasCaller && !board.mode.isPilot ? this.plan.agents : 0;
+    board.order(name === "init" ? ORDER.INIT : ORDER.CHECK, caller);
     const { ending, detail } = await this.#ended();
-    if (!board.turn.isBack(0, GRACE_MILLISECONDS)) await this.replace([0]);
+    if (!board.turn.isBack(caller, GRACE_MILLISECONDS)) await this.replace([caller]);
     const named = this.state.named(detail, ending !== "finished", this.sourceNames);
     return ending === "finished" ? named : `${ENDLESS}: ${named}`;
   }

@@ -20,6 +20,13 @@ const ARGUMENTS = {
   "NaN": () => NaN,
   "Infinity": () => Infinity,
   "-Infinity": () => -Infinity,
+  "2 ** 53": () => 2 ** 53,
+  "-(2 ** 53) - 2": () => -(2 ** 53) - 2,
+  "2 ** 60 + 2 ** 20": () => 2 ** 60 + 2 ** 20,
+  "1e300": () => 1e300,
+  "'-9007199254740995'": () => "-9007199254740995",
+  "2n ** 127n + 5n": () => 2n ** 127n + 5n,
+  "-(2n ** 200n) - 3n": () => -(2n ** 200n) - 3n,
   "5n": () => 5n,
   "-1n": () => -1n,
   "2n ** 64n": () => 2n ** 64n,
@@ -83,14 +90,10 @@ const KINDS = [
 
 /** Who waits for ever in the engine: a wait whose timeout is none must find another value. */
 const NEVER = 123_456_789;
-const ENDLESS = ["undefined", "NaN", "Infinity", "'ten'", "a function", "an object", "[1, 2]", "a proxy"];
-
-/**
- * What no script can have, so that it is refused: an infinite operand of an array of Numbers. A wait takes 0 for it.
- * @param {string} name of the function @param {object} view @param {number} place @param {string} argument
- */
-const isRefused = (name, view, place, argument) => /^-?Infinity$/.test(argument) && name !== "wait"
-  && name !== "notify" && place > 0 && !/Big|Float|Clamped/.test(view.constructor.name);
+const ENDLESS = [
+  "undefined", "NaN", "Infinity", "2 ** 53", "2 ** 60 + 2 ** 20", "1e300", "'ten'", "a function", "an object", "[1, 2]",
+  "a proxy",
+];
 
 /** @param {unknown} value */
 const spelled = (value) => `${typeof value} ${Object.is(value, -0) ? "-0" : String(value)}`;
@@ -134,7 +137,7 @@ function resultsOn(atomics, view, place) {
   const results = [];
   for (const argument of Object.keys(ARGUMENTS)) {
     for (const [name, count] of Object.entries(FUNCTIONS)) {
-      if (place > count || isRefused(name, view, place, argument)) continue;
+      if (place > count) continue;
       const log = [];
       const given = argumentsOf(name, view, place, argument, log);
       results.push([`${name} of ${argument}`, ...resultOf(atomics, name, view, given, log)]);

@@ -133,7 +133,7 @@ test("an earlier run's state starts no agent: an agent begins once for each orde
   const board = boardAt([PHASE.ASKS, PHASE.ASKS]);
   const first = board.turn.awaitStart(0, 0);
   board.turn.wake(0);
-  board.order(ORDER.CHECK);
+  board.order(ORDER.CHECK, 0);
   const second = board.turn.awaitStart(0, first);
   assert.notEqual(second, first);
   assert.equal(board.ordered(), ORDER.CHECK);

@@ -5,7 +5,7 @@ import assert from "node:assert/strict";
 import { readFileSync, readdirSync, writeFileSync } from "node:fs";
 import { join } from "node:path";
 import { describe, it } from "node:test";
-import { Refused, record } from "../../recorder.mjs";
+import { Refused, explore, record } from "../../recorder.mjs";
 import { commandHere } from "../helpers/command-here.mjs";
 import { agentsPath, moduleOf, temporaryFolder } from "../helpers/common.mjs";
 import { CHECKER, CHECKING } from "../helpers/needs.mjs";
@@ -222,6 +222,37 @@ describe("init and check", { concurrency: 2 }, () => {
       ["check", true], ["check", true], ["failed", true],
     ]);
     for (const { detail } of outcomes) assert.match(detail, /^(check|init) returned /);
+  });
+
+  it("init and check have the module's variables to themselves, and new ones with `fresh`", async (context) => {
+    const module = moduleOf(context, `
+      let kept = 0;
+      export const setup = { agents: 2, buffers: [8] };
+      export const init = ([buffer], { args: [each] }) => { kept += Number(each); };
+      export default ({ buffers: [buffer], agent }) => Atomics.store(new Int32Array(buffer), agent, kept);
+      export const check = ([buffer]) => kept === 4 && new Int32Array(buffer).every((word) => word === 0);
+    `);
+    for (const everywhere of [true, false]) {
+      for (const [fresh, wanted] of [[false, ["finished", "check"]], [true, ["finished", "finished"]]]) {
+        const endings = [];
+        const own = { module, agents: 2, everywhere, args: ["4"], seeds: 2, fresh, sabsim: CHECKER };
+        for await (const { ending } of explore(own)) endings.push(ending);
+        assert.deepEqual(endings, wanted);
+      }
+    }
+  });
+
+  it("a process that ends in init is said to be its worker's", async (context) => {
+    const module = moduleOf(context, `
+      export const setup = { agents: 2, buffers: [8] };
+      export const init = () => process.exit(3);
+      export default ({ buffers: [buffer] }) => Atomics.load(new Int32Array(buffer), 0);
+    `);
+    const outcomes = await recorded({ module, ...SMALL }, seedsTo(2));
+    for (const { ending, detail } of outcomes) {
+      assert.equal(ending, "failed");
+      assert.match(detail, /^init didn't come to its end: its worker died: .*exit code 3$/);
+    }
   });
 
   it("with 16 agents none is left for the stores of init", async () => {

@@ -78,17 +78,29 @@ describe("a script has what comes of the conversions", () => {
     ["wait(words, 1, 3, -Infinity)", "timed-out", ["wait", "Int32", 1, 3, -Number.MAX_SAFE_INTEGER]],
     ["wait(words, 1, Infinity, {})", "not-equal", ["wait", "Int32", 1, 0]],
     ["wait(words, 1, 2 ** 32 + 4, '1')", "not-equal", ["wait", "Int32", 1, 2 ** 32 + 4, 1]],
+    ["wait(words, 1, -(2 ** 60) - 2 ** 20, 1)", "not-equal", ["wait", "Int32", 1, -(2 ** 20), 1]],
+    ["store(words, 3, 2 ** 60 + 2 ** 20)", "1152921504607895600", ["store", "Int32", 3, 2 ** 20]],
+    ["store(words, 3, -Infinity)", "-Infinity", ["store", "Int32", 3, 0]],
+    ["exchange(words, 3, '1e300')", "0", ["exchange", "Int32", 3, 0]],
+    ["compareExchange(words, 3, -Infinity, -(2 ** 53) - 2)", "0", ["compareExchange", "Int32", 3, 0, -2]],
+    ["add(words, 3, Infinity)", "-2", ["add", "Int32", 3, 0]],
     ["notify(words, true, '2')", "0", ["notify", "Int32", 1, 2]],
     ["notify(words, 1, null)", "0", ["notify", "Int32", 1, 0]],
     ["notify(words, 1, -Infinity)", "0", ["notify", "Int32", 1, 0]],
     ["notify(words, 1, 'Infinity')", "0", ["notify", "Int32", 1]],
     ["notify(words, 1, -2.5)", "0", ["notify", "Int32", 1, -2]],
+    ["notify(words, 1, 2 ** 53)", "0", ["notify", "Int32", 1]],
+    ["notify(words, 1, '-1e300')", "0", ["notify", "Int32", 1, 0]],
     ["store(bigs, 2, true)", "1", ["store", "BigInt64", 2, "1"]],
     ["exchange(bigs, '2', '0x7fffffffffffffffff')", "1", ["exchange", "BigInt64", 2, "2361183241434822606847"]],
     ["wait(bigs, 2, '-1', '3')", "timed-out", ["wait", "BigInt64", 2, "-1", 3]],
+    ["store(bigs, 2, -(2n ** 127n) - 1n)", `${-(2n ** 127n) - 1n}`, ["store", "BigInt64", 2, "-1"]],
+    ["compareExchange(bigs, 2, 2n ** 200n - 1n, 2n ** 200n)", "-1", ["compareExchange", "BigInt64", 2, "-1", "0"]],
+    ["wait(bigs, 2, 2n ** 200n, 3)", "timed-out", ["wait", "BigInt64", 2, "0", 3]],
     ["load(words, '-1')", "RangeError", ["load", "Int32", -1]],
     ["load(words, '16')", "RangeError", ["load", "Int32", 16]],
     ["load(words, Infinity)", "RangeError", undefined],
+    ["load(words, '9007199254740992')", "RangeError", undefined],
     ["load(words, 1n)", "TypeError", undefined],
     ["store(words, 16, 1)", "RangeError", ["store", "Int32", 16, 1]],
     ["store(words, 16, { valueOf: () => fails() })", "RangeError", undefined],
@@ -187,15 +199,14 @@ describe("an index at the edges of what a Number holds exactly", () => {
   after(() => cases.close());
 
   for (const name of Object.keys(CALLS)) {
-    test(`2^53 is no index for ${name}: node throws RangeError, the recorder ends the run at its line`, async () => {
+    test(`2^53 is no index for ${name}: it throws RangeError at its line, as node has it`, async () => {
       for (const [at, { name: called, code, index }] of beyond.entries()) {
         if (called !== name) continue;
         assert.equal(byNode(code, index), "RangeError");
-        const { ending, fails, detail } = await cases.outcomeOf(at);
-        assert.deepEqual([ending, fails], ["failed", true]);
+        const { ending, fails, detail, script } = await cases.outcomeOf(at);
+        assert.deepEqual([ending, fails, callsOf({ script })[0]], ["failed", true, []]);
         const [what, where] = detail.split("\n");
-        assert.equal(what, "agent 0 made a call that the recorder can't record: "
-          + `Error: Atomics.${name}: the index ${index} isn't within ±(2^53 - 1): no script can hold it`);
+        assert.equal(what, "agent 0 threw RangeError: Invalid atomic access index");
         // The code of each has two lines.
         assert.match(where, new RegExp(`agents\\.mjs:${2 + 2 * at}:9\\)?$`));
       }

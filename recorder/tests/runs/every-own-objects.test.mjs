@@ -67,8 +67,7 @@ const REACHES = [
   "new MessageChannel()", "WebAssembly.Module()", "AbortSignal.timeout(1)", "new Event('a').timeStamp",
   "new Intl.DateTimeFormat().format()", "new Intl.DateTimeFormat().formatToParts()", "performance.now()",
   "performance.mark('a')", "Date.now()", "new Date()", "Math.random()", "Buffer.allocUnsafe(1)",
-  "new TextDecoder().decode(new Uint8Array(1), { stream: true })", "util.debuglog('a')",
-  "util.deprecate(() => {}, 'a')", "threads.threadId", "threads.parentPort.on", "new threads.Worker('')",
+  "new TextDecoder().decode(new Uint8Array(1), { stream: true })", "util.debuglog('a', () => {})", "threads.threadId", "threads.parentPort.on", "new threads.Worker('')",
   "hooks.performance.now()", "hooks.monitorEventLoopDelay()", "randomBytes(1)", "fs.readFileSync.name",
   "fs.readFileSync('a')", "EventEmitter.setMaxListeners(1)", "EventEmitter.on.name", "os.cpus()", "timers.setTimeout()",
   "new FinalizationRegistry(() => {}).unregister({})", "new console.Console()", "console._stdout",
@@ -134,6 +133,8 @@ const ALLOWED = {
   "typeof new FinalizationRegistry(() => {}).register({}, 1)": "'undefined'",
   "const { exit } = process; return typeof exit": "'function'",
   "util.format('%d', 1)": "'1'",
+  "util.debuglog('a')('%s', 1) ?? util.debug('b').enabled": "false",
+  "util.deprecate((n) => n + 1, 'a')(1)": "2",
 };
 
 const REFUSED_CHANGE = /^refused: it (?:changes|sets|makes a proxy of) /;

@@ -72,6 +72,47 @@ export const check = ([buffer]) => {
   assert.deepEqual(details.map((detail) => isShownBy(finding, ran(detail))), [true, false, false]);
 });
 
+test("what `init` and `check` keep is theirs: agents see nothing of it, and they nothing of agents", async (context) => {
+  const module = moduleOf(context, `let kept = 0;
+export const setup = { agents: 2, buffers: [8] };
+export const init = () => { kept = 4; };
+export default function agent({ buffers, agent: self }) {
+  kept += 1;
+  Atomics.store(new Int32Array(buffers[0]), self, kept);
+}
+export const check = () => kept === 4;
+`);
+  const { finals, found, realRuns } = await everySchedule({ ...FEW_WORKERS, module, seeds: 3 });
+  assert.deepEqual({ found, realRuns }, { found: [], realRuns: 3 });
+  assert.deepEqual(finals.map(({ blocks }) => blocks), [["0100000001000000"]]);
+});
+
+test("an error whose message has the text of a stack is found as real runs show it", async (context) => {
+  const throws = `export const setup = { agents: 2, buffers: [4] };
+const fails = (text) => { throw new Error(text); };
+function caught() { try { return [1].map(() => fails("lost")); } catch (error) { return error.stack; } }
+export default function agent({ buffers }) {
+  if (Atomics.add(new Int32Array(buffers[0]), 0, 1) === 1) fails(\`late: \${caught()}\`);
+}
+export const check = () => fails(caught());
+`;
+  const { found } = await everySchedule({ ...FEW_WORKERS, module: moduleOf(context, throws), seeds: 2 });
+  assert.deepEqual(found.map(({ kind, text }) => [kind, text]), [["threw", "Error: late: Error: lost"]]);
+  const checked = moduleOf(context, throws.replace("=== 1", "=== 2"));
+  const { found: [other] } = await everySchedule({ ...FEW_WORKERS, module: checked, seeds: 2 });
+  assert.deepEqual([other.kind, other.text], ["check", "threw Error: Error: lost"]);
+});
+
+test("an agent is called without an object", async (context) => {
+  const module = moduleOf(context, `export const setup = { agents: 2, buffers: [4] };
+export default function agent({ buffers }) {
+  Atomics.add(new Int32Array(buffers[0]), 0, this === undefined ? 1 : 2);
+}
+`);
+  const { finals, realRuns } = await everySchedule({ ...FEW_WORKERS, module, seeds: 2 });
+  assert.deepEqual([finals.map(({ blocks }) => blocks), realRuns], [[["02000000"]], 2]);
+});
+
 test("an error whose text is its own, or can't be made, is found as real runs show it", async (context) => {
   for (const own of ["return 'E!';", "throw new Error('no text');"]) {
     const throws = `class E extends Error { toString() { ${own} } }

@@ -490,6 +490,16 @@ describe("a stack that overflows in what an agent calls", () => {
   }
 });
 
+test("small Buffers have memory of their own, whatever was made before", async (context) => {
+  const path = agentsIn(temporaryFolder(context), `
+    const made = [Buffer.from("ab"), Buffer.from([1, 2, 3])];
+    const found = made.map(({ byteOffset, buffer }) => 10 * byteOffset + buffer.byteLength);
+    Atomics.store(new Int32Array(buffers[0]), agent, found[0] + 100 * found[1]);`);
+  for (const { bytes } of await recorded({ ...HOW, module: path }, [1, 2])) {
+    assert.equal(bytes[0].slice(0, 16), "2e0100002e010000");
+  }
+});
+
 test("a worker that takes the place of another one begins nothing before it is asked to", async (context) => {
   const path = moduleOf(context, `
     let parts = 0;

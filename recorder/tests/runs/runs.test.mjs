@@ -1,12 +1,9 @@
 // Runs of real agents: what their calls return, how the runs end, and what the recorder reports about it.
 
 import assert from "node:assert/strict";
-import { readFileSync } from "node:fs";
 import { test } from "node:test";
 import { Group } from "../../lib/run/group.mjs";
 import { Difference, NoSabsim, Refused, record } from "../../recorder.mjs";
-import { NAMES } from "../agents/refused.mjs";
-import { Cases } from "../helpers/cases.mjs";
 import { agentsIn, agentsPath, recordCase, shellProgram, temporaryFolder } from "../helpers/common.mjs";
 import { CHECKER, withShell } from "../helpers/needs.mjs";
 import { placesOfText, recorded } from "../helpers/recorded.mjs";
@@ -202,37 +199,22 @@ test("if an agent runs out of stack during a call, the run fails with that messa
   else assert.equal(outcome.bytes[0].slice(0, 8), "01000000");
 });
 
-const REFUSED_LINES = readFileSync(agentsPath("refused"), "utf8").split("\n");
-
-test("each call that no script can have is refused by name and line, also if the agent catches it", async (context) => {
-  const cases = new Cases({ module: agentsPath("refused"), agents: 2, buffers: [16], everywhere: true });
-  context.after(() => cases.close());
-  const outcomes = await Promise.all(NAMES.map((_, at) => cases.outcomeOf(at)));
-  outcomes.forEach(({ ending, detail }, at) => {
-    assert.equal(ending, "failed", NAMES[at]);
-    const refusal = /^agent 1 made a call that the recorder can't record: Error: Atomics\.[a-zA-Z]+: .*: .*\n +at /;
-    assert.match(detail, refusal, NAMES[at]);
-  });
-  const unsafe = "9007199254740992 isn't within ±\\(2\\^53 - 1\\): no script can hold it";
-  const wide = "is a BigInt of more than 128 bits: no script can hold it";
-  const SAID = {
-    infinity: "store: the value Infinity isn't within", negativeInfinity: "add: the value -Infinity isn't within",
-    unsafe: `store: the value ${unsafe}`, negativeUnsafe: `sub: the value -${unsafe}`,
-    waitUnsafe: `wait: the value ${unsafe}`, object: `add: the value ${unsafe}`, text: `sub: the value ${unsafe}`,
-    expected: "compareExchange: the expected value 1e\\+300", replacement: "compareExchange: the replacement 1e\\+300",
-    wide: `store: the value ${2n ** 127n}n ${wide}`, negativeWide: `add: the value ${-(2n ** 127n) - 1n}n ${wide}`,
-    wideText: `exchange: the value ${2n ** 128n}n ${wide}`, indexUnsafe: `load: the index ${unsafe}`,
-    indexText: `load: the index -${unsafe}`, countUnsafe: `notify: the count ${unsafe}`,
-    countText: "notify: the count -1e\\+300",
-    waitAsync: "waitAsync: no script can have this function: use Atomics.wait$",
-  };
-  assert.deepEqual(Object.keys(SAID), NAMES);
-  outcomes.forEach(({ detail, script }, at) => {
-    assert.match(detail, new RegExp(`Error: Atomics\\.${SAID[NAMES[at]]}`, "m"));
-    const line = 1 + REFUSED_LINES.findIndex((text) => text.startsWith(`  ${NAMES[at]}: `));
-    assert.match(detail, new RegExp(`refused\\.mjs:${line}:\\d+`), NAMES[at]);
-    assert.deepEqual(JSON.parse(script).agents[1].calls, [], NAMES[at]);
-  });
+test("a call that no script can have is refused by name and line, also if the agent catches it", async (context) => {
+  const agents = agentsIn(temporaryFolder(context), `
+    const words = new Int32Array(buffers[0]);
+    if (agent === 0) return void Atomics.store(words, 2, 1);
+    try {
+      Atomics.waitAsync(words, 0, 0);
+    } catch {
+      // That it is caught doesn't save the run.
+    }`);
+  const { ending, detail, script } = await record({ module: agents, agents: 2, buffers: [16], sabsim: CHECKER });
+  assert.equal(ending, "failed");
+  const [what, where] = detail.split("\n");
+  const why = "Atomics.waitAsync: no script can have this function: use Atomics.wait";
+  assert.equal(what, `agent 1 made a call that the recorder can't record: Error: ${why}`);
+  assert.match(where, /agents\.mjs:6:\d+/);
+  assert.deepEqual(JSON.parse(script).agents[1].calls, []);
 });
 
 test("the agents' Atomics look like the engine's", async (context) => {

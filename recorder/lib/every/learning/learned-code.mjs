@@ -30,6 +30,9 @@ export class LearnedCode {
   /** @type {string | undefined} what the modules keep at first; undefined: that can't be shown */
   #first;
 
+  /** Whether agents need other modules. */
+  #isLeft = false;
+
   /**
    * @param {string} url of the agents' module
    * @param {import("./asking.mjs").Asker} asker
@@ -59,9 +62,14 @@ export class LearnedCode {
     return { agent, init, check, setup };
   }
 
+  /** From now on only `init` and `check` have the modules that are there: agents get others. */
+  leave() {
+    this.#isLeft = true;
+  }
+
   /** @returns {Function} the agent's function, of modules that keep what they keep at first */
   agentNow() {
-    if (this.#first === undefined || this.#kept() !== this.#first) this.#renew();
+    if (this.#isLeft || this.#first === undefined || this.#kept() !== this.#first) this.#renew();
     this.runtime.beginAgent();
     return this.exports.agent;
   }
@@ -93,6 +101,7 @@ export class LearnedCode {
 
   #renew() {
     this.renewals += 1;
+    this.#isLeft = false;
     this.runtime.beginModules();
     this.#exports = this.#made();
     if (hadOtherNext()) throw new Refused(REPLACES_NEXT);
@@ -131,7 +140,9 @@ export function loadCode(url, asker, platform, flaw) {
   const runtime = new Runtime();
   const own = new AgentModules(platform);
   own.take(PRELUDE);
-  installLoops(/** @type {any} */ (own.made(runtime.calls).get(PRELUDE)));
+  const prelude = /** @type {any} */ (own.made(runtime.calls).get(PRELUDE));
+  installLoops(prelude);
+  runtime.calls.elementsOf = prelude.elementsOf;
   const graph = new AgentModules(platform);
   graph.take(url, true);
   const builtins = new NamedBuiltins();

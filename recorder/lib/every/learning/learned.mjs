@@ -34,6 +34,7 @@ export class Learned {
     asker.begin(this.plan.buffers, bases);
     asker.isEndless = wanted.timeouts === "never";
     this.initial = this.#initial(length);
+    if (this.exports.init !== undefined || this.exports.check !== undefined) code.leave();
     this.isShared = this.plan.canBlock.every((can) => can);
     /** @type {Learner} */
     this.learner = this.#newLearner();

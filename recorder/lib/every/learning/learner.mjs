@@ -208,6 +208,12 @@ export class Learner {
     return { node, isNew: true };
   }
 
+  /** @param {any} why showing a state has failed: it is no error of the agent, unless the stack has run out */
+  #failed(why) {
+    if (!(why instanceof RangeError && why.message.includes("call stack"))) this.asker.refused ??= why;
+    return why;
+  }
+
   /**
    * @param {number} automaton
    * @param {AskedNode} asked by the agent that runs now
@@ -218,7 +224,7 @@ export class Learner {
     try {
       return `${automaton} ${this.key(asked)}`;
     } catch (why) {
-      if (!(why instanceof CantShow)) throw why;
+      if (!(why instanceof CantShow)) throw this.#failed(why);
       const known = this.hidden.get(why.message);
       if (known === undefined) this.hidden.set(why.message, { nodes: 1, line: this.line() });
       else known.nodes += 1;

@@ -11,6 +11,7 @@ import {
 } from "../../primordials.mjs";
 import { methodOf, replace, replaceEach } from "../../agent/ordinary/patch.mjs";
 import { checksSelf } from "./engine-writes.mjs";
+import { utilMakers } from "./util-makers.mjs";
 import { HARMLESS_GLOBALS, LANGUAGE, OF_MODULES, OF_PROCESS, SAYS } from "./platform-names.mjs";
 import { StandIns } from "./stand-ins.mjs";
 
@@ -47,6 +48,8 @@ export class NodePlatform {
 
   /** Puts what stands for node's objects in their places. It is called once. @returns {this} */
   install() {
+    // A warning would be printed when the thread has nothing else to do.
+    /** @type {any} */ (nodeProcess).noDeprecation = true;
     this.#closeCode();
     this.#closeClocks();
     this.#closeNode();
@@ -222,7 +225,7 @@ export class NodePlatform {
     if (name === "perf_hooks") return { performance: this.performance };
     // A thread that was handed nothing has null.
     if (name === "worker_threads") return { workerData: null };
-    return {};
+    return name === "util" ? utilMakers(this.refuse) : {};
   }
 }
 

@@ -11,6 +11,7 @@ import { getPromiseDetails, previewEntries } from "../../program/node/internals.
 import { watchInstalled } from "../state/installed.mjs";
 import { watchBinding } from "../state/bound-functions.mjs";
 import { watchPrototypes } from "../state/first-prototypes.mjs";
+import { watchIntl } from "../state/intl-objects.mjs";
 import { knowPromises } from "../state/promises.mjs";
 import { watchWeak } from "../state/weak-entries.mjs";
 import { standForIterators } from "../state/shown-iterators.mjs";
@@ -69,6 +70,7 @@ export function installShown() {
   watchPrototypes();
   watchWeak();
   watchBinding();
+  watchIntl();
   knowNext();
   syncBuiltinESMExports();
 }

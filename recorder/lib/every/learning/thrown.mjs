@@ -4,8 +4,14 @@ import { foundBy, leftOpen } from "../../agent/answer.mjs";
 import { NOT_SHOWN, described, titleOf } from "../../agent/described.mjs";
 import { OWN_NAMES } from "../rewriting/naming.mjs";
 
+/** The frames in the text of a stack, from the first on. Those of rewritten code have other places. */
+const FRAMES = /\n {4}at \S[^]*$/;
+
+/** @param {unknown} thrown @returns {string} without its stack, and without what it has of another one */
+export const thrownText = (thrown) => whole(thrown).replace(FRAMES, "");
+
 /** @param {unknown} thrown @returns {string} without its stack */
-export function thrownText(thrown) {
+function whole(thrown) {
   if (!(thrown instanceof Error)) return described(thrown);
   // The message of an `assert(x)` without a text is made of the code there, which was rewritten.
   const { code, generatedMessage, operator } = /** @type {any} */ (thrown);

@@ -137,7 +137,7 @@ export class Analysis {
     this.infos.set(tree, info);
     this.own.set(tree, own);
     this.functions.push(info);
-    info.isHidden = tree.generator || tree.async || tree.params.some(runsCode);
+    info.isHidden = tree.generator || tree.async;
     const named = tree.type === "ArrowFunctionExpression" ? [] : ["this", "arguments", "new.target"];
     for (const name of named) own.declare(name, "pseudo");
     for (const parameter of tree.params) own.declareAll(parameter, "param");

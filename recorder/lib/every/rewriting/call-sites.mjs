@@ -3,7 +3,7 @@
 
 import { positionOutsideComments } from "./comments.mjs";
 import { aliveIn } from "./live.mjs";
-import { isConstant } from "./tree.mjs";
+import { isConstant, isFunction } from "./tree.mjs";
 
 /** @typedef {import("./tree.mjs").Tree} Tree */
 /** @typedef {import("./scopes.mjs").Info} Info */
@@ -19,16 +19,20 @@ import { isConstant } from "./tree.mjs";
  * @property {boolean} isAccess whether only a getter, a setter or their like can have been called there
  * @property {boolean} isKeyed whether a key may have been made a text there before that
  * @property {boolean} isAccessor whether the function is written as a getter or a setter
+ * @property {StepTarget} [step] what gets the value of the step of a loop that is made there; nothing else is
  */
+
+/** @typedef {"StepToName" | "StepToPattern"} StepTarget */
 
 /** What can be going on at a place while something that it called runs. */
 const CALLERS = new Set([
   "Identifier", "MemberExpression", "CallExpression", "NewExpression", "ThisExpression", "AssignmentExpression",
-  "UpdateExpression", "TaggedTemplateExpression", "PrivateIdentifier", "Super",
+  "UpdateExpression", "TaggedTemplateExpression", "PrivateIdentifier", "Super", "StepToName", "StepToPattern",
+  "NameOfMember",
 ]);
 
 /** What calls a getter, a setter, or a trap of a proxy. */
-const ACCESSES = new Set(["MemberExpression", "UpdateExpression", "AssignmentExpression"]);
+const ACCESSES = new Set(["MemberExpression", "UpdateExpression", "AssignmentExpression", "NameOfMember"]);
 
 export class CallSites {
   /** @param {import("./analysis.mjs").Analysis} analysis */
@@ -54,19 +58,21 @@ export class CallSites {
     if (info === undefined) return unknown("code at the top level of a module");
     if (info.makes && info.tree.type === "ClassBody" && offset === info.start + 1) return constructorOf(info);
     if (info.isHidden) return unknown("a generator, an async function, a constructor of a derived class or the like");
+    // Its frame begins behind them.
+    if (isFunction(info.tree) && offset < info.tree.body.start) return unknown("a parameter that gets its value");
     // A place around all of a function is one of the function outside.
     const isHidden = this.analysis.hidden.some(([from, to]) =>
       from <= offset && offset < to && !(from <= info.start && info.end <= to));
     if (isHidden) return unknown("a place with values that aren't shown");
     if (info.usesSuper) return unknown("a method of an object in a function, with `super`");
-    const { alive, isAccess, isKeyed } = this.#aliveAt(info, offset);
+    const { alive, isAccess, isKeyed, step } = this.#aliveAt(info, offset);
     if (typeof alive === "string") return unknown(`a call by ${alive}`);
     for (const one of info.needed) alive.add(one);
     const shown = [...alive].filter(({ isShown }) => isShown);
     const kept = info.temporaries.filter(({ from, to }) => from <= offset && offset < to);
     return {
       fn: info.id, makes: info.makes, kept: kept.map(({ id }) => id), isAccess, isKeyed,
-      isAccessor: info.isAccessor,
+      isAccessor: info.isAccessor, step,
       alive: shown.map(placeOf).sort(([a, b], [c, d]) => a - c || b - d),
     };
   }
@@ -80,8 +86,8 @@ export class CallSites {
   /**
    * @param {Info} info
    * @param {number} offset
-   * @returns {{ alive: Set<Binding> | string, isAccess: boolean, isKeyed: boolean }} what is alive after the calls that
-   * can be going on there, or what it is instead
+   * @returns {{ alive: Set<Binding> | string, isAccess: boolean, isKeyed: boolean, step?: StepTarget }} what is alive
+   * after the calls that can be going on there, or what it is instead
    */
   #aliveAt(info, offset) {
     info.alive ??= /** @type {Map<Tree, Set<Binding>>} */ (aliveIn(info, this.analysis));
@@ -92,6 +98,8 @@ export class CallSites {
     let isCall = false;
     let isAccess = true;
     let isKeyed = false;
+    /** @type {StepTarget | undefined} */
+    let step;
     for (const [tree, out] of info.alive) {
       // The end as well: a call that was rewritten begins where its callee ends.
       if (tree.start > offset || offset > tree.end) continue;
@@ -101,13 +109,17 @@ export class CallSites {
         for (const one of out) alive.add(one);
       }
       isKeyed ||= makesKey(tree, offset);
+      if (isStep(tree) && offset < tree.end) step = tree.type;
       if (offset < tree.end && (least === undefined || tree.end - tree.start <= least.end - least.start)) least = tree;
     }
     const isCaller = least === undefined || CALLERS.has(least.type);
     const other = isCaller ? "something that isn't known" : /** @type {Tree} */ (least).type;
-    return { alive: isCaller && isCall ? alive : other, isAccess, isKeyed };
+    return { alive: isCaller && isCall ? alive : other, isAccess, isKeyed, step };
   }
 }
+
+/** @param {Tree} tree @returns {boolean} */
+const isStep = ({ type }) => type === "StepToName" || type === "StepToPattern";
 
 /**
  * @param {Tree} tree
@@ -124,6 +136,9 @@ function canCallAt(tree, offset, source) {
     case "NewExpression": return offset <= tree.callee.end;
     case "TaggedTemplateExpression": return offset <= tree.tag.end;
     case "MemberExpression": case "UpdateExpression": return true;
+    case "SpreadElement": return offset === tree.argument.start;
+    case "StepToName": case "StepToPattern": return offset < tree.end;
+    case "NameOfMember": return offset === tree.start;
     case "AssignmentExpression": return offset < tree.right.start;
     default: return false;
   }

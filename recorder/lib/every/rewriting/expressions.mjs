@@ -3,7 +3,7 @@
 import { positionOutsideComments } from "./comments.mjs";
 import { NAME_OF_KEY } from "./function-names.mjs";
 import { engineName, keyOfShorthand } from "./naming.mjs";
-import { childrenOf, hasOptional, isClass, isConstant, isMethod, isPattern, runsCode } from "./tree.mjs";
+import { childrenOf, givesMembers, hasOptional, isClass, isConstant, isMethod, isPattern, runsCode } from "./tree.mjs";
 
 /** @typedef {import("./tree.mjs").Tree} Tree */
 /** @typedef {import("./scopes.mjs").Info} Info */
@@ -89,6 +89,7 @@ export const EXPRESSIONS = {
   UpdateExpression: writeUpdate,
   VariableDeclarator: (writer, { id, init }, info) => {
     beginIterating(writer, id, init);
+    if (init !== null && givesMembers(id)) writer.within(init, `(${writer.room(info, id.start, id.end)} = (`, "))");
     writer.writeAll([id, init], info);
   },
 };
@@ -229,7 +230,7 @@ function writeAssignment(writer, tree, info) {
   } else if (left.type === "Identifier") {
     if (binary !== undefined) {
       const old = runsCode(right) ? `(${writer.room(info, left.end, tree.end)} = ${left.name})` : left.name;
-      replaceOperator(writer, tree, `= ${old} ${binary} (`);
+      replaceOperator(writer, tree, old, binary);
     }
     writer.write(right, info);
   } else if (binary !== undefined && left.object.type !== "Super") writeChange(writer, tree, info, binary);
@@ -237,14 +238,19 @@ function writeAssignment(writer, tree, info) {
 }
 
 /**
- * Makes `a += b` be `a = a + (b)`: the engine would say of the sum that it is at the place of a call before it.
+ * Makes `a += b` be `a = a + (b)`: the engine would say of the sum that it is at the place of a call before it. What
+ * reads `a` stands for the end of the first one, so that a getter is known to be called there.
  * @param {CodeWriter} writer
  * @param {Tree} tree an assignment
- * @param {string} text up to the value; a parenthesis closes it
+ * @param {string} old what reads `a`
+ * @param {string} binary
  */
-function replaceOperator(writer, { left, right, operator, end }, text) {
+function replaceOperator(writer, { left, right, operator, end }, old, binary) {
   const { edits, source } = writer;
-  edits.replace(positionOutsideComments(source, operator, left.end), operator.length, text);
+  const at = positionOutsideComments(source, operator, left.end);
+  edits.replace(at, 0, "= ");
+  edits.replace(at, 0, old, left.end - 1);
+  edits.replace(at, operator.length, ` ${binary} (`);
   edits.after(end, ")");
   // Both values may be made numbers there.
   hide(writer, left.end, right.start);
@@ -262,7 +268,7 @@ function writeChange(writer, tree, info, binary) {
   const member = keepMember(writer, left, info, end);
   if (!isConstant(right)) {
     const old = runsCode(right) ? `(${writer.room(info, left.end, end)} = ${member})` : member;
-    replaceOperator(writer, tree, `= ${old} ${binary} (`);
+    replaceOperator(writer, tree, old, binary);
   }
   writer.write(right, info);
 }

@@ -1,6 +1,6 @@
 // Which names of a function it can still read itself after an expression was evaluated: backward over its tree.
 
-import { isFunction, isMethod, namesIn } from "./tree.mjs";
+import { givesMembers, isFunction, isMethod, namesIn } from "./tree.mjs";
 
 /** @typedef {import("./tree.mjs").Tree} Tree */
 /** @typedef {import("./scopes.mjs").Binding} Binding */
@@ -138,6 +138,8 @@ class Liveness {
     this.after = new Map();
     /** @type {Target[]} */
     this.targets = [];
+    /** @type {Map<Tree, Tree>} what stands for the step of a loop, or the read of a member, by what gets the value */
+    this.standIns = new Map();
     /** @type {string[]} of the statement that comes now */
     this.labels = [];
     /** What is alive where something that is thrown leads. @type {Alive} */
@@ -284,8 +286,15 @@ class Liveness {
       this.note(tree, alive);
       // A `var` without a value leaves what was.
       const written = tree.init === null && kind === "var" ? [] : this.#declared(tree.id);
-      return this.before(tree.init, this.pattern(tree.id, this.#unwritten(alive, written)));
+      const begins = this.pattern(tree.id, this.#unwritten(alive, written));
+      if (givesMembers(tree.id)) this.#noteMembers(tree.id, union(alive, begins));
+      return this.before(tree.init, begins);
     }, out);
+  }
+
+  /** @param {Tree} pattern @param {Alive} out what may still be read where it gives a name a member */
+  #noteMembers(pattern, out) {
+    for (const { value } of pattern.properties) this.note(this.#standIn(value, "NameOfMember"), out);
   }
 
   /**
@@ -346,9 +355,24 @@ class Liveness {
     return this.before(right, this.loop(out, (head, target) => {
       target.again = head;
       const alive = this.before(body, head);
-      if (left.type !== "VariableDeclaration") return union(out, this.pattern(left, alive));
-      return union(out, this.outside(tree, this.pattern(left.declarations[0].id, alive)));
+      const isDeclared = left.type === "VariableDeclaration";
+      const begins = this.pattern(isDeclared ? left.declarations[0].id : left, alive);
+      const again = union(out, isDeclared ? this.outside(tree, begins) : begins);
+      const { type } = isDeclared ? left.declarations[0].id : left;
+      this.note(this.#standIn(left, type === "Identifier" ? "StepToName" : "StepToPattern"), again);
+      return again;
     }));
+  }
+
+  /**
+   * @param {Tree} tree that gets a value
+   * @param {string} type
+   * @returns {Tree} what stands for the evaluation of that, at the same place
+   */
+  #standIn(tree, type) {
+    const known = this.standIns.get(tree) ?? { type, start: tree.start, end: tree.end };
+    this.standIns.set(tree, known);
+    return known;
   }
 
   /** @param {Tree} tree @param {Alive} out */

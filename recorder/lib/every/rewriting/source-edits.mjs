@@ -1,6 +1,9 @@
 // Edits of a text, and where places of the new text are in the old one.
 
-/** @typedef {{ at: number, removed: number, text: string, side: number, order: number }} SourceEdit */
+/**
+ * @typedef {{ at: number, removed: number, text: string, side: number, order: number, stands?: number }} SourceEdit
+ * what is put at a place; `stands`: for which other place of the old text the new one stands
+ */
 
 const AFTER = 0;
 const BEFORE = 1;
@@ -29,9 +32,14 @@ export class Edits {
     this.all.push({ at, removed: 0, text, side: AFTER, order: -this.all.length });
   }
 
-  /** @param {number} at @param {number} removed how much of the text goes @param {string} text that comes instead */
-  replace(at, removed, text) {
-    this.all.push({ at, removed, text, side: INSTEAD, order: this.all.length });
+  /**
+   * @param {number} at
+   * @param {number} removed how much of the text goes
+   * @param {string} text that comes instead
+   * @param {number} [stands] the place of the old text for which it stands
+   */
+  replace(at, removed, text, stands) {
+    this.all.push({ at, removed, text, side: INSTEAD, order: this.all.length, stands });
   }
 
   /** @returns {{ code: string, original: (place: number) => number }} `original` says where a place was before */
@@ -41,9 +49,9 @@ export class Edits {
     let from = 0;
     /** @type {{ begins: number, ends: number, at: number, behind: number }[]} */
     const places = [];
-    for (const { at, removed, text } of sorted) {
+    for (const { at, removed, text, stands = at } of sorted) {
       code += this.source.slice(from, at);
-      places.push({ begins: code.length, ends: code.length + text.length, at, behind: at + removed });
+      places.push({ begins: code.length, ends: code.length + text.length, at: stands, behind: at + removed });
       code += text;
       from = at + removed;
     }

@@ -147,10 +147,10 @@ function makeOfList({ edits, source }, { left }) {
 function writeEach(writer, tree, info, how) {
   const { body, left, right } = tree;
   if (info !== null) {
-    const room = writer.room(info, right.end, tree.end);
+    const room = writer.room(info, right.end, tree.end, [left.start, left.end]);
     writer.within(right, `$R.${how}($f, ${room.slice("$f.t[".length, -1)}, (`, "))");
-    // What the loop has got is nowhere else yet.
-    writer.analysis.hidden.push([left.start, left.end]);
+    // What the loop has got is nowhere else while other code runs there.
+    if (runsCode(left)) writer.analysis.hidden.push([left.start, left.end]);
   }
   const own = writer.analysis.own.get(tree);
   if (own !== undefined && writer.isSeen(own, info)) {

@@ -58,6 +58,14 @@ export function hasExpressions(pattern) {
   return childrenOf(pattern).some(hasExpressions);
 }
 
+/**
+ * @param {Tree} pattern
+ * @returns {boolean} whether it gives names the members of an object, one after the other, and calls getters at most
+ */
+export const givesMembers = ({ type, properties }) => type === "ObjectPattern"
+  && properties.every((/** @type {Tree} */ { type: kind, computed, value }) => kind === "Property" && !computed
+    && (value.left ?? value).type === "Identifier" && !runsCode(value));
+
 /** @param {Tree | null} pattern @returns {string[]} the names that it declares */
 export function namesIn(pattern) {
   if (pattern === null) return [];

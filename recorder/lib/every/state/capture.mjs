@@ -5,6 +5,7 @@ import { framesHere } from "../../agent/frames.mjs";
 import { mapGet, mapSet } from "../../primordials.mjs";
 import { NodeSettings } from "./node-settings.mjs";
 import { readingIterators } from "./shown-iterators.mjs";
+import { isStepOfOthers } from "./loop-steps.mjs";
 import { CantShow } from "./object-kinds.mjs";
 import { Walk } from "./walk.mjs";
 
@@ -151,6 +152,7 @@ export class Capture {
     const place = text.at(position);
     if (place.unknown !== undefined) throw new CantShow(place.unknown);
     if (called !== undefined) this.#needsOneWay(place, called);
+    else if (place.step === "StepToPattern") throw new CantShow("what a pattern takes apart");
     const isSame = frame.id === place.fn && site.isConstructor() === place.makes;
     if (!isSame) throw new CantShow("another function than was seen");
     // The text of a stack has these, whether they can be read otherwise or not.
@@ -173,9 +175,10 @@ export class Capture {
    * @param {import("../rewriting/call-sites.mjs").CallSite} place
    * @param {Called} called
    */
-  #needsOneWay({ isAccess, isKeyed }, { name, id, isAccessor }) {
+  #needsOneWay({ isAccess, isKeyed, step }, { name, id, isAccessor }) {
     const converts = isAccessor && CONVERSIONS.test(name);
-    const isOther = isAccess !== isAccessor || isKeyed || converts || this.runtime.installed.has(id);
+    const isOther = isAccess !== isAccessor || isKeyed || converts || this.runtime.installed.has(id)
+      || (step !== undefined) !== isStepOfOthers(id);
     if (isOther) throw new CantShow(`${name || "a function"}, which the engine may call`);
   }
 }

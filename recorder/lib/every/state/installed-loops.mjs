@@ -2,6 +2,7 @@
 
 import { replace } from "../../agent/ordinary/patch.mjs";
 import { TypedArray } from "../../primordials.mjs";
+import { takeStep } from "./loop-steps.mjs";
 
 /** @typedef {Record<string, Function>} Stands by the names of what they stand for */
 
@@ -10,8 +11,11 @@ function install(owner, stands) {
   for (const [name, stand] of Object.entries(stands)) replace(owner, name, () => stand);
 }
 
-/** @param {Record<"arrayLoops" | "typedLoops" | "mapLoops" | "setLoops" | "arrayMakers", Stands>} loops */
-export function installLoops({ arrayLoops, typedLoops, mapLoops, setLoops, arrayMakers }) {
+/**
+ * @param {Record<"arrayLoops" | "typedLoops" | "mapLoops" | "setLoops" | "arrayMakers" | "othersSteps", Stands>} loops
+ */
+export function installLoops({ arrayLoops, typedLoops, mapLoops, setLoops, arrayMakers, othersSteps }) {
+  takeStep(/** @type {any} */ (othersSteps.next));
   install(Array.prototype, arrayLoops);
   install(TypedArray.prototype, typedLoops);
   install(Map.prototype, mapLoops);

@@ -3,6 +3,7 @@
 
 import { types } from "node:util";
 import { apply, getPrototypeOf, isObject } from "../../primordials.mjs";
+import { numberOf } from "./installed.mjs";
 import { shownIteratorOf } from "./shown-iterators.mjs";
 
 /** What a loop goes through. */
@@ -31,10 +32,6 @@ class OthersSteps extends LoopSteps {
     this.step = real.next;
   }
 
-  next() {
-    return apply(this.step, this.real, []);
-  }
-
   get return() {
     const method = this.real.return;
     if (typeof method !== "function") return method;
@@ -45,6 +42,21 @@ class OthersSteps extends LoopSteps {
     return ["others", this.real, this.step];
   }
 }
+
+/** The number of the function that makes such a step. */
+let numberOfStep = -1;
+
+/**
+ * Takes the function that makes a step: it is rewritten, so that what it calls can be shown.
+ * @param {() => IteratorResult<unknown>} next
+ */
+export function takeStep(next) {
+  OthersSteps.prototype.next = next;
+  numberOfStep = numberOf(next) ?? -1;
+}
+
+/** @param {number} number of a function @returns {boolean} whether it makes such a step */
+export const isStepOfOthers = (number) => number === numberOfStep;
 
 /** The keys that a `for..in` has found: one that isn't there any more when its turn comes is left out. */
 class Keys extends LoopSteps {
@@ -115,13 +127,6 @@ export function iterable(given) {
   const real = apply(method, given, []);
   if (!isObject(real)) throw new TypeError("Result of the Symbol.iterator method is not an object");
   return new OthersSteps(real);
-}
-
-/** @param {unknown} given what is spread @returns {unknown[]} all that it has */
-export function elementsOf(given) {
-  const list = [];
-  for (const one of iterable(given)) list[list.length] = one;
-  return list;
 }
 
 /** @param {unknown} given what a `for..in` goes through @returns {LoopSteps} what gives its keys */

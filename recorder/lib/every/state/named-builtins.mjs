@@ -5,6 +5,7 @@ import { EventEmitter } from "node:events";
 import { types } from "node:util";
 import { CONSTRUCTORS } from "../../../script/kinds.mjs";
 import { isObject } from "../../primordials.mjs";
+import { intlConstructors } from "./intl-objects.mjs";
 import { intrinsics } from "./intrinsics.mjs";
 
 /** Prototypes of which objects keep nothing that isn't shown. */
@@ -12,6 +13,8 @@ const PLAIN = [
   Object, Array, Map, Set, WeakMap, WeakSet, Function, Date, RegExp, ArrayBuffer, SharedArrayBuffer, Error, RangeError,
   TypeError, SyntaxError, ReferenceError, EvalError, URIError, AggregateError, DataView, TextEncoder, TextDecoder,
   EventEmitter, Boolean, Number, String, Symbol, BigInt, Promise, Reflect.getPrototypeOf(Int8Array), ...CONSTRUCTORS,
+  // The prototype of a function that makes generators is a plain object.
+  Reflect.getPrototypeOf(function* made() {}), Reflect.getPrototypeOf(async function* made() {}),
 ].map((one) => /** @type {Function} */ (one));
 
 const KINDS = /** @type {const} */ (["value", "get", "set"]);
@@ -84,6 +87,7 @@ export class NamedBuiltins {
     for (const [object, name] of intrinsics()) this.add(object, name);
     // A proxy stands for the function.
     this.add(Date.prototype, "globalThis.Date.prototype");
+    for (const [name, engine] of intlConstructors()) this.add(engine, `globalThis.Intl.${name}`);
     for (const [name, module] of Object.entries(modules)) this.add(module, name);
     for (let at = 0; at < this.queue.length; at += 1) this.#addMembers(...this.queue[at]);
     const objects = this.queue.map(([object]) => object);

@@ -4,6 +4,7 @@
 import { types } from "node:util";
 import { getOwnPropertyDescriptor, isArray, uncurried } from "../../primordials.mjs";
 import { hexOf } from "../search/raw-elements.mjs";
+import { intlOf } from "./intl-objects.mjs";
 import { iterationOf } from "./shown-iterators.mjs";
 
 /** Something that can't be shown. */
@@ -22,6 +23,7 @@ const SHOWN = [
   ["array", isArray], ["Map", isMap], ["Set", isSet], ["WeakMap", isWeakMap], ["WeakSet", isWeakSet], ["Date", isDate],
   ["RegExp", isRegExp], ["Error", isNativeError], ["Promise", isPromise], ["arguments", isArgumentsObject],
   ["boxed", isBoxedPrimitive], ["iterator", (object) => iterationOf(object) !== undefined],
+  ["Intl", (object) => intlOf(object) !== undefined],
 ];
 
 /** @type {[string, IsOfKind][]} those that aren't */

@@ -223,6 +223,21 @@ export const setLoops = {
   },
 };
 
+/** A step of a loop through what an iterator of the agents' own gives. */
+export const othersSteps = {
+  /** @type {(this: any) => IteratorResult<unknown>} */
+  next() {
+    return apply(this.step, this.real, []);
+  },
+};
+
+/** @param {any} given what is spread @returns {unknown[]} all that it has */
+export function elementsOf(given) {
+  const list = [];
+  for (const one of given) list[list.length] = one;
+  return list;
+}
+
 /** @param {any} items @returns {boolean} whether a loop goes through them as `Array.from` does */
 const isGoneThrough = (items) => typeof items === "string" || isMap(items) || isSet(items)
   || (isArray(items) && !isProxy(items)) || apply(tagOf, items, []) !== undefined;

@@ -7,7 +7,7 @@ import {
 import { types } from "node:util";
 import { noteClass } from "./first-prototypes.mjs";
 import { Installed, numberOf } from "./installed.mjs";
-import { elementsOf, iterable, keysIn } from "./loop-steps.mjs";
+import { iterable, keysIn } from "./loop-steps.mjs";
 import { own, stamped } from "./own-objects.mjs";
 import { likeArrays } from "./shown-iterators.mjs";
 
@@ -153,7 +153,8 @@ export class Runtime {
       iterable,
       iterated: kept(iterable),
       keysIn: kept(keysIn),
-      elementsOf,
+      /** @type {(given: unknown) => unknown[]} all that something has that is spread: the prelude has the function */
+      elementsOf: () => [],
       key,
       method,
       numeric,

@@ -7,6 +7,7 @@ import { slotOf } from "../../primordials.mjs";
 import { hexOf } from "../search/raw-elements.mjs";
 import { boundOf } from "./bound-functions.mjs";
 import { hadOtherPrototype } from "./first-prototypes.mjs";
+import { intlOf } from "./intl-objects.mjs";
 import { LoopSteps } from "./loop-steps.mjs";
 import { CantShow, boxedIn, bytesIn, isResizable, objectKind, numberText, patternOf, timeOf } from "./object-kinds.mjs";
 import { settledOf } from "./promises.mjs";
@@ -237,13 +238,13 @@ export class Walk {
     const made = this.runtime.functions.get(fn);
     const bound = made === undefined ? boundOf(fn) : undefined;
     if (bound !== undefined) {
-      this.out.push("bound", bound.given.length);
+      this.out.push(bound.kind, bound.given.length);
       this.value(bound.target);
       for (const one of bound.given) this.value(one);
       for (const key of Reflect.ownKeys(fn)) this.#property(fn, key);
       return;
     }
-    if (made === undefined) throw new CantShow(`the function ${fn.name}, which isn't of the modules`);
+    if (made === undefined) throw new CantShow(`${functionText(fn)}, which isn't of the modules`);
     if (made.isHidden === true) throw new CantShow("a function with a `super` or with names that aren't shown");
     this.out.push(made.id);
     for (const key of made.keys ?? []) this.value(key);
@@ -281,6 +282,7 @@ export class Walk {
       case "Promise": this.#settled(object); return;
       case "boxed": this.value(boxedIn(object)); return;
       case "iterator": this.#iteration(object); return;
+      case "Intl": this.out.push(JSON.stringify(intlOf(object))); return;
       case "WeakMap": this.weak.push({ object, shown: new Set(), hasValues: true }); return;
       case "WeakSet": this.weak.push({ object, shown: new Set(), hasValues: false }); return;
       default:
@@ -349,7 +351,7 @@ export class Walk {
     const isTyped = anyWatchedOf(object) !== undefined || ArrayBuffer.isView(object);
     const isOfPlain = this.builtins.plain.has(/** @type {any} */ (prototype));
     const isPlain = name === undefined || isTyped || isOfPlain || types.isAnyArrayBuffer(object)
-      || iterationOf(object) !== undefined;
+      || iterationOf(object) !== undefined || intlOf(object) !== undefined;
     if (!isPlain && typeof object !== "function") throw new CantShow(`an object of ${name}`);
     this.value(prototype);
   }
@@ -402,6 +404,12 @@ export class Walk {
       this.value(set);
     }
   }
+}
+
+/** @param {Function} fn @returns {string} what it is called, if that is a text: no code of agents runs for it */
+function functionText(fn) {
+  const name = Reflect.getOwnPropertyDescriptor(fn, "name")?.value;
+  return typeof name === "string" && name !== "" ? `the function ${name}` : "a function";
 }
 
 /**

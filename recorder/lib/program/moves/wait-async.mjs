@@ -69,10 +69,9 @@ export class WaitAsync {
    * @returns {number} how many
    */
   notify(given) {
-    const { buffers, refuse } = this.around;
+    const { buffers } = this.around;
     const view = given[0];
-    const refused = (/** @type {string} */ why) => refuse(`called Atomics.notify: ${why}`);
-    const call = callOf(NOTIFY, given, view, kindOf(view), NO_WAITER, refused);
+    const call = callOf(NOTIFY, given, view, kindOf(view), NO_WAITER);
     return engineCall(call, view) + this.#wake(buffers.numberOf(bufferOf(view)), byteOf(call), call.limit ?? Infinity);
   }
 
@@ -126,9 +125,8 @@ export class WaitAsync {
       refuse("called Atomics.waitAsync on a SharedArrayBuffer that grows, which isn't simulated yet");
     }
     if (buffer < 0 || !isPlaying()) return apply(engineWaitAsync, Atomics, given);
-    const refused = (/** @type {string} */ why) => refuse(`called Atomics.waitAsync: ${why}`);
     // Conversions run the program's code, which may share the memory.
-    const call = callOf(WAIT, given, view, kind, NO_WAITER, refused);
+    const call = callOf(WAIT, given, view, kind, NO_WAITER);
     if (!this.waiters.hasRoom()) refuse("called Atomics.waitAsync while as many waits are pending as a run can have");
     call.block = buffers.blockOf(buffer);
     const made = moves.player.part.made;

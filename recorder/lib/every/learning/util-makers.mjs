@@ -1,0 +1,33 @@
+// What stands for functions of `node:util` that make functions: what they make keeps nothing that isn't shown.
+
+import nodeProcess from "node:process";
+import nodeUtil from "node:util";
+import { apply, defineProperty, likeEngine } from "../../primordials.mjs";
+import { noteMade } from "../state/bound-functions.mjs";
+
+/** @type {any} */
+const util = nodeUtil;
+
+/** @returns {Function} a log of a section that isn't asked for: it prints nothing */
+function silentLog() {
+  const logger = noteMade((/** @type {unknown[]} */ ..._words) => {}, "debuglog");
+  defineProperty(logger, "name", { value: "logger", configurable: true });
+  const get = noteMade({ get: () => false }.get, "debuglog.enabled");
+  defineProperty(logger, "enabled", { get, enumerable: true, configurable: true });
+  return logger;
+}
+
+/**
+ * @param {(what: string) => never} refuse
+ * @returns {Record<string, Function>} by their names
+ */
+export function utilMakers(refuse) {
+  const { debuglog: engineLog, deprecate: engineDeprecate } = util;
+  const debuglog = likeEngine((/** @type {unknown} */ section, /** @type {unknown} */ made) => {
+    const isSilent = typeof section === "string" && made === undefined && !nodeProcess.env.NODE_DEBUG;
+    return isSilent ? silentLog() : refuse("it uses `util.debuglog` with NODE_DEBUG or with a function");
+  }, engineLog);
+  const deprecate = likeEngine((/** @type {unknown[]} */ ...given) =>
+    noteMade(apply(engineDeprecate, util, given), "deprecate", given[0]), engineDeprecate);
+  return { debug: debuglog, debuglog, deprecate };
+}
