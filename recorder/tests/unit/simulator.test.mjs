@@ -74,7 +74,7 @@ test("with `--finish` a call that hasn't returned gives status 5", () => {
 for (const [line, file, kind] of [
   ["replay", undefined, "script"],
   ["check a.json", "a.json", "script"],
-  ["race --mix 1", undefined, "script"],
+  ["race --share lock", undefined, "script"],
   ["judge --trace a.jsonl", "a.jsonl", "trace"],
   ["search --limit 5", undefined, "automata"],
   ["search --states a.json", "a.json", "states"],
