@@ -137,7 +137,7 @@ class Proofs:
             self.tally.say(f"{crate.name}: {why}")
             return False
         keys = self.keys_of(proving)
-        path = known = next((path for path in (self.store.find(crate.name, key) for key in keys) if path), None)
+        path = known = self.store.find_first(crate.name, keys)
         path = path or self.store.keep(crate.name, keys[0], lambda folder: proving.make(folder, jobs))
         if not path:
             self.tally.say(f"{proving.said}{proving.name} isn't proved, or isn't built")
@@ -149,7 +149,7 @@ class Proofs:
 
     def keys_of(self, proving):
         """Returns the keys under which what is made of a crate may be kept. A library is kept by its own files and the
-        libraries below it; by all files, as everything was once; a program, tests and a static library still are."""
+        libraries below it. By all files, also those below, everything was kept once; only libraries no longer are."""
         crate = proving.crate
         by_files = sum_of(self.sums.of(crate), proving.made, *self.sums_of_static(crate))
         return [sum_of(self.sums.over(crate), proving.made), by_files] if is_library(proving) else [by_files]

@@ -39,6 +39,14 @@ def sum_of_scripts(names):
     return sum_of([(name, rtlib.sum_of(f"{folder}/{name}.py")) for name in names.split()])
 
 
+def link_or_copy(one, other):
+    """Gives a file a second name, or copies it. Files of the store are replaced, and nothing is written into them."""
+    try:
+        os.link(one, other)
+    except OSError:
+        shutil.copy2(one, other)
+
+
 class Sums:
     """Sums of crates: of their files, of those below them, of the kit, of what HANDLES allows, and of how they are
     proved."""
@@ -82,6 +90,15 @@ class Store:
         os.utime(path)
         self.used.add(path)
         return path
+
+    def find_first(self, name, keys):
+        """Returns the folder of what was kept of a crate under the first of some keys, or None. What was kept under
+        another one of them is from then on kept under the first, too."""
+        path = next((path for path in (self.find(name, key) for key in keys) if path), None)
+        if not path or path == self.path(name, keys[0]):
+            return path
+        copy = lambda folder: shutil.copytree(path, folder, copy_function=link_or_copy, dirs_exist_ok=True)
+        return self.keep(name, keys[0], copy)
 
     def keep(self, name, key, make):
         """Keeps what a call makes in an empty folder under a key, and returns that folder; None if the call fails."""
