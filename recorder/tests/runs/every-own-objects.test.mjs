@@ -44,6 +44,7 @@ const CHANGES = [
   "util.inherits(Math.max, Array)", "util.inspect.colors.more = 1", "util.inspect.defaultOptions.depth = 1",
   "util.inspect.defaultOptions = {}", "assert.more = 1", "path.posix.more = 1",
   "EventEmitter.prototype.on.call(Math, 'a', () => {})", "EventEmitter.defaultMaxListeners = 1",
+  "Array.from.call(function made() { return URIError; }, [1])", "Array.of.call(function made() { return URIError; }, 1)",
   "new EventEmitter().constructor.prototype.more = 1", "(() => 0).constructor.more = 1", "fs.more = 1",
 ];
 
@@ -133,6 +134,9 @@ const ALLOWED = {
   "typeof new FinalizationRegistry(() => {}).register({}, 1)": "'undefined'",
   "const { exit } = process; return typeof exit": "'function'",
   "util.format('%d', 1)": "'1'",
+  "Array.from.call((n) => n, [1, 2]).length": "2",
+  "(class More extends Array {}).from([1, 2]).constructor.name": "'More'",
+  "Array.of.call(function made(n) { this.n = n; }, 4, 5).n": "2",
   "util.debuglog('a')('%s', 1) ?? util.debug('b').enabled": "false",
   "util.deprecate((n) => n + 1, 'a')(1)": "2",
 };
