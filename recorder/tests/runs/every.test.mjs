@@ -142,8 +142,8 @@ test("what can't be learned is refused, with its line", async (context) => {
     [LOADS("const f = () => 1;\n  f(self, Atomics.load(words, 1)).leave();"), /was rewritten, at agents\.mjs:6:35$/],
     [LOADS("let all;\n  for (const one of all) Atomics.load(words, one);"), /was rewritten, at agents\.mjs:6:21$/],
     [LOADS("Math.max(...Atomics.load(words, 1));"), /names code that was rewritten, at agents\.mjs:5:15$/],
-    [LOADS(`${SPECIES} made.slice();`), /it changes `JSON`, an object of the language or of node, at agents\.mjs:5:\d+$/],
-    [LOADS(`${SPECIES} made.flat();`), /it changes `JSON`, an object of the language or of node, at agents\.mjs:5:\d+$/],
+    [LOADS(`${SPECIES} made.slice();`), /it changes `JSON`, an object of the language or of node, at agents\.mjs:5:/],
+    [LOADS(`${SPECIES} made.flat();`), /it changes `JSON`, an object of the language or of node, at agents\.mjs:5:/],
     [LOADS("Array.prototype.push = 1;"), /`Array\.prototype`, an object of the language or of node, at .*:5:3$/],
     [`import { readFileSync as f } from "node:fs";\n${LOADS("f('a');")}`, /`node:fs\.readFileSync`, at .*:6:\d+$/],
   ])) {
