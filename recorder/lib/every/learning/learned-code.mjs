@@ -79,6 +79,11 @@ export class LearnedCode {
     return this.capture.here(keyOf(asked));
   }
 
+  /** @returns {boolean} whether the agent may go on otherwise than if its state had not been shown */
+  hasChanged() {
+    return this.capture.hasChanged;
+  }
+
   /** @returns {string} the file, line and column at which an agent asks for something now */
   line() {
     return this.capture.line();
@@ -118,7 +123,8 @@ export class LearnedCode {
 
   #kept() {
     try {
-      return this.capture.modules();
+      const kept = this.capture.modules();
+      return this.capture.hasChanged ? undefined : kept;
     } catch (why) {
       if (!(why instanceof CantShow)) throw why;
       return undefined;

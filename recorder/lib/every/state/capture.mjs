@@ -20,6 +20,7 @@ const LIBRARY = new URL("../../", import.meta.url).href;
 const ELEMENTS = new URL("../../agent/ordinary/watched-elements.mjs", import.meta.url).href;
 const ATOMICS = new URL("../../agent/atomics.mjs", import.meta.url).href;
 const LEARNING = new URL("../learning/", import.meta.url).href;
+const PRELUDE = new URL("./prelude.mjs", import.meta.url).href;
 const STATE = new URL("./", import.meta.url).href;
 const ITERATORS = new URL("./shown-iterators.mjs", import.meta.url).href;
 
@@ -42,6 +43,8 @@ export class Capture {
     this.places = new Map();
     /** The number of the place at which an agent is whose state was asked for last. */
     this.place = -1;
+    /** Whether showing what there is, the last time, may have changed what agents find later. */
+    this.hasChanged = false;
   }
 
   /** @returns {Walk} */
@@ -53,7 +56,16 @@ export class Capture {
   modules() {
     const walk = this.#walk();
     this.#putModules(walk);
-    return walk.text();
+    return this.#text(walk);
+  }
+
+  /** @param {Walk} walk @returns {string} */
+  #text(walk) {
+    try {
+      return walk.text();
+    } finally {
+      this.hasChanged = walk.hasReadStack;
+    }
   }
 
   /**
@@ -63,13 +75,14 @@ export class Capture {
    * @throws {CantShow}
    */
   here(asked) {
+    this.hasChanged = false;
     if (this.settings.haveChanged()) throw new CantShow("a setting of node's that was changed");
     const frames = framesHere();
     const walk = this.#walk();
     walk.put(asked);
     let first = 0;
     while (first < frames.length && !this.texts.has(frames[first].getFileName() ?? "")) first += 1;
-    this.#notePlace(frames[first]);
+    this.#notePlace(frames.find((site) => this.#isOfAgents(fileOf(site))));
     needsDirect(frames.slice(0, first));
     for (const one of readingIterators()) {
       walk.put("|next");
@@ -85,7 +98,12 @@ export class Capture {
     const below = frames[first + count]?.getFileName() ?? "";
     if (!below.startsWith(LEARNING)) throw new CantShow("more functions than were seen");
     this.#putModules(walk);
-    return walk.text();
+    return this.#text(walk);
+  }
+
+  /** @param {string} file @returns {boolean} whether it is of the agents: a line of the prelude says nothing to them */
+  #isOfAgents(file) {
+    return this.texts.has(file) && file !== PRELUDE;
   }
 
   /** @param {NodeJS.CallSite | undefined} site at which an agent asks for something */
@@ -106,14 +124,14 @@ export class Capture {
 
   /** @returns {string} the file, line and column at which an agent asks for something now */
   line() {
-    const site = framesHere().find((one) => this.texts.has(one.getFileName() ?? ""));
+    const site = framesHere().find((one) => this.#isOfAgents(fileOf(one)));
     return site === undefined ? NOT_KNOWN : this.#lineAt(site.getFileName() ?? "", site.getPosition());
   }
 
   /** @param {Error} error of an agent @returns {string} the file, line and column at which it was made */
   lineOf(error) {
     const frames = [...String(error.stack).matchAll(/(file:\S+):(\d+):(\d+)/g)];
-    const [, file, line, column] = frames.find(([, name]) => this.texts.has(name)) ?? ["", ""];
+    const [, file, line, column] = frames.find(([, name]) => this.#isOfAgents(name)) ?? ["", ""];
     if (file === "") return NOT_KNOWN;
     const before = this.texts.get(file)?.code.split("\n").slice(0, Number(line) - 1) ?? [];
     return this.#lineAt(file, before.reduce((sum, { length }) => sum + length + 1, 0) + Number(column) - 1);

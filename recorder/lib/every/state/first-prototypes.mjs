@@ -43,8 +43,13 @@ function mayKeepMore(object) {
 
 /** @param {unknown} next what a class is to derive from @returns {boolean} whether it may make other objects then */
 function makesMore(next) {
-  if (typeof next !== "function" || next === functions || known?.nameOf(next) === undefined) return false;
-  return known.plain.has(getOwnPropertyDescriptor(next, "prototype")?.value) === false;
+  // A class of the agents' makes what the class makes from which it derives.
+  for (let at = next; typeof at === "function" && at !== functions; at = getPrototypeOf(at)) {
+    const isNamed = known?.nameOf(at) !== undefined;
+    if (isNamed) return known?.plain.has(getOwnPropertyDescriptor(at, "prototype")?.value) === false;
+    if (isProxy(at)) return true;
+  }
+  return false;
 }
 
 /**

@@ -1,4 +1,4 @@
-// Puts the loops of the prelude in the place of the engine's: they have the same names and lengths.
+// Puts the functions of the prelude in the place of the engine's: they have the same names and lengths.
 
 import { replace } from "../../agent/ordinary/patch.mjs";
 import { TypedArray } from "../../primordials.mjs";
@@ -12,13 +12,19 @@ function install(owner, stands) {
 }
 
 /**
- * @param {Record<"arrayLoops" | "typedLoops" | "mapLoops" | "setLoops" | "arrayMakers" | "othersSteps", Stands>} loops
+ * @typedef {"arrayLoops" | "typedLoops" | "mapLoops" | "setLoops" | "arrayMakers" | "functionCalls" | "reflectCalls"
+ * | "othersSteps"} StandKind
  */
-export function installLoops({ arrayLoops, typedLoops, mapLoops, setLoops, arrayMakers, othersSteps }) {
+
+/** @param {Record<StandKind, Stands>} stands */
+export function installLoops(stands) {
+  const { arrayLoops, typedLoops, mapLoops, setLoops, arrayMakers, functionCalls, reflectCalls, othersSteps } = stands;
   takeStep(/** @type {any} */ (othersSteps.next));
   install(Array.prototype, arrayLoops);
   install(TypedArray.prototype, typedLoops);
   install(Map.prototype, mapLoops);
   install(Set.prototype, setLoops);
   install(Array, arrayMakers);
+  install(Function.prototype, functionCalls);
+  install(Reflect, reflectCalls);
 }

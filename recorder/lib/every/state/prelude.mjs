@@ -1,6 +1,7 @@
 // The engine's own loops that call a function of the agents, in JavaScript: it can be shown then how far they are. They
 // are rewritten as the agents' modules are, and stand for the engine's while agents are learned. What isn't an ordinary
-// array, map or set is left to the engine's.
+// array, map or set is left to the engine's. So is each call of a function with a list, except that the list is made
+// here: no frame would show that the engine makes it.
 
 import { types } from "node:util";
 
@@ -20,6 +21,8 @@ const EngineArray = Array;
 const ofArrays = methodsOf(arrays);
 const ofTyped = methodsOf(typedArrays);
 const { from } = Array;
+const { prototype: functions } = Function;
+const { apply: applied } = functions;
 const { forEach: eachOfMap } = maps;
 const { forEach: eachOfSet } = sets;
 
@@ -265,5 +268,31 @@ export const arrayMakers = {
     const made = [];
     for (const one of items) made[made.length] = apply(f, that, [one, made.length]);
     return made;
+  },
+};
+
+/** @param {unknown} fn @param {unknown} list @returns {boolean} whether code may run while the list is made */
+const isMadeHere = (fn, list) => typeof fn === "function" && list !== null
+  && (typeof list === "function" || (typeof list === "object" && !(isArray(list) && !isProxy(list))));
+
+/** @param {any} list @returns {unknown[]} its elements */
+function elementsIn(list) {
+  const n = lengthIn(list);
+  const elements = new EngineArray(n);
+  for (let k = 0; k < n; k += 1) elements[k] = list[k];
+  return elements;
+}
+
+/** @type {Record<string, (this: any, self: unknown, list: any) => any>} */
+export const functionCalls = {
+  apply(self, list) {
+    return isMadeHere(this, list) ? apply(this, self, elementsIn(list)) : apply(applied, this, [self, list]);
+  },
+};
+
+/** @type {Record<string, (target: any, self: unknown, list: any) => any>} */
+export const reflectCalls = {
+  apply(target, self, list) {
+    return isMadeHere(target, list) ? apply(target, self, elementsIn(list)) : apply(target, self, list);
   },
 };

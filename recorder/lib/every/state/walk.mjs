@@ -10,6 +10,7 @@ import { hadOtherPrototype } from "./first-prototypes.mjs";
 import { intlOf } from "./intl-objects.mjs";
 import { LoopSteps } from "./loop-steps.mjs";
 import { CantShow, boxedIn, bytesIn, isResizable, objectKind, numberText, patternOf, timeOf } from "./object-kinds.mjs";
+import { isMadeByAgents } from "./made-symbols.mjs";
 import { settledOf } from "./promises.mjs";
 import { isUnnamed } from "./own-objects.mjs";
 import { UNKNOWN_VALUE } from "./runtime.mjs";
@@ -54,6 +55,8 @@ export class Walk {
     this.weak = [];
     /** @type {Map<object, Function>} functions, by their prototypes that nothing was put into */
     this.bare = new Map();
+    /** Whether it has read where an error was made: the engine makes a text of that then, which stays as it is. */
+    this.hasReadStack = false;
   }
 
   /** @returns {string} what was walked, with all that can be reached from it */
@@ -95,6 +98,7 @@ export class Walk {
     if (key !== undefined) return `y${JSON.stringify(key)}`;
     const name = this.builtins.nameOf(symbol);
     if (name !== undefined) return `Y${name}`;
+    if (!isMadeByAgents(symbol)) throw new CantShow("a symbol of node's");
     const isKnown = this.seen.has(symbol);
     const number = this.#number(symbol);
     return isKnown ? `y#${number}` : `y@${number}${JSON.stringify(symbol.description)}`;
@@ -216,6 +220,7 @@ export class Walk {
     else this.#content(object);
     this.#prototype(object);
     if (!Reflect.isExtensible(object)) this.out.push("!x");
+    if (stackOfErrors.get !== undefined && watched === undefined) this.#keptStack(object);
     this.#private(object);
     if (watched === undefined && !isMemory && typeof object !== "function") this.#properties(object);
   }
@@ -382,13 +387,23 @@ export class Walk {
     }
   }
 
-  /** @param {object} error with a stack of its own: on newer versions of node that is read by a function */
+  /** @param {object} error with a stack of its own */
   #stack(error) {
     const { value, get, set, writable, enumerable, configurable } =
       /** @type {PropertyDescriptor} */ (Reflect.getOwnPropertyDescriptor(error, "stack"));
     const isPlain = get === stackOfErrors.get && set === stackOfErrors.set && (get !== undefined || writable === true);
     if (!isPlain || enumerable || !configurable) throw new CantShow("an error whose stack was changed");
-    this.value(get === undefined ? value : Reflect.apply(get, error, []));
+    this.hasReadStack = true;
+    if (get === undefined) this.value(value);
+  }
+
+  /** @param {object} object that keeps a stack out of sight, maybe: newer versions of node read it by a function */
+  #keptStack(object) {
+    const stack = Reflect.apply(/** @type {Function} */ (stackOfErrors.get), object, []);
+    if (stack === undefined) return;
+    this.hasReadStack = true;
+    this.out.push("stack");
+    this.value(stack);
   }
 
   /** @param {object} object @param {string | symbol} key */
@@ -397,6 +412,7 @@ export class Walk {
     const { value, get, set, writable, enumerable, configurable } = descriptor;
     this.value(key);
     this.out.push(`${writable ? "" : "r"}${enumerable ? "" : "e"}${configurable ? "" : "c"}.`);
+    if (key === "stack" && typeof value === "string") this.hasReadStack = true;
     if (!Object.hasOwn(descriptor, "get")) this.value(value);
     else {
       this.out.push("get");
@@ -419,5 +435,5 @@ function functionText(fn) {
  */
 function mayBeThere(key) {
   if (typeof key === "symbol" || typeof key === "function") return true;
-  return isUnnamed(key) || (Array.isArray(key) && !Reflect.isExtensible(key));
+  return isUnnamed(key) || (!types.isProxy(key) && Array.isArray(key) && !Reflect.isExtensible(key));
 }
