@@ -7,7 +7,7 @@ import { Refused } from "../../options/refused.mjs";
 import { NamedBuiltins } from "../state/named-builtins.mjs";
 import { Capture } from "../state/capture.mjs";
 import { beginInstalled, numberOf } from "../state/installed.mjs";
-import { installLoops } from "../state/installed-loops.mjs";
+import { installLoops, removeLoops } from "../state/installed-loops.mjs";
 import { guardOwn } from "../state/own-objects.mjs";
 import { Runtime } from "../state/runtime.mjs";
 import { knowFirstPrototypes } from "../state/first-prototypes.mjs";
@@ -145,6 +145,7 @@ export function loadCode(url, asker, platform, flaw) {
   guardOwn(undefined);
   const runtime = new Runtime();
   const own = new AgentModules(platform);
+  removeLoops();
   own.take(PRELUDE);
   const prelude = /** @type {any} */ (own.made(runtime.calls).get(PRELUDE));
   installLoops(prelude);

@@ -83,7 +83,7 @@ export class Capture {
     let first = 0;
     while (first < frames.length && !this.texts.has(frames[first].getFileName() ?? "")) first += 1;
     this.#notePlace(frames.find((site) => this.#isOfAgents(fileOf(site))));
-    needsDirect(frames.slice(0, first));
+    const isStep = needsDirect(frames.slice(0, first));
     for (const one of readingIterators()) {
       walk.put("|next");
       walk.value(one);
@@ -91,7 +91,7 @@ export class Capture {
     const { stack } = this.runtime;
     const count = stack.length;
     /** @type {Called | undefined} */
-    let called;
+    let called = isStep ? OF_ITERATORS : undefined;
     for (let at = 0; at < count; at += 1) {
       called = this.#putFrame(walk, frames[first + at], stack[count - 1 - at], called);
     }
@@ -169,8 +169,9 @@ export class Capture {
     const position = site.getPosition();
     const place = text.at(position);
     if (place.unknown !== undefined) throw new CantShow(place.unknown);
-    if (called !== undefined) this.#needsOneWay(place, called);
-    else if (place.step === "StepToPattern") throw new CantShow("what a pattern takes apart");
+    if (called === OF_ITERATORS) needsStep(place);
+    else if (called !== undefined) this.#needsOneWay(place, called);
+    else if (place.step !== undefined) throw new CantShow("what the step of a loop has returned");
     const isSame = frame.id === place.fn && site.isConstructor() === place.makes;
     if (!isSame) throw new CantShow("another function than was seen");
     // The text of a stack has these, whether they can be read otherwise or not.
@@ -201,6 +202,17 @@ export class Capture {
   }
 }
 
+/** @type {Called} the step of a loop that is shown, or its `next` */
+const OF_ITERATORS = Object.freeze({ name: "next", id: -1, isAccessor: false });
+
+/**
+ * A step that is shown must be that of a loop which gives a name the value, or a call of `next`.
+ * @param {import("../rewriting/call-sites.mjs").CallSite} place
+ */
+function needsStep({ isAccess, step }) {
+  if (step === "StepToPattern" || isAccess) throw new CantShow("what a pattern takes apart");
+}
+
 /** @param {NodeJS.CallSite | undefined} site @returns {string} */
 const fileOf = (site) => site?.getFileName() ?? "";
 
@@ -208,6 +220,7 @@ const fileOf = (site) => site?.getFileName() ?? "";
  * Above the agents' own functions may only be what a call of Atomics, or the read of an element, begins with, and a
  * step of a loop that is shown: others of the recorder's functions have more to do.
  * @param {NodeJS.CallSite[]} frames
+ * @returns {boolean} whether it is such a step
  */
 function needsDirect(frames) {
   const isOfRecorder = (/** @type {string} */ file) => file.startsWith(LEARNING) || file.startsWith(STATE);
@@ -216,7 +229,7 @@ function needsDirect(frames) {
   const isCall = fileOf(frames[at]) === ATOMICS && rest.length === 0;
   const isElement = fileOf(frames[at]) === ELEMENTS && /\bget$/.test(frames[at].getFunctionName() ?? "");
   const isStep = rest.every((site) => fileOf(site) === ITERATORS);
-  if (isCall || (isElement && isStep)) return;
+  if (isCall || (isElement && isStep)) return rest.length > 0;
   const first = isElement ? rest.find((site) => fileOf(site) !== ITERATORS) : frames[at];
   const name = first?.getFunctionName() ?? "a function";
   throw new CantShow(`${name} of ${fileOf(first).replace(LIBRARY, "")}, which may have more to do`);

@@ -6,9 +6,23 @@ import { takeStep } from "./loop-steps.mjs";
 
 /** @typedef {Record<string, Function>} Stands by the names of what they stand for */
 
+/** @type {[object, string, Function][]} the engine's functions that others stand for */
+const engines = [];
+
 /** @param {object} owner @param {Stands} stands */
 function install(owner, stands) {
-  for (const [name, stand] of Object.entries(stands)) replace(owner, name, () => stand);
+  for (const [name, stand] of Object.entries(stands)) {
+    replace(owner, name, (engine) => {
+      engines.push([owner, name, engine]);
+      return stand;
+    });
+  }
+}
+
+/** Puts the engine's functions back: a prelude that is loaded next takes them. */
+export function removeLoops() {
+  for (const [owner, name, engine] of engines) replace(owner, name, () => engine);
+  engines.length = 0;
 }
 
 /**

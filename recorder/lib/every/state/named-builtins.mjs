@@ -5,8 +5,10 @@ import { EventEmitter } from "node:events";
 import { types } from "node:util";
 import { CONSTRUCTORS } from "../../../script/kinds.mjs";
 import { isObject } from "../../primordials.mjs";
+import { EVENT_CLASSES, eventKeys, eventMaps } from "./event-objects.mjs";
 import { intlConstructors } from "./intl-objects.mjs";
 import { intrinsics } from "./intrinsics.mjs";
+import { ofMatches } from "./match-iteration.mjs";
 
 /** Prototypes of which objects keep nothing that isn't shown. */
 const PLAIN = [
@@ -56,7 +58,7 @@ export class NamedBuiltins {
   constructor() {
     /** @type {Map<object | symbol, string>} by the objects and symbols */
     this.names = new Map();
-    this.plain = new Set(PLAIN.map(({ prototype }) => prototype));
+    this.plain = new Set([...[...PLAIN, ...EVENT_CLASSES].map(({ prototype }) => prototype), eventMaps]);
     /** @type {KnownObject[]} what they had at first */
     this.had = [];
     /** @type {[object, string][]} */
@@ -90,6 +92,9 @@ export class NamedBuiltins {
     for (const [object, name] of intrinsics()) this.add(object, name);
     // Proxies stand for these functions.
     this.add(Date.prototype, "globalThis.Date.prototype");
+    this.add(ofMatches, "the engine's regExpStringIterator");
+    this.add(eventMaps, "a map of EventTarget");
+    for (const key of eventKeys) this.add(key, `key of AbortSignal ${String(key)}`);
     for (const [name, engine] of intlConstructors()) this.add(engine, `globalThis.Intl.${name}`);
     this.#addMembers(Symbol, "globalThis.Symbol");
     for (const make of WITH_SYMBOLS) for (const key of Reflect.ownKeys(make())) this.add(key, "key of node's");

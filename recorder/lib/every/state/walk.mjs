@@ -7,6 +7,7 @@ import { slotOf } from "../../primordials.mjs";
 import { hexOf } from "../search/raw-elements.mjs";
 import { boundOf } from "./bound-functions.mjs";
 import { hadOtherPrototype } from "./first-prototypes.mjs";
+import { signalOf } from "./event-objects.mjs";
 import { intlOf } from "./intl-objects.mjs";
 import { LoopSteps } from "./loop-steps.mjs";
 import { CantShow, boxedIn, bytesIn, isResizable, objectKind, numberText, patternOf, timeOf } from "./object-kinds.mjs";
@@ -355,7 +356,9 @@ export class Walk {
     const name = prototype === null ? undefined : this.builtins.nameOf(prototype);
     const isTyped = anyWatchedOf(object) !== undefined || ArrayBuffer.isView(object);
     const isOfPlain = this.builtins.plain.has(/** @type {any} */ (prototype));
-    const isPlain = name === undefined || isTyped || isOfPlain || types.isAnyArrayBuffer(object)
+    const signal = isOfPlain || name === undefined ? undefined : signalOf(object);
+    if (signal !== undefined) this.value(signal);
+    const isPlain = name === undefined || isTyped || isOfPlain || types.isAnyArrayBuffer(object) || signal !== undefined
       || iterationOf(object) !== undefined || intlOf(object) !== undefined;
     if (!isPlain && typeof object !== "function") throw new CantShow(`an object of ${name}`);
     this.value(prototype);
