@@ -167,7 +167,7 @@ function installReplacements() {
   if (clock === "run") simulateTime(() => (isRecording() ? playing().look() : 0));
   simulateChance(chance);
   // Else each small one has a place in memory that they share, which goes by all that were made before.
-  Buffer.poolSize = 0;
+  /** @type {any} */ (Buffer).poolSize = 0;
   if (ordinary === "watch") watchOrdinary(watching);
   else watchWaysOut(watching);
   watchMaking(unseen);

@@ -73,8 +73,9 @@ export class Player {
    * @param {(thrown: unknown) => string} described
    */
   serve(body, described) {
-    const { board, later } = this.context;
+    const { board, chance, later } = this.context;
     let problem;
+    chance.begin(board.clock.seed());
     later.begin();
     try {
       const answer = body();

@@ -93,7 +93,8 @@ class Referee {
   }
 
   /**
-   * Learns by pilots where agents meet. A module has other workers afterwards, so that it doesn't remember pilots. A program's threads are kept from run to run, and so from pilots.
+   * Learns by pilots where agents meet. A module has other workers afterwards, so that it doesn't remember pilots. A
+   * program's threads are kept from run to run, and so from pilots.
    */
   async #learn() {
     const { maker, maker: { board, log, state }, options: { kind } } = this;

@@ -227,6 +227,8 @@ export class RunMaker {
   #clear(wanted) {
     this.state.begin();
     this.board.row.begin(wanted);
+    // `init` may look at the clock, and draw by the seed.
+    this.board.clock.begin(wanted.seed);
     this.log.begin();
     this.stores.begin();
     this.board.journal.begin();

@@ -160,6 +160,29 @@ function* compared(loops, engine, count) {
   }
 }
 
+/** @param {Function} sort @param {number[]} list @returns {string} what it compares, and returns */
+function sortedBy(sort, list) {
+  /** @type {number[][]} */
+  const pairs = [];
+  const made = sort.call([...list], (/** @type {number} */ one, /** @type {number} */ other) => {
+    pairs.push([one, other]);
+    return (one >> 2) - (other >> 2);
+  });
+  return JSON.stringify([pairs, made]);
+}
+
+/** @param {Record<string, Function>} loops @yields {string} lists for which they compare others than the engine */
+function* sortsCompared({ sort, toSorted }) {
+  const random = new Case(1);
+  for (let length = 0; length < 140; length += 1) {
+    const list = Array.from({ length: length >> 1 }, () => random.number(length));
+    const engines = /** @type {any} */ (list);
+    for (const [mine, engine] of [[sort, engines.sort], [toSorted, engines.toSorted]]) {
+      if (sortedBy(mine, list) !== sortedBy(engine, list)) yield `sort of ${list}`;
+    }
+  }
+}
+
 const graph = new AgentModules(PLATFORM);
 graph.take(PRELUDE);
 const { arrayLoops, typedLoops, mapLoops, setLoops, arrayMakers } = /** @type {any} */ (
@@ -168,5 +191,5 @@ const { count } = workerData;
 parentPort?.postMessage([
   ...compared(arrayLoops, Array.prototype, count), ...compared(typedLoops, TypedArray.prototype, count),
   ...compared(mapLoops, Map.prototype, count), ...compared(setLoops, Set.prototype, count),
-  ...compared(arrayMakers, Array, count),
+  ...compared(arrayMakers, Array, count), ...sortsCompared(arrayLoops),
 ]);

@@ -242,6 +242,25 @@ describe("init and check", { concurrency: 2 }, () => {
     }
   });
 
+  it("what init draws, and the time that it sees, are those of the seed, whatever ran before", async (context) => {
+    const module = moduleOf(context, `
+      export const setup = { agents: 2, buffers: [16] };
+      export const init = ([buffer]) => {
+        new Int32Array(buffer).set([Math.random() * 2 ** 31, performance.now(), Date.now() / 1000], 1);
+      };
+      export default ({ buffers: [buffer] }) => {
+        const words = new Int32Array(buffer);
+        Atomics.wait(words, 0, 0, 500 * Math.random());
+      };
+    `);
+    for (const everywhere of [true, false]) {
+      const all = await recorded({ module, agents: 2, everywhere }, seedsTo(3));
+      const [alone] = await recorded({ module, agents: 2, everywhere }, [3]);
+      assert.deepEqual(alone.bytes, all[2].bytes);
+      assert.notDeepEqual(all[0].bytes, all[2].bytes);
+    }
+  });
+
   it("a process that ends in init is said to be its worker's", async (context) => {
     const module = moduleOf(context, `
       export const setup = { agents: 2, buffers: [8] };

@@ -44,6 +44,8 @@ const CHANGES = [
   "util.inherits(Math.max, Array)", "util.inspect.colors.more = 1", "util.inspect.defaultOptions.depth = 1",
   "util.inspect.defaultOptions = {}", "assert.more = 1", "path.posix.more = 1",
   "EventEmitter.prototype.on.call(Math, 'a', () => {})", "EventEmitter.defaultMaxListeners = 1",
+  "Array.from.call(function made() { return URIError; }, [1])",
+  "Array.of.call(function made() { return URIError; }, 1)",
   "new EventEmitter().constructor.prototype.more = 1", "(() => 0).constructor.more = 1", "fs.more = 1",
 ];
 
@@ -67,7 +69,8 @@ const REACHES = [
   "new MessageChannel()", "WebAssembly.Module()", "AbortSignal.timeout(1)", "new Event('a').timeStamp",
   "new Intl.DateTimeFormat().format()", "new Intl.DateTimeFormat().formatToParts()", "performance.now()",
   "performance.mark('a')", "Date.now()", "new Date()", "Math.random()", "Buffer.allocUnsafe(1)",
-  "new TextDecoder().decode(new Uint8Array(1), { stream: true })", "util.debuglog('a', () => {})", "threads.threadId", "threads.parentPort.on", "new threads.Worker('')",
+  "new TextDecoder().decode(new Uint8Array(1), { stream: true })", "util.debuglog('a', () => {})",
+  "threads.threadId", "threads.parentPort.on", "new threads.Worker('')",
   "hooks.performance.now()", "hooks.monitorEventLoopDelay()", "randomBytes(1)", "fs.readFileSync.name",
   "fs.readFileSync('a')", "EventEmitter.setMaxListeners(1)", "EventEmitter.on.name", "os.cpus()", "timers.setTimeout()",
   "new FinalizationRegistry(() => {}).unregister({})", "new console.Console()", "console._stdout",
@@ -133,6 +136,9 @@ const ALLOWED = {
   "typeof new FinalizationRegistry(() => {}).register({}, 1)": "'undefined'",
   "const { exit } = process; return typeof exit": "'function'",
   "util.format('%d', 1)": "'1'",
+  "Array.from.call((n) => n, [1, 2]).length": "2",
+  "(class More extends Array {}).from([1, 2]).constructor.name": "'More'",
+  "Array.of.call(function made(n) { this.n = n; }, 4, 5).n": "2",
   "util.debuglog('a')('%s', 1) ?? util.debug('b').enabled": "false",
   "util.deprecate((n) => n + 1, 'a')(1)": "2",
 };

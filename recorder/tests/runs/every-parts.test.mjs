@@ -72,7 +72,7 @@ export const check = ([buffer]) => {
   assert.deepEqual(details.map((detail) => isShownBy(finding, ran(detail))), [true, false, false]);
 });
 
-test("what `init` and `check` keep is theirs: agents see nothing of it, and they nothing of agents", async (context) => {
+test("what `init` and `check` keep is theirs, and what agents keep is the agents'", async (context) => {
   const module = moduleOf(context, `let kept = 0;
 export const setup = { agents: 2, buffers: [8] };
 export const init = () => { kept = 4; };

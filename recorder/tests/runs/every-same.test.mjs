@@ -185,6 +185,12 @@ export const b = (x) => (x === 0 ? "b" + late : a(x - 1));
 export const early = a(0);
 export let got;
 try { got = late; } catch (e) { got = e.message; }`],
+  "defaults without names, which are there before their modules run": [`import { got } from "./b.mjs";
+import self from "./a.mjs";
+export default function (say) { say(got, self.name, self.length, self === got[1]); }`, `import a from "./a.mjs";
+import c from "./c.mjs";
+export const got = [a.name, a, c.name, [...c()], typeof c];`, `import "./b.mjs";
+export default function*() { yield 1; yield 2; }`],
   "defaults, and names that are texts": [`import f, { set, "a b" as ab, q } from "./b.mjs";
 export default (say) => { say(f.name, ab, q); set(); say(typeof f, ab); };`, `let v = 1;
 export { v as "a b" };

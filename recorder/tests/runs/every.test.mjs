@@ -115,6 +115,9 @@ const learned = (path, more = {}) => learnApart({
   module: pathToFileURL(path).href, args: [], place: {}, timeouts: "early", limit: 10_000, within: 60, ...more,
 }, { seconds: 10 });
 
+/** What the engine makes of a list is an object of the language. */
+const SPECIES = "const made = [1]; made.constructor = { [Symbol.species]: function give() { return JSON; } };";
+
 test("what can't be learned is refused, with its line", async (context) => {
   for (const [text, wanted] of /** @type {[string, RegExp][]} */ ([
     [LOADS("Math.random();"), /it asks for a random number, at agents\.mjs:5:8$/],
@@ -139,6 +142,12 @@ test("what can't be learned is refused, with its line", async (context) => {
     [LOADS("const f = () => 1;\n  f(self, Atomics.load(words, 1)).leave();"), /was rewritten, at agents\.mjs:6:35$/],
     [LOADS("let all;\n  for (const one of all) Atomics.load(words, one);"), /was rewritten, at agents\.mjs:6:21$/],
     [LOADS("Math.max(...Atomics.load(words, 1));"), /names code that was rewritten, at agents\.mjs:5:15$/],
+    [LOADS(`${SPECIES} made.slice();`), /it changes `JSON`, an object of the language or of node, at agents\.mjs:5:/],
+    [LOADS(`${SPECIES} made.flat();`), /it changes `JSON`, an object of the language or of node, at agents\.mjs:5:/],
+    [LOADS("throw { get message() { return Atomics.load(words, 1); } };"), /put into words, at agents\.mjs:5:42$/],
+    [LOADS("throw { get message() { words[1] = 1; return ''; } };"), /when it is put into words, at its end$/],
+    [LOADS("function f() { var g = 1; function g() {} }"), /agents\.mjs:5:3: `g`, which a function declares twice$/],
+    [LOADS("function f() { function g() {} function g() {} }"), /`g`, which a function declares twice$/],
     [LOADS("Array.prototype.push = 1;"), /`Array\.prototype`, an object of the language or of node, at .*:5:3$/],
     [`import { readFileSync as f } from "node:fs";\n${LOADS("f('a');")}`, /`node:fs\.readFileSync`, at .*:6:\d+$/],
   ])) {
@@ -146,6 +155,18 @@ test("what can't be learned is refused, with its line", async (context) => {
   }
   const module = moduleOf(context, LOADS("Math.random();"));
   await assert.rejects(everySchedule({ module, seeds: 1 }), { constructor: Refused, message: /, at agents\.mjs:5:8$/ });
+});
+
+test("an agent may change what it is given", async (context) => {
+  const module = moduleOf(context, `export const setup = { agents: 2, buffers: [16] };
+export default (given) => {
+  given.agent += given.agents + given.args.length + Object.keys(given).indexOf("agent");
+  const words = new Int32Array(given.buffers[0]);
+  Atomics.store(words, given.agent - 3, 7);
+};`);
+  const { closed, found, finals } = await everySchedule({ ...FEW_WORKERS, module, seeds: 2 });
+  assert.deepEqual([closed, found, finals.length], [true, [], 1]);
+  assert.match(finals[0].blocks[0], /^0700000007000000/);
 });
 
 test("what a module throws is learned as it is written", async (context) => {

@@ -5,7 +5,7 @@ import { basename } from "node:path";
 import { fileURLToPath } from "node:url";
 import { Script } from "node:vm";
 import { Refused } from "../../options/refused.mjs";
-import { apply } from "../../primordials.mjs";
+import { apply, defineProperty } from "../../primordials.mjs";
 import { parseScript, resolveModule } from "../../program/node/internals.mjs";
 import { ModuleText } from "../rewriting/module-text.mjs";
 import { rewritten } from "../rewriting/rewrite.mjs";
@@ -20,6 +20,9 @@ import { fillNamespace } from "./module-namespace.mjs";
  * @property {Function} make its function
  * @property {(string | object)[]} imports the URLs of the modules that it imports, and what node's own export
  */
+
+/** @param {Function} fn a module's default, which is declared without a name */
+const named = (fn) => void defineProperty(fn, "name", { value: "default" });
 
 /** Lets a generator go on, whatever the agents' code does to generators. */
 const { next } = Object.getPrototypeOf(Object.getPrototypeOf((function* none() {})()));
@@ -100,7 +103,7 @@ export class AgentModules {
       const others = imports.map((one) => (typeof one === "string" ? exports.get(one) : one));
       /** @type {(getters: Getters, stars: number[]) => void} */
       const exported = (getters, stars) => fillNamespace(own, getters, stars.map((at) => others[at]));
-      return make(calls, { imports: others, exported });
+      return make(calls, { imports: others, exported, named });
     });
     // At first all functions are there that modules declare, and what they export. Then each runs.
     for (const body of [...begun, ...begun]) apply(next, body, []);

@@ -30,6 +30,7 @@ const MOST_CAUGHT = 10_000;
 const PUTS = "--all can't learn what the agents do: one gives the object of a buffer a property or another prototype";
 const GOES_ON = "it goes on later, by a promise";
 const LEAVES_REJECTED = "it leaves a rejected promise, which nobody handles";
+const CALLS_WHEN_SHOWN = "what it throws uses shared memory again when it is put into words";
 const REPLACES_NEXT = "it has replaced the `next` of all iterators of arrays";
 const { prototype: ofBuffers } = SharedArrayBuffer;
 
@@ -134,6 +135,23 @@ export class Asker {
       this.run = undefined;
       if (hadOtherNext()) this.refused ??= new CantLearn(cantText(REPLACES_NEXT, "its end"), true);
       if (isAny(this.buffers, hasMore)) this.refused ??= new CantLearn(PUTS, true);
+      if (this.refused !== undefined) throw this.refused;
+    }
+  }
+
+  /**
+   * Puts into words what an agent has thrown, which may run its code.
+   * @param {() => string} describe
+   * @returns {string}
+   * @throws {CantLearn} if it makes a call then
+   */
+  describing(describe) {
+    this.run = { answer: () => this.refuse(CALLS_WHEN_SHOWN) };
+    try {
+      return describe();
+    } finally {
+      this.run = undefined;
+      if (this.writing !== undefined) this.#stop(CALLS_WHEN_SHOWN, "its end");
       if (this.refused !== undefined) throw this.refused;
     }
   }

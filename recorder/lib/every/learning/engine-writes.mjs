@@ -3,7 +3,9 @@
 
 import nodeUtil from "node:util";
 import { methodOf, replace, replaceEach } from "../../agent/ordinary/patch.mjs";
-import { apply, defineProperty, getOwnPropertyDescriptor, likeEngine } from "../../primordials.mjs";
+import {
+  apply, construct, defineProperty, getOwnPropertyDescriptor, likeEngine, proxyOf,
+} from "../../primordials.mjs";
 import { OWN_NAMES } from "../rewriting/naming.mjs";
 import { takesAccessor } from "../state/installed.mjs";
 import { own } from "../state/own-objects.mjs";
@@ -35,6 +37,9 @@ const OF_SELF = [
   [Object.prototype, ["__defineGetter__", "__defineSetter__"]],
 ];
 
+/** Methods of arrays that change what they return, which a constructor of the agents' own may have made. */
+const OF_RESULT = ["concat", "filter", "flat", "flatMap", "map", "slice", "splice"];
+
 /** @type {import("../../agent/ordinary/patch.mjs").StandInMaker} */
 const checksFirst = (engine) => methodOf((self, given) => {
   own(given[0]);
@@ -45,6 +50,32 @@ const checksFirst = (engine) => methodOf((self, given) => {
 
 /** @type {import("../../agent/ordinary/patch.mjs").StandInMaker} */
 export const checksSelf = (engine) => methodOf((self, given) => apply(engine, own(self), given), engine);
+
+/** @type {import("../../agent/ordinary/patch.mjs").StandInMaker} */
+const checksResult = (engine) => methodOf((self, given) => own(apply(engine, self, given)), engine);
+
+/** @param {any} value @returns {boolean} whether `new` takes it: its own code doesn't run */
+function isConstructor(value) {
+  try {
+    construct(proxyOf(value, { construct: () => ({}) }), []);
+    return true;
+  } catch {
+    return false;
+  }
+}
+
+/**
+ * A function that changes what the constructor makes that it is called on.
+ * @type {import("../../agent/ordinary/patch.mjs").StandInMaker}
+ */
+const checksMade = (engine) => methodOf((self, given) => {
+  if (self === Array || !isConstructor(self)) return apply(engine, self, given);
+  /** @param {unknown[]} words */
+  const made = function made(...words) {
+    return own(construct(self, words));
+  };
+  return apply(engine, made, given);
+}, engine);
 
 /** @param {any} owner @param {string | symbol} key of an accessor, whose setter changes what it is called on */
 function checkSetter(owner, key) {
@@ -105,6 +136,8 @@ export function checkEngineWrites(refuse) {
   replace(Object.prototype, "__defineGetter__", takesAccessor);
   replace(Object.prototype, "__defineSetter__", takesAccessor);
   for (const [owner, names] of OF_SELF) replaceEach(owner, names, checksSelf);
+  replaceEach(Array.prototype, OF_RESULT, checksResult);
+  replaceEach(Array, ["from", "of"], checksMade);
   checkSetter(Object.prototype, "__proto__");
   const { Iterator: iterators } = /** @type {any} */ (globalThis);
   for (const key of ["constructor", Symbol.toStringTag]) checkSetter(iterators?.prototype, key);

@@ -7,7 +7,7 @@ import { Refused } from "../../options/refused.mjs";
 import { NamedBuiltins } from "../state/named-builtins.mjs";
 import { Capture } from "../state/capture.mjs";
 import { beginInstalled, numberOf } from "../state/installed.mjs";
-import { installLoops } from "../state/installed-loops.mjs";
+import { installLoops, removeLoops } from "../state/installed-loops.mjs";
 import { guardOwn } from "../state/own-objects.mjs";
 import { Runtime } from "../state/runtime.mjs";
 import { knowFirstPrototypes } from "../state/first-prototypes.mjs";
@@ -79,6 +79,11 @@ export class LearnedCode {
     return this.capture.here(keyOf(asked));
   }
 
+  /** @returns {boolean} whether the agent may go on otherwise than if its state had not been shown */
+  hasChanged() {
+    return this.capture.hasChanged;
+  }
+
   /** @returns {string} the file, line and column at which an agent asks for something now */
   line() {
     return this.capture.line();
@@ -118,7 +123,8 @@ export class LearnedCode {
 
   #kept() {
     try {
-      return this.capture.modules();
+      const kept = this.capture.modules();
+      return this.capture.hasChanged ? undefined : kept;
     } catch (why) {
       if (!(why instanceof CantShow)) throw why;
       return undefined;
@@ -139,6 +145,7 @@ export function loadCode(url, asker, platform, flaw) {
   guardOwn(undefined);
   const runtime = new Runtime();
   const own = new AgentModules(platform);
+  removeLoops();
   own.take(PRELUDE);
   const prelude = /** @type {any} */ (own.made(runtime.calls).get(PRELUDE));
   installLoops(prelude);

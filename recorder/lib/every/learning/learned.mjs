@@ -62,10 +62,11 @@ export class Learned {
     const lineOfError = (/** @type {Error} */ error) => code.lineOf(error);
     const own = {
       agentNow: () => code.agentNow(), line: () => code.line(), place: () => code.place(), lineOfError, key,
+      hasChanged: () => code.hasChanged(),
     };
     const learner = new Learner(asker, agents, own);
     // Each automaton has its own, so it need not be gone through.
-    code.builtins.names.set(learner.number, "number");
+    code.builtins.names.set(learner.number, "number").set(learner.changesNumber, "changesNumber");
     return learner;
   }
 

@@ -41,6 +41,7 @@ const NAMES_REWRITTEN = "it throws an error whose message names code that was re
  * @property {(error: Error) => string} [lineOfError] where an error of agents was made
  * @property {(asked: AskedNode) => string} [key] shows the state of the agent that asks, and throws CantShow if it
  * can't; without, no two histories are one node
+ * @property {() => boolean} [hasChanged] whether the agent may go on otherwise than if its state had not been shown
  */
 
 /** @typedef {{ nodes: number, line: string }} HiddenKind how many nodes, and the line of the first one */
@@ -53,7 +54,8 @@ export class Learner {
    * @param {Agents} agents
    * @param {AgentCode} code
    */
-  constructor(asker, agents, { agentNow, line, place = () => -1, lineOfError = line, key }) {
+  constructor(asker, agents, code) {
+    const { agentNow, line, place = () => -1, lineOfError = line, key, hasChanged = () => false } = code;
     this.asker = asker;
     this.agents = agents;
     this.agentNow = agentNow;
@@ -61,6 +63,7 @@ export class Learner {
     this.place = place;
     this.lineOfError = lineOfError;
     this.key = key;
+    this.hasChanged = hasChanged;
     /** @type {Node[]} of all automata */
     this.nodes = [];
     /** @type {Map<Node, NodeOrigin>} */
@@ -81,6 +84,9 @@ export class Learner {
     this.number = () => {
       this.looksAtNumber = true;
       return this.agent;
+    };
+    this.changesNumber = () => {
+      this.looksAtNumber = true;
     };
     /** @type {(Node | undefined)[]} by automaton */
     this.roots = [];
@@ -163,8 +169,9 @@ export class Learner {
     const fn = this.agentNow();
     this.runs += 1;
     this.agent = agent;
-    const given = { buffers: [...asker.buffers], agents: agents.count, args: [...agents.args] };
-    defineProperty(given, "agent", { get: this.number, enumerable: true, configurable: true });
+    const given = { buffers: [...asker.buffers], agent, agents: agents.count, args: [...agents.args] };
+    const noticed = { get: this.number, set: this.changesNumber, enumerable: true, configurable: true };
+    if (agents.isShared) defineProperty(given, "agent", noticed);
     return asker.watched(PART.AGENT, () => this.#ended(run, () => fn(given)));
   }
 
@@ -185,7 +192,7 @@ export class Learner {
 
   /** @param {unknown} thrown by the agent @returns {string} without its stack */
   #titleOf(thrown) {
-    const title = thrownText(thrown);
+    const title = this.asker.describing(() => thrownText(thrown));
     if (!namesRewritten(thrown, title)) return title;
     throw new CantLearn(cantText(NAMES_REWRITTEN, this.lineOfError(/** @type {Error} */ (thrown))), true);
   }
@@ -286,7 +293,8 @@ class Growing {
     if (!isNew && this.made.has(node)) node.isAlone = true;
     if (isNew && !isOfCall) this.made.add(node);
     this.isHead = false;
-    return isNew ? this.#further(node, isOfCall) : undefined;
+    const goesOn = isNew && !(isCompared && this.learner.hasChanged());
+    return goesOn ? this.#further(node, isOfCall) : undefined;
   }
 
   /**

@@ -12,6 +12,7 @@ import { watchInstalled } from "../state/installed.mjs";
 import { watchBinding } from "../state/bound-functions.mjs";
 import { watchPrototypes } from "../state/first-prototypes.mjs";
 import { watchIntl } from "../state/intl-objects.mjs";
+import { watchSymbols } from "../state/made-symbols.mjs";
 import { knowPromises } from "../state/promises.mjs";
 import { watchWeak } from "../state/weak-entries.mjs";
 import { standForIterators } from "../state/shown-iterators.mjs";
@@ -71,6 +72,7 @@ export function installShown() {
   watchWeak();
   watchBinding();
   watchIntl();
+  watchSymbols();
   knowNext();
   syncBuiltinESMExports();
 }

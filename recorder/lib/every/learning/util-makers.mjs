@@ -2,7 +2,8 @@
 
 import nodeProcess from "node:process";
 import nodeUtil from "node:util";
-import { apply, defineProperty, likeEngine } from "../../primordials.mjs";
+import { methodOf, replace } from "../../agent/ordinary/patch.mjs";
+import { apply, defineProperty, getPrototypeOf, hasOwn, likeEngine } from "../../primordials.mjs";
 import { noteMade } from "../state/bound-functions.mjs";
 
 /** @type {any} */
@@ -17,6 +18,23 @@ function silentLog() {
   return logger;
 }
 
+const { promisify: { custom }, types: { isProxy } } = util;
+
+/** @param {unknown} fn @returns {boolean} whether it may say itself what its version with a promise is */
+function hasOwnVersion(fn) {
+  for (let at = /** @type {any} */ (fn); at !== null; at = getPrototypeOf(at)) {
+    if (isProxy(at) || hasOwn(at, custom)) return true;
+  }
+  return false;
+}
+
+/** @param {Function} engine */
+const promisifying = (engine) => methodOf((self, given) => {
+  const isNoted = typeof given[0] === "function" && !hasOwnVersion(given[0]);
+  const made = apply(engine, self, given);
+  return isNoted ? noteMade(made, "promisify", given[0]) : made;
+}, engine);
+
 /**
  * @param {(what: string) => never} refuse
  * @returns {Record<string, Function>} by their names
@@ -29,5 +47,7 @@ export function utilMakers(refuse) {
   }, engineLog);
   const deprecate = likeEngine((/** @type {unknown[]} */ ...given) =>
     noteMade(apply(engineDeprecate, util, given), "deprecate", given[0]), engineDeprecate);
-  return { debug: debuglog, debuglog, deprecate };
+  const stands = { debug: debuglog, debuglog, deprecate, promisify: util.promisify };
+  replace(stands, "promisify", promisifying);
+  return stands;
 }

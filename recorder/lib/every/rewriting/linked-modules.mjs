@@ -15,8 +15,10 @@ import { namesIn } from "./tree.mjs";
  * @property {Set<string>} exported the names of its own bindings that it exports
  */
 
-/** The name of what a module exports as its default, if that is an expression. */
+/** The name of what a module exports as its default, if that has no name. */
 export const DEFAULT = "$default";
+
+const NAMES_DEFAULT = ` $m.named(${DEFAULT});`;
 
 /** @param {Tree} name an identifier or a string @returns {string} */
 const nameOf = (name) => name.name ?? name.value;
@@ -34,6 +36,8 @@ class Linker {
     this.exports = [];
     /** @type {number[]} of which imports all is exported */
     this.stars = [];
+    /** Whether its default is a function that is declared without a name. */
+    this.isDeclared = false;
     /** @type {[number, number][]} what is left out of the text */
     this.left = [];
   }
@@ -95,6 +99,13 @@ class Linker {
     }
     this.exports.push(["default", DEFAULT]);
     const { source } = this.analysis;
+    if (declaration.type === "FunctionDeclaration") {
+      // It is there before the module runs.
+      this.edits.before(positionOutsideComments(source, "(", declaration.start), ` ${DEFAULT}`);
+      this.remove(statement, declaration.start);
+      this.isDeclared = true;
+      return;
+    }
     const behind = positionOutsideComments(source, "default", start) + "default".length;
     this.edits.replace(start, behind - start, `const ${DEFAULT} = ({ "default": `);
     const isEnded = source[end - 1] === ";";
@@ -131,7 +142,7 @@ export function linked(analysis, edits) {
   const getters = exports.map(([name, local]) => `${JSON.stringify(name)}: () => ${imported.get(local) ?? local}`);
   return {
     imports,
-    begins: `$m.exported({ ${getters.join(", ")} }, [${stars.join(", ")}]);`,
+    begins: `$m.exported({ ${getters.join(", ")} }, [${stars.join(", ")}]);${linker.isDeclared ? NAMES_DEFAULT : ""}`,
     exported: new Set(exports.map(([, local]) => local)),
   };
 }

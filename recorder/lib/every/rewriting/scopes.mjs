@@ -112,6 +112,8 @@ export class Scope {
     this.names = new Map();
     this.start = tree.start;
     this.end = tree.end;
+    /** @type {string | undefined} a function's name that is declared once more */
+    this.repeated = undefined;
     /** From which place of the text on there is what shows its names. */
     this.visibleFrom = tree.start;
   }
@@ -124,6 +126,7 @@ export class Scope {
   /** @param {string} name @param {BindingKind} kind */
   declare(name, kind) {
     const known = this.names.get(name);
+    if (known?.kind === "function") this.repeated ??= name;
     if (known === undefined) this.names.set(name, new Binding(name, kind, this, this.names.size));
     else if (kind === "function") known.kind = kind;
     else if (kind === "var") known.isAssigned = true;

@@ -7,6 +7,7 @@ import { positionOutsideComments } from "./comments.mjs";
 import { Edits } from "./source-edits.mjs";
 import { EXPRESSIONS } from "./expressions.mjs";
 import { NAME_OF_KEY, givingName, namesOfFunctions } from "./function-names.mjs";
+import { DEFAULT } from "./linked-modules.mjs";
 import { STATEMENTS, WITHOUT_FRAME } from "./statements.mjs";
 import { childrenOf, isClass, isConstant, isFunction, isMethod, runsCode } from "./tree.mjs";
 import { WriteGuards } from "./write-guards.mjs";
@@ -209,8 +210,8 @@ export class CodeWriter {
   declaredIn(statements) {
     return statements.flatMap((statement) => {
       const tree = /^Export/.test(statement.type) ? statement.declaration : statement;
-      const isNamed = tree?.type === "FunctionDeclaration" && tree.id;
-      return isNamed ? [this.registering(this.infoOf(tree)).join(tree.id.name)] : [];
+      if (tree?.type !== "FunctionDeclaration") return [];
+      return [this.registering(this.infoOf(tree)).join(tree.id?.name ?? DEFAULT)];
     });
   }
 
@@ -256,8 +257,7 @@ export class CodeWriter {
   #writeFunction(tree, isMethodsValue) {
     const { edits } = this;
     const info = this.infoOf(tree);
-    const isStatement = tree.type === "FunctionDeclaration" && tree.id;
-    if (!isStatement && !isMethodsValue) {
+    if (tree.type !== "FunctionDeclaration" && !isMethodsValue) {
       const name = this.names.get(tree);
       const [before, after] = givingName(name);
       const [begins, ends] = this.registering(info, name === NAME_OF_KEY);
@@ -266,6 +266,7 @@ export class CodeWriter {
     }
     this.withoutVariables(() => this.writeAll(tree.params, null));
     const frame = info.isHidden ? null : info;
+    if (frame) this.#needsDeclaredOnce(tree);
     // The number in the comment is found in the function's text.
     const enters = `const $f = $R.enter(${info.id}, ${this.cells(info)}); try {`;
     const shown = `${this.#argumentsOf(tree)}${this.#environmentsOf(tree, frame)}`;
@@ -286,6 +287,16 @@ export class CodeWriter {
         this.write(tree.body, frame);
       });
     }
+  }
+
+  /**
+   * In the braces of a function with a frame there is a block.
+   * @param {Tree} tree
+   */
+  #needsDeclaredOnce(tree) {
+    const { own } = this.analysis;
+    const repeated = (own.get(tree.body) ?? own.get(tree))?.repeated;
+    if (repeated !== undefined) this.analysis.refuse(tree, `\`${repeated}\`, which a function declares twice`);
   }
 
   /** @param {Tree} tree a function @returns {string} what its `arguments` get, if it uses them */

@@ -20,6 +20,7 @@ const LIBRARY = new URL("../../", import.meta.url).href;
 const ELEMENTS = new URL("../../agent/ordinary/watched-elements.mjs", import.meta.url).href;
 const ATOMICS = new URL("../../agent/atomics.mjs", import.meta.url).href;
 const LEARNING = new URL("../learning/", import.meta.url).href;
+const PRELUDE = new URL("./prelude.mjs", import.meta.url).href;
 const STATE = new URL("./", import.meta.url).href;
 const ITERATORS = new URL("./shown-iterators.mjs", import.meta.url).href;
 
@@ -42,6 +43,8 @@ export class Capture {
     this.places = new Map();
     /** The number of the place at which an agent is whose state was asked for last. */
     this.place = -1;
+    /** Whether showing what there is, the last time, may have changed what agents find later. */
+    this.hasChanged = false;
   }
 
   /** @returns {Walk} */
@@ -53,7 +56,16 @@ export class Capture {
   modules() {
     const walk = this.#walk();
     this.#putModules(walk);
-    return walk.text();
+    return this.#text(walk);
+  }
+
+  /** @param {Walk} walk @returns {string} */
+  #text(walk) {
+    try {
+      return walk.text();
+    } finally {
+      this.hasChanged = walk.hasReadStack;
+    }
   }
 
   /**
@@ -63,14 +75,15 @@ export class Capture {
    * @throws {CantShow}
    */
   here(asked) {
+    this.hasChanged = false;
     if (this.settings.haveChanged()) throw new CantShow("a setting of node's that was changed");
     const frames = framesHere();
     const walk = this.#walk();
     walk.put(asked);
     let first = 0;
     while (first < frames.length && !this.texts.has(frames[first].getFileName() ?? "")) first += 1;
-    this.#notePlace(frames[first]);
-    needsDirect(frames.slice(0, first));
+    this.#notePlace(frames.find((site) => this.#isOfAgents(fileOf(site))));
+    const isStep = needsDirect(frames.slice(0, first));
     for (const one of readingIterators()) {
       walk.put("|next");
       walk.value(one);
@@ -78,14 +91,19 @@ export class Capture {
     const { stack } = this.runtime;
     const count = stack.length;
     /** @type {Called | undefined} */
-    let called;
+    let called = isStep ? OF_ITERATORS : undefined;
     for (let at = 0; at < count; at += 1) {
       called = this.#putFrame(walk, frames[first + at], stack[count - 1 - at], called);
     }
     const below = frames[first + count]?.getFileName() ?? "";
     if (!below.startsWith(LEARNING)) throw new CantShow("more functions than were seen");
     this.#putModules(walk);
-    return walk.text();
+    return this.#text(walk);
+  }
+
+  /** @param {string} file @returns {boolean} whether it is of the agents: a line of the prelude says nothing to them */
+  #isOfAgents(file) {
+    return this.texts.has(file) && file !== PRELUDE;
   }
 
   /** @param {NodeJS.CallSite | undefined} site at which an agent asks for something */
@@ -106,14 +124,14 @@ export class Capture {
 
   /** @returns {string} the file, line and column at which an agent asks for something now */
   line() {
-    const site = framesHere().find((one) => this.texts.has(one.getFileName() ?? ""));
+    const site = framesHere().find((one) => this.#isOfAgents(fileOf(one)));
     return site === undefined ? NOT_KNOWN : this.#lineAt(site.getFileName() ?? "", site.getPosition());
   }
 
   /** @param {Error} error of an agent @returns {string} the file, line and column at which it was made */
   lineOf(error) {
     const frames = [...String(error.stack).matchAll(/(file:\S+):(\d+):(\d+)/g)];
-    const [, file, line, column] = frames.find(([, name]) => this.texts.has(name)) ?? ["", ""];
+    const [, file, line, column] = frames.find(([, name]) => this.#isOfAgents(name)) ?? ["", ""];
     if (file === "") return NOT_KNOWN;
     const before = this.texts.get(file)?.code.split("\n").slice(0, Number(line) - 1) ?? [];
     return this.#lineAt(file, before.reduce((sum, { length }) => sum + length + 1, 0) + Number(column) - 1);
@@ -151,8 +169,9 @@ export class Capture {
     const position = site.getPosition();
     const place = text.at(position);
     if (place.unknown !== undefined) throw new CantShow(place.unknown);
-    if (called !== undefined) this.#needsOneWay(place, called);
-    else if (place.step === "StepToPattern") throw new CantShow("what a pattern takes apart");
+    if (called === OF_ITERATORS) needsStep(place);
+    else if (called !== undefined) this.#needsOneWay(place, called);
+    else if (place.step !== undefined) throw new CantShow("what the step of a loop has returned");
     const isSame = frame.id === place.fn && site.isConstructor() === place.makes;
     if (!isSame) throw new CantShow("another function than was seen");
     // The text of a stack has these, whether they can be read otherwise or not.
@@ -183,6 +202,17 @@ export class Capture {
   }
 }
 
+/** @type {Called} the step of a loop that is shown, or its `next` */
+const OF_ITERATORS = Object.freeze({ name: "next", id: -1, isAccessor: false });
+
+/**
+ * A step that is shown must be that of a loop which gives a name the value, or a call of `next`.
+ * @param {import("../rewriting/call-sites.mjs").CallSite} place
+ */
+function needsStep({ isAccess, step }) {
+  if (step === "StepToPattern" || isAccess) throw new CantShow("what a pattern takes apart");
+}
+
 /** @param {NodeJS.CallSite | undefined} site @returns {string} */
 const fileOf = (site) => site?.getFileName() ?? "";
 
@@ -190,6 +220,7 @@ const fileOf = (site) => site?.getFileName() ?? "";
  * Above the agents' own functions may only be what a call of Atomics, or the read of an element, begins with, and a
  * step of a loop that is shown: others of the recorder's functions have more to do.
  * @param {NodeJS.CallSite[]} frames
+ * @returns {boolean} whether it is such a step
  */
 function needsDirect(frames) {
   const isOfRecorder = (/** @type {string} */ file) => file.startsWith(LEARNING) || file.startsWith(STATE);
@@ -198,7 +229,7 @@ function needsDirect(frames) {
   const isCall = fileOf(frames[at]) === ATOMICS && rest.length === 0;
   const isElement = fileOf(frames[at]) === ELEMENTS && /\bget$/.test(frames[at].getFunctionName() ?? "");
   const isStep = rest.every((site) => fileOf(site) === ITERATORS);
-  if (isCall || (isElement && isStep)) return;
+  if (isCall || (isElement && isStep)) return rest.length > 0;
   const first = isElement ? rest.find((site) => fileOf(site) !== ITERATORS) : frames[at];
   const name = first?.getFunctionName() ?? "a function";
   throw new CantShow(`${name} of ${fileOf(first).replace(LIBRARY, "")}, which may have more to do`);

@@ -2,7 +2,7 @@
 // is known by its first prototype, which its constructor gives it: so it is noted when such an object gets another one.
 // That makes the walk of values complete for all that the engine or node can make, however it is called.
 
-import { types } from "node:util";
+import nodeUtil from "node:util";
 import { methodOf, replace } from "../../agent/ordinary/patch.mjs";
 import { boundOf } from "./bound-functions.mjs";
 import {
@@ -14,7 +14,7 @@ import {
 const noted = new WeakSet();
 const add = uncurried(WeakSet.prototype.add);
 const has = uncurried(WeakSet.prototype.has);
-const { isProxy } = types;
+const { isProxy } = nodeUtil.types;
 const { prototype: functions } = Function;
 
 /** @type {NamedBuiltins | undefined} what was there before the agents' code */
@@ -43,8 +43,13 @@ function mayKeepMore(object) {
 
 /** @param {unknown} next what a class is to derive from @returns {boolean} whether it may make other objects then */
 function makesMore(next) {
-  if (typeof next !== "function" || next === functions || known?.nameOf(next) === undefined) return false;
-  return known.plain.has(getOwnPropertyDescriptor(next, "prototype")?.value) === false;
+  // A class of the agents' makes what the class makes from which it derives.
+  for (let at = next; typeof at === "function" && at !== functions; at = getPrototypeOf(at)) {
+    const isNamed = known?.nameOf(at) !== undefined;
+    if (isNamed) return known?.plain.has(getOwnPropertyDescriptor(at, "prototype")?.value) === false;
+    if (isProxy(at)) return true;
+  }
+  return false;
 }
 
 /**
@@ -76,6 +81,23 @@ const givingPrototype = (engine) => methodOf((self, given) => {
   return apply(engine, self, given);
 }, engine);
 
+/** @param {any} cls @returns {unknown} its prototype, if it is its own value */
+const prototypeOf = (cls) =>
+  (isObject(cls) && !isProxy(cls) ? getOwnPropertyDescriptor(cls, "prototype")?.value : undefined);
+
+/**
+ * What gives the prototype of one class that of another.
+ * @param {Function} engine
+ */
+const inheriting = (engine) => methodOf((self, given) => {
+  const made = prototypeOf(given[0]);
+  const next = prototypeOf(given[1]);
+  // One that a function reads may be any.
+  if (isObject(made) && isObject(next)) note(made, next);
+  else isAny = true;
+  return apply(engine, self, given);
+}, engine);
+
 /** @param {Function} engine what makes an object, maybe with the prototype of another function than is called */
 const constructing = (engine) => methodOf((self, given) => {
   const made = apply(engine, self, given);
@@ -87,6 +109,7 @@ const constructing = (engine) => methodOf((self, given) => {
 export function watchPrototypes() {
   for (const owner of [Object, Reflect]) replace(owner, "setPrototypeOf", givingPrototype);
   replace(Reflect, "construct", constructing);
+  replace(nodeUtil, "inherits", inheriting);
   const found = /** @type {PropertyDescriptor} */ (getOwnPropertyDescriptor(Object.prototype, "__proto__"));
   const { set } = /** @type {{ set: Function }} */ (/** @type {unknown} */ (found));
   const holder = { set: methodOf((self, given) => {

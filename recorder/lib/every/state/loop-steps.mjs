@@ -32,6 +32,11 @@ class OthersSteps extends LoopSteps {
     this.step = real.next;
   }
 
+  /** @returns {IteratorResult<unknown>} */
+  next() {
+    return apply(this.step, this.real, []);
+  }
+
   get return() {
     const method = this.real.return;
     if (typeof method !== "function") return method;
@@ -47,7 +52,7 @@ class OthersSteps extends LoopSteps {
 let numberOfStep = -1;
 
 /**
- * Takes the function that makes a step: it is rewritten, so that what it calls can be shown.
+ * Takes the function that makes a step in place of the one above: it is rewritten, so that what it calls can be shown.
  * @param {() => IteratorResult<unknown>} next
  */
 export function takeStep(next) {

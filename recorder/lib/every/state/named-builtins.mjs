@@ -5,8 +5,10 @@ import { EventEmitter } from "node:events";
 import { types } from "node:util";
 import { CONSTRUCTORS } from "../../../script/kinds.mjs";
 import { isObject } from "../../primordials.mjs";
+import { EVENT_CLASSES, eventKeys, eventMaps } from "./event-objects.mjs";
 import { intlConstructors } from "./intl-objects.mjs";
 import { intrinsics } from "./intrinsics.mjs";
+import { ofMatches } from "./match-iteration.mjs";
 
 /** Prototypes of which objects keep nothing that isn't shown. */
 const PLAIN = [
@@ -18,6 +20,9 @@ const PLAIN = [
 ].map((one) => /** @type {Function} */ (one));
 
 const KINDS = /** @type {const} */ (["value", "get", "set"]);
+
+/** Objects of node's with symbols that no name leads to. */
+const WITH_SYMBOLS = [() => new EventEmitter(), () => new TextDecoder(), () => new TextEncoder()];
 
 /** V8 reads its limits for stacks in Error itself, and the recorder changes them for a moment. */
 const OF_STACKS = new Set(["stackTraceLimit", "prepareStackTrace"]);
@@ -53,7 +58,7 @@ export class NamedBuiltins {
   constructor() {
     /** @type {Map<object | symbol, string>} by the objects and symbols */
     this.names = new Map();
-    this.plain = new Set(PLAIN.map(({ prototype }) => prototype));
+    this.plain = new Set([...[...PLAIN, ...EVENT_CLASSES].map(({ prototype }) => prototype), eventMaps]);
     /** @type {KnownObject[]} what they had at first */
     this.had = [];
     /** @type {[object, string][]} */
@@ -85,11 +90,19 @@ export class NamedBuiltins {
   take(modules) {
     this.add(globalThis, "globalThis");
     for (const [object, name] of intrinsics()) this.add(object, name);
-    // A proxy stands for the function.
+    // Proxies stand for these functions.
     this.add(Date.prototype, "globalThis.Date.prototype");
+    this.add(ofMatches, "the engine's regExpStringIterator");
+    this.add(eventMaps, "a map of EventTarget");
+    for (const key of eventKeys) this.add(key, `key of AbortSignal ${String(key)}`);
     for (const [name, engine] of intlConstructors()) this.add(engine, `globalThis.Intl.${name}`);
+    this.#addMembers(Symbol, "globalThis.Symbol");
+    for (const make of WITH_SYMBOLS) for (const key of Reflect.ownKeys(make())) this.add(key, "key of node's");
     for (const [name, module] of Object.entries(modules)) this.add(module, name);
-    for (let at = 0; at < this.queue.length; at += 1) this.#addMembers(...this.queue[at]);
+    for (let at = 0; at < this.queue.length; at += 1) {
+      const [object, name] = this.queue[at];
+      if (!types.isProxy(object)) this.#addMembers(object, name);
+    }
     const objects = this.queue.map(([object]) => object);
     this.queue = [];
     this.had = objects.filter((object) => !types.isProxy(object)).map(known);
@@ -97,7 +110,6 @@ export class NamedBuiltins {
 
   /** @param {object} object @param {string} name */
   #addMembers(object, name) {
-    if (types.isProxy(object)) return;
     this.add(Reflect.getPrototypeOf(object), `${name}.__proto__`);
     for (const key of Reflect.ownKeys(object)) {
       this.add(key, `key of ${name}`);

@@ -1,6 +1,7 @@
 // The engine's own loops that call a function of the agents, in JavaScript: it can be shown then how far they are. They
 // are rewritten as the agents' modules are, and stand for the engine's while agents are learned. What isn't an ordinary
-// array, map or set is left to the engine's.
+// array, map or set is left to the engine's. So is each call of a function with a list, except that the list is made
+// here: no frame would show that the engine makes it.
 
 import { types } from "node:util";
 
@@ -20,6 +21,8 @@ const EngineArray = Array;
 const ofArrays = methodsOf(arrays);
 const ofTyped = methodsOf(typedArrays);
 const { from } = Array;
+const { prototype: functions } = Function;
+const { apply: applied } = functions;
 const { forEach: eachOfMap } = maps;
 const { forEach: eachOfSet } = sets;
 
@@ -29,8 +32,10 @@ const { forEach: eachOfSet } = sets;
 function methodsOf(owner) {
   const { every, filter, find, findIndex, findLast, findLastIndex, flatMap, forEach, map, reduce, reduceRight, some }
     = owner;
+  const { sort, toSorted } = owner;
   return {
-    every, filter, find, findIndex, findLast, findLastIndex, flatMap, forEach, map, reduce, reduceRight, some,
+    every, filter, find, findIndex, findLast, findLastIndex, flatMap, forEach, map, reduce, reduceRight, some, sort,
+    toSorted,
   };
 }
 
@@ -48,8 +53,82 @@ const isTyped = (list, f) => typeof f === "function" && apply(tagOf, list, []) !
 /** @param {any} list @returns {number} */
 const lengthIn = (list) => max(0, min(trunc(+list.length) || 0, Number.MAX_SAFE_INTEGER));
 
+/** The engine sorts a list that is shorter than that by insertion. */
+const LONG = 64;
+
+/** @param {any} list @param {any} f @returns {boolean} */
+const isShort = (list, f) => isOrdinary(list, f) && list.length < LONG;
+
+/** @param {any} f what compares @param {any} one @param {any} other @returns {number} */
+function order(f, one, other) {
+  const result = +apply(f, undefined, [one, other]);
+  return result === result ? result : 0;
+}
+
+/** @param {any[]} list @param {any} f @returns {number} how many at its beginning are in order, once it has returned */
+function beginsInOrder(list, f) {
+  const isDown = order(f, list[1], list[0]) < 0;
+  let n = 2;
+  while (n < list.length && (order(f, list[n], list[n - 1]) < 0) === isDown) n += 1;
+  if (!isDown) return n;
+  for (let k = 0; k < n - 1 - k; k += 1) {
+    const one = list[k];
+    list[k] = list[n - 1 - k];
+    list[n - 1 - k] = one;
+  }
+  return n;
+}
+
+/** @param {any[]} list that gets sorted, as the engine does it @param {any} f */
+function sortShort(list, f) {
+  if (list.length < 2) return;
+  for (let at = beginsInOrder(list, f); at < list.length; at += 1) {
+    const one = list[at];
+    let from = 0;
+    let to = at;
+    while (from < to) {
+      const middle = from + ((to - from) >> 1);
+      if (order(f, one, list[middle]) < 0) to = middle;
+      else from = middle + 1;
+    }
+    for (let k = at; k > from; k -= 1) list[k] = list[k - 1];
+    list[from] = one;
+  }
+}
+
 /** @type {Record<string, ArrayLoop>} */
 export const arrayLoops = {
+  sort(f) {
+    if (!isShort(this, f)) return apply(ofArrays.sort, this, [f]);
+    const n = this.length;
+    if (n < 2) return this;
+    const list = [];
+    let missing = 0;
+    for (let k = 0; k < n; k += 1) {
+      if (!(k in this)) {
+        missing += 1;
+        continue;
+      }
+      const one = this[k];
+      if (one !== undefined) list[list.length] = one;
+    }
+    sortShort(list, f);
+    for (let k = 0; k < n - missing; k += 1) this[k] = k < list.length ? list[k] : undefined;
+    for (let k = n - missing; k < n; k += 1) delete this[k];
+    return this;
+  },
+  toSorted(f) {
+    if (!isShort(this, f)) return apply(ofArrays.toSorted, this, [f]);
+    const n = this.length;
+    const list = [];
+    for (let k = 0; k < n; k += 1) {
+      const one = this[k];
+      if (one !== undefined) list[list.length] = one;
+    }
+    sortShort(list, f);
+    while (list.length < n) list[list.length] = undefined;
+    return list;
+  },
   forEach(f, that = undefined) {
     if (!isOrdinary(this, f)) return apply(ofArrays.forEach, this, [f, that]);
     for (let k = 0, n = this.length; k < n; k += 1) if (k in this) apply(f, that, [this[k], k, this]);
@@ -265,5 +344,31 @@ export const arrayMakers = {
     const made = [];
     for (const one of items) made[made.length] = apply(f, that, [one, made.length]);
     return made;
+  },
+};
+
+/** @param {unknown} fn @param {unknown} list @returns {boolean} whether code may run while the list is made */
+const isMadeHere = (fn, list) => typeof fn === "function" && list !== null
+  && (typeof list === "function" || (typeof list === "object" && !(isArray(list) && !isProxy(list))));
+
+/** @param {any} list @returns {unknown[]} its elements */
+function elementsIn(list) {
+  const n = lengthIn(list);
+  const elements = new EngineArray(n);
+  for (let k = 0; k < n; k += 1) elements[k] = list[k];
+  return elements;
+}
+
+/** @type {Record<string, (this: any, self: unknown, list: any) => any>} */
+export const functionCalls = {
+  apply(self, list) {
+    return isMadeHere(this, list) ? apply(this, self, elementsIn(list)) : apply(applied, this, [self, list]);
+  },
+};
+
+/** @type {Record<string, (target: any, self: unknown, list: any) => any>} */
+export const reflectCalls = {
+  apply(target, self, list) {
+    return isMadeHere(target, list) ? apply(target, self, elementsIn(list)) : apply(target, self, list);
   },
 };

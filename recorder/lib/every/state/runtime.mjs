@@ -153,8 +153,8 @@ export class Runtime {
       iterable,
       iterated: kept(iterable),
       keysIn: kept(keysIn),
-      /** @type {(given: unknown) => unknown[]} all that something has that is spread: the prelude has the function */
-      elementsOf: () => [],
+      /** @type {(given: any) => unknown[]} what is spread: the prelude has one in place of it that can be shown */
+      elementsOf: (given) => [...iterable(given)],
       key,
       method,
       numeric,

@@ -9,6 +9,7 @@ import {
   TypedArray, apply, copied, copyProperty, deleteProperty, getOwnPropertyDescriptor, getPrototypeOf, hasOwn, isObject,
   lengthOf, ownKeys, put, setPrototypeOf, tagOf, uncurried, weakGet, weakSet,
 } from "../../primordials.mjs";
+import { MatchIteration, matchesIn, ofMatches } from "./match-iteration.mjs";
 
 /** @typedef {import("../../agent/ordinary/patch.mjs").StandInMaker} StandInMaker */
 /** @typedef {"values" | "keys" | "entries"} Returned what an iterator returns of each entry */
@@ -169,7 +170,7 @@ function collectionIteration(object) {
  */
 export function iterationOf(object) {
   if (isMapIterator(object) || isSetIterator(object)) return collectionIteration(object);
-  return ArrayIteration.of(object) ?? StringIteration.of(object);
+  return ArrayIteration.of(object) ?? StringIteration.of(object) ?? MatchIteration.of(object);
 }
 
 /** @type {Function[]} what makes them, or returns one itself, for loops */
@@ -236,6 +237,10 @@ const iteratingStrings = (engine) => methodOf((self, given) => {
   return new StringIteration(typeof self === "string" ? self : toText(self));
 }, engine);
 
+/** @type {StandInMaker} */
+const iteratingMatches = (engine) => methodOf((self, given) =>
+  matchesIn(self, given[0]) ?? apply(engine, self, given), engine);
+
 /** @param {string} kind @returns {StandInMaker} */
 const iteratingCollections = (kind) => (engine) => methodOf((self, given) => {
   const made = apply(engine, self, given);
@@ -258,6 +263,8 @@ export function standForIterators(previewEntries) {
   entriesLeft = previewEntries;
   standFor(ArrayIteration, ofArrays);
   standFor(StringIteration, ofStrings);
+  standFor(MatchIteration, ofMatches);
+  replace(RegExp.prototype, Symbol.matchAll, iteratingMatches);
   const lists = /** @type {const} */ (["values", "keys", "entries"]);
   for (const owner of [Array.prototype, TypedArray.prototype]) {
     for (const name of lists) replace(owner, name, iteratingArrays(name));

@@ -7,9 +7,11 @@ import { slotOf } from "../../primordials.mjs";
 import { hexOf } from "../search/raw-elements.mjs";
 import { boundOf } from "./bound-functions.mjs";
 import { hadOtherPrototype } from "./first-prototypes.mjs";
+import { signalOf } from "./event-objects.mjs";
 import { intlOf } from "./intl-objects.mjs";
 import { LoopSteps } from "./loop-steps.mjs";
 import { CantShow, boxedIn, bytesIn, isResizable, objectKind, numberText, patternOf, timeOf } from "./object-kinds.mjs";
+import { isMadeByAgents } from "./made-symbols.mjs";
 import { settledOf } from "./promises.mjs";
 import { isUnnamed } from "./own-objects.mjs";
 import { UNKNOWN_VALUE } from "./runtime.mjs";
@@ -54,6 +56,8 @@ export class Walk {
     this.weak = [];
     /** @type {Map<object, Function>} functions, by their prototypes that nothing was put into */
     this.bare = new Map();
+    /** Whether it has read where an error was made: the engine makes a text of that then, which stays as it is. */
+    this.hasReadStack = false;
   }
 
   /** @returns {string} what was walked, with all that can be reached from it */
@@ -95,6 +99,7 @@ export class Walk {
     if (key !== undefined) return `y${JSON.stringify(key)}`;
     const name = this.builtins.nameOf(symbol);
     if (name !== undefined) return `Y${name}`;
+    if (!isMadeByAgents(symbol)) throw new CantShow("a symbol of node's");
     const isKnown = this.seen.has(symbol);
     const number = this.#number(symbol);
     return isKnown ? `y#${number}` : `y@${number}${JSON.stringify(symbol.description)}`;
@@ -216,6 +221,7 @@ export class Walk {
     else this.#content(object);
     this.#prototype(object);
     if (!Reflect.isExtensible(object)) this.out.push("!x");
+    if (stackOfErrors.get !== undefined && watched === undefined) this.#keptStack(object);
     this.#private(object);
     if (watched === undefined && !isMemory && typeof object !== "function") this.#properties(object);
   }
@@ -350,7 +356,9 @@ export class Walk {
     const name = prototype === null ? undefined : this.builtins.nameOf(prototype);
     const isTyped = anyWatchedOf(object) !== undefined || ArrayBuffer.isView(object);
     const isOfPlain = this.builtins.plain.has(/** @type {any} */ (prototype));
-    const isPlain = name === undefined || isTyped || isOfPlain || types.isAnyArrayBuffer(object)
+    const signal = isOfPlain || name === undefined ? undefined : signalOf(object);
+    if (signal !== undefined) this.value(signal);
+    const isPlain = name === undefined || isTyped || isOfPlain || types.isAnyArrayBuffer(object) || signal !== undefined
       || iterationOf(object) !== undefined || intlOf(object) !== undefined;
     if (!isPlain && typeof object !== "function") throw new CantShow(`an object of ${name}`);
     this.value(prototype);
@@ -382,13 +390,23 @@ export class Walk {
     }
   }
 
-  /** @param {object} error with a stack of its own: on newer versions of node that is read by a function */
+  /** @param {object} error with a stack of its own */
   #stack(error) {
     const { value, get, set, writable, enumerable, configurable } =
       /** @type {PropertyDescriptor} */ (Reflect.getOwnPropertyDescriptor(error, "stack"));
     const isPlain = get === stackOfErrors.get && set === stackOfErrors.set && (get !== undefined || writable === true);
     if (!isPlain || enumerable || !configurable) throw new CantShow("an error whose stack was changed");
-    this.value(get === undefined ? value : Reflect.apply(get, error, []));
+    this.hasReadStack = true;
+    if (get === undefined) this.value(value);
+  }
+
+  /** @param {object} object that keeps a stack out of sight, maybe: newer versions of node read it by a function */
+  #keptStack(object) {
+    const stack = Reflect.apply(/** @type {Function} */ (stackOfErrors.get), object, []);
+    if (stack === undefined) return;
+    this.hasReadStack = true;
+    this.out.push("stack");
+    this.value(stack);
   }
 
   /** @param {object} object @param {string | symbol} key */
@@ -397,6 +415,7 @@ export class Walk {
     const { value, get, set, writable, enumerable, configurable } = descriptor;
     this.value(key);
     this.out.push(`${writable ? "" : "r"}${enumerable ? "" : "e"}${configurable ? "" : "c"}.`);
+    if (key === "stack" && typeof value === "string") this.hasReadStack = true;
     if (!Object.hasOwn(descriptor, "get")) this.value(value);
     else {
       this.out.push("get");
@@ -419,5 +438,5 @@ function functionText(fn) {
  */
 function mayBeThere(key) {
   if (typeof key === "symbol" || typeof key === "function") return true;
-  return isUnnamed(key) || (Array.isArray(key) && !Reflect.isExtensible(key));
+  return isUnnamed(key) || (!types.isProxy(key) && Array.isArray(key) && !Reflect.isExtensible(key));
 }
