@@ -18,8 +18,8 @@ const NOT_WRITTEN = 3;
 const MODULE = new URL("./wasm/sabsim.wasm", import.meta.url);
 
 /**
- * How many bytes of an input the simulator needs. It refuses a script, or a file of automata, that has so many, whatever
- * comes behind them.
+ * How many bytes of an input the simulator needs. It refuses a script, or a file of automata, that has so many,
+ * whatever comes behind them.
  */
 const MOST_READ = {
   script: SCRIPT_LIMITS.text + 1, trace: Infinity, automata: MOST_OF_AUTOMATA + 1, states: MOST_OF_AUTOMATA + 1,
