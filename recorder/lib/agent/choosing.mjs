@@ -6,9 +6,6 @@ import { Random } from "../memory/random.mjs";
 
 const { Int32Array, RangeError: EngineRangeError, String: text } = globalThis;
 
-// Which of a seed's rows of random numbers is that of agent 0: no other row of the seed has this number.
-const FIRST_ROW = 2 ** 21;
-
 // `again` is true in all but one of so many cases.
 const ENDS_IN = 4;
 
@@ -91,8 +88,7 @@ export class Choosing {
   /** @param {number} count @returns {number} a whole number below it */
   #below(count) {
     if (!this.hasDrawn) {
-      this.random.seed(this.seed);
-      this.random.branch(FIRST_ROW + this.agent);
+      this.random.seedApart(this.seed, this.agent);
       this.hasDrawn = true;
     }
     return this.random.below(count);
