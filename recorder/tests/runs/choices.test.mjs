@@ -236,8 +236,8 @@ describe("a kept run", () => {
     ]);
     const at = lines.indexOf("agent 0 chose 0 of 3, at agents.mjs:6:54");
     assert.deepEqual([lines[at - 1], lines[at + 1]], ["10 0 1 return 0", "11 0 2 begin"]);
-    const [, data = ""] = /<script type="application/json" id="data">(.*?)<\/script>/s.exec(text("seed-15.html")) ?? [];
-    const run = JSON.parse(data);
+    const [, page] = text("seed-15.html").split('<script type="application/json" id="run">');
+    const run = JSON.parse(page.slice(0, page.indexOf("</script>")));
     const steps = new Stepper(run, new Views(run)).all();
     assert.deepEqual(steps.filter(({ what }) => what === "task").map(({ agent, sentence, place }) =>
       `${agent} ${sentence}, ${run.places[place]}`), [
@@ -419,7 +419,7 @@ describe("options", () => {
     const module = moduleOf(context, LOCK);
     const out = temporaryFolder(context);
     await assert.rejects(assertAgents({ module, out, rounds: 2, seeds: "15..30" }), (error) => {
-      assert.match(error.message, /\n {2}- 1 2 +chose 0 of 3, at agents\.mjs:6:54\n/);
+      assert.match(error.message, /\n {2}- 0 2 +chose 0 of 3, at agents\.mjs:6:54\n/);
       assert.match(error.message, /kept in .*: seed-\d+\.json, seed-\d+\.choices\.json, /);
       return error.name === "RunFailed";
     });
