@@ -104,26 +104,20 @@ export const check = () => false;`);
   assert.ok(!("choices" in await record({ module, ...FEW })));
 });
 
-test("`init`, `check` and a module that is loaded get no choices, and can't make any", async (context) => {
-  const keeps = (where) => `${HEAD}
+test("`init` and `check` get no choices, and none that an agent has kept", async (context) => {
+  const [{ ending, detail }] = await outcomesOf(moduleOf(context, `${HEAD}
 let kept;
-export const init = (_, run) => ${where === "init" ? "kept?.()" : "void 0"};
-export default ({ buffers, again, choose }) => {
-  kept = ${where === "check" ? "() => choose(2)" : "again"};
+const needs = (run) => {
+  const got = Object.keys(run).join();
+  if (got !== "agents,args" || kept !== undefined) throw new Error("it got " + got);
+};
+export const init = (_, run) => needs(run);
+export default ({ buffers, again }) => {
+  kept = again;
   Atomics.add(new Int32Array(buffers[0]), 1, 1);
 };
-export const check = (_, run) => {
-  if (Object.keys(run).join() !== "agents,args") return new Error("it got " + Object.keys(run).join());
-  ${where === "check" ? "kept?.();" : ""}
-};`;
-  const why = "threw Error: only an agent that runs can choose: `init`, `check` and a module that is loaded can't call "
-    + "`again` and `choose`";
-  // On a busy machine an agent may get another worker now and then, which keeps nothing.
-  for (const [where, ending] of [["check", "check"], ["init", "failed"]]) {
-    const outcomes = await outcomesOf(moduleOf(context, keeps(where)), { seeds: 4 });
-    const failing = outcomes.find(({ fails }) => fails);
-    assert.deepEqual([failing?.ending, failing?.detail.split("\n")[0]], [ending, `${where} ${why}`]);
-  }
+export const check = (_, run) => needs(run);`), { seeds: 1 });
+  assert.deepEqual([ending, detail], ["finished", ""]);
 });
 
 test("a number that choose doesn't take is a RangeError of the agent, and no choice", async (context) => {
