@@ -39,7 +39,7 @@ export class LostJob extends Error {}
 export class Difference extends Error {
   constructor(message: string, outcome: Difference["outcome"], replayed: string, judged?: string);
   /** It has its trace if sabsim's verdict on it is what differs. */
-  outcome: Pick<Outcome, "seed" | "script" | "report" | "trace">;
+  outcome: Pick<Outcome, "seed" | "script" | "report" | "choices" | "trace">;
   /** The report that sabsim wrote. */
   replayed: string;
   /** sabsim's verdict on the trace, if that is what differs. */
@@ -105,7 +105,8 @@ export interface Outcome {
   /** The code of each file that the trace names; null if it can't be read, or is longer than 2^20 characters. */
   sources?: { file: string; text: string | null }[];
   /**
-   * For a program's run with its trace: timers, immediates and other tasks, each behind so many events of the trace.
+   * For a program's run with its trace: timers, immediates and other tasks, each behind so many events of the trace. For
+   * a module's run what agents chose, if one did.
    */
   tasks?: { event: number; agent: number; text: string; source: string | null }[];
   /** For the same run: the number of each message, and what is in it, shortened. */
@@ -114,6 +115,8 @@ export interface Outcome {
   threads?: string[];
   /** Which agent moved with each draw, in order (plus 16: by a real answer); of the shortest run, and of a program. */
   row?: number[];
+  /** For each agent of a module what it chose, if one did: what was asked, and what was returned. */
+  choices?: Choice[][];
   /** For a failing run in which a timed wait has ended early: what time must pass for that, and before what. */
   onlyIf?: string;
   /**
@@ -137,6 +140,9 @@ export interface Outcome {
   /** The result of the option `shorten`, if the run failed. */
   shortened?: Shortened;
 }
+
+/** What an agent chose: `again()` returned a boolean, or `choose(n)` the second of two numbers, the first of which is n. */
+export type Choice = ["again", boolean] | ["choose", number, number];
 
 /** Bytes of a program's buffer, from `from` to `to` - 1, that are in a block of the script and of the trace. */
 export interface MemoryWindow {
@@ -251,6 +257,10 @@ export interface AgentRun {
   agents: number;
   /** The words after `--` on the command line, or the option `args`. */
   args: string[];
+  /** Whether the agent makes another round, as the seed decides: at most so many in a run as the option `rounds` says. */
+  again: () => boolean;
+  /** A whole number from 0 to `count` - 1, as the seed decides. `count` is a whole number from 1 to 1,000. */
+  choose: (count: number) => number;
 }
 
 /** What a module of agents may export as `setup`, for what the command line or the options leave open. */

@@ -11,6 +11,7 @@ import { syncBuiltinESMExports } from "node:module";
 import { Writable } from "node:stream";
 import threads from "node:worker_threads";
 import { Board } from "../board/board.mjs";
+import { Choices } from "../memory/choices.mjs";
 import { ORDER } from "../memory/layout.mjs";
 import { RecordedMemory } from "../memory/recorded-memory.mjs";
 import { Notes } from "../memory/notes.mjs";
@@ -19,6 +20,8 @@ import { Sources } from "../memory/sources.mjs";
 import { ownKeys, put } from "../primordials.mjs";
 import { onceMore } from "../processes/garbage.mjs";
 import { recordedAtomics } from "./atomics.mjs";
+import { Chooser } from "./chooser.mjs";
+import { choicesBy } from "./choosing.mjs";
 import { shareWithContexts } from "./contexts.mjs";
 import { described } from "./described.mjs";
 import { isCalledByAgents, sourceHere } from "./frames.mjs";
@@ -59,6 +62,8 @@ function printAtOnce() {
   }
 }
 
+const NO_CHOICE = "only an agent that runs can choose: `init`, `check` and a module that is loaded can't call `again` "
+  + "and `choose`";
 const NO_AGENT = "it has no function as its default export, as `export default function agent({ buffers }) { .. }`";
 
 /**
@@ -68,6 +73,7 @@ const NO_AGENT = "it has no function as its default export, as `export default f
  * @property {"watch" | "store" | "refuse"} ordinary
  * @property {"run" | "real"} clock
  * @property {"fail" | "allow"} unrecorded
+ * @property {number} rounds
  * @property {string} module the URL of the agents' module
  */
 
@@ -78,7 +84,9 @@ const NO_AGENT = "it has no function as its default export, as `export default f
  * @property {import("../board/strategy.mjs").Rules} rules
  */
 
-const { port, args, ordinary, clock, unrecorded, module: file } = /** @type {AgentWorkerData} */ (threads.workerData);
+const {
+  port, args, ordinary, clock, unrecorded, rounds, module: file,
+} = /** @type {AgentWorkerData} */ (threads.workerData);
 // Agents and their worker get another `postMessage`, which looks at what it is given.
 const post = port.postMessage.bind(port);
 
@@ -296,9 +304,15 @@ function playerOf({ memory, plan, rules }, { later, messages }) {
  * Does what it is ordered, again and again.
  * @param {NonNullable<Awaited<ReturnType<typeof loaded>>>} module
  * @param {number} agents how many
+ * @param {Chooser} chooser
  */
-function serve(module, agents) {
+function serve(module, agents, chooser) {
   const player = playing();
+  /** @type {Chooser["chosen"]} */
+  const chosen = (asked, called) => {
+    if (!isRecording()) throw new EngineError(NO_CHOICE);
+    return chooser.chosen(asked, called);
+  };
   const buffers = () => {
     /** @type {unknown[]} */
     const list = [];
@@ -317,7 +331,11 @@ function serve(module, agents) {
     onceMore();
     const order = player.awaitOrder();
     const own = { agents, args: words() };
-    const play = () => agent({ buffers: buffers(), agent: self.agent, agents, args: words() });
+    const play = () => {
+      chooser.begin();
+      const { again, choose } = choicesBy(chosen);
+      return agent({ buffers: buffers(), agent: self.agent, agents, args: words(), again, choose });
+    };
     if (order === ORDER.PLAY) player.play(play, described);
     else player.serve(() => (order === ORDER.INIT ? module.init : module.check)?.(buffers(), own), described);
   }
@@ -345,7 +363,8 @@ export async function main(load) {
   }
   const given = await handed;
   self.buffers = given.memory.buffers;
-  self.player = playerOf(given, noting);
+  const player = playerOf(given, noting);
+  self.player = player;
   post({ ready: true });
-  serve(module, given.plan.agents);
+  serve(module, given.plan.agents, new Chooser(player.part, new Choices(given.memory.choices[self.agent]), rounds));
 }

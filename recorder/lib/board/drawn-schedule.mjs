@@ -66,16 +66,19 @@ const EXACT = 2;
 // In place of a call's number: the agent goes on from a wait.
 const NO_CALL = 0;
 
-/** @typedef {"call" | "leaves" | "waits" | "ended" | "goes on" | "comes"} DivergenceReason how a run has diverged */
+/**
+ * @typedef {"call" | "leaves" | "waits" | "ended" | "goes on" | "comes" | "choice"} DivergenceReason how a run has
+ * diverged
+ */
 
 /** @type {readonly DivergenceReason[]} the word DIVERGENCE is a position here, from 1 on; 0: none */
-const REASONS = Object.freeze(["call", "leaves", "waits", "ended", "goes on", "comes"]);
+const REASONS = Object.freeze(["call", "leaves", "waits", "ended", "goes on", "comes", "choice"]);
 
 /**
  * @typedef {object} Divergence how a run that was forced exactly has diverged from its row
  * @property {DivergenceReason} reason the agent makes another call; or it leaves a wait and is to make a call; or it is
  * to move, and waits or has ended; or the row has ended, and the agent goes on; or the agent gets a real answer, and
- * the row has none there
+ * the row has none there; or the agent asks for another choice than is given
  * @property {number} agent
  * @property {number} draw how many draws had been made by the row
  * @property {number} [wanted] what the row has as the next draw, if it has one
@@ -215,6 +218,16 @@ export class DrawnSchedule {
     if (state[WANTS] === 0) return;
     this.drawn[state[DRAWN]] = drawn;
     state[DRAWN] += 1;
+  }
+
+  /** How many draws were made, if the run's own row is wanted. */
+  get draws() {
+    return this.state[DRAWN];
+  }
+
+  /** @param {number} agent that asks for another choice than is given */
+  differsByChoice(agent) {
+    this.#diverge("choice", agent);
   }
 
   /** @returns {boolean} whether the run ends if it diverges from its row */
@@ -380,19 +393,4 @@ export class DrawnSchedule {
     }
     return DIVERGES;
   }
-}
-
-/**
- * Why a run that has diverged has ended, in words.
- * @param {Divergence} divergence
- * @param {string} call that the agent makes, if that is why
- */
-export function divergenceText({ reason, agent, wanted = NOBODY }, call) {
-  if (reason === "comes") return `agent ${agent} gets a real answer, and the row has none there`;
-  if (reason === "waits" && isRealAnswer(wanted)) return `by the row agent ${agent} gets a real answer, ` +
-    "and now it gets none";
-  if (reason === "call") return `agent ${agent} makes another call than by the row: ${call}`;
-  if (reason === "goes on") return `the row has come to its end, and agent ${agent} goes on`;
-  if (reason === "leaves") return `agent ${agent} is to make a call by the row, and goes on from a wait`;
-  return `agent ${agent} is to move by the row, and ${reason === "waits" ? "waits" : "has come to its end"}`;
 }

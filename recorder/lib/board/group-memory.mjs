@@ -1,5 +1,6 @@
 // The memory that the threads of a group share: the agents' buffers, and what the recorder writes down of a run.
 
+import { Choices } from "../memory/choices.mjs";
 import { CopiedRuns } from "../memory/copied-runs.mjs";
 import { Log } from "../memory/log.mjs";
 import { Notes } from "../memory/notes.mjs";
@@ -26,6 +27,7 @@ export function memoryOf({ agents, buffers }, logEvents, hasCaller = false) {
     buffers: buffers.map((bytes) => new SharedArrayBuffer(bytes)),
     copies: buffers.map((bytes) => new SharedArrayBuffer(bytes)),
     records: Array.from({ length: agents }, () => Records.memory()),
+    choices: Array.from({ length: agents }, () => Choices.memory()),
     runs: CopiedRuns.memory(),
     notes: Array.from({ length: agents }, () => Notes.memory()),
     caller: hasCaller ? callerMemory() : undefined,

@@ -46,10 +46,10 @@ function asked(simulator, job, input, what) {
  * @param {Outcome} outcome
  * @throws {Difference}
  */
-function checkReplay(simulator, { seed, script = "", report = "" }) {
+function checkReplay(simulator, { seed, script = "", report = "", choices }) {
   const { status, output, failure } = asked(simulator, { job: "replay" }, script, "script");
   /** @param {string[]} lines */
-  const differs = (...lines) => new Difference(`seed ${seed}: ${lines.join("\n")}`, { seed, script, report }, output);
+  const differs = (...lines) => new Difference(`seed ${seed}: ${lines.join("\n")}`, { seed, script, report, ...(choices && { choices }) }, output);
   if (status !== 0) throw differs(failure);
   const difference = firstDifference(report, output);
   if (difference === undefined) return;
@@ -66,15 +66,18 @@ function checkReplay(simulator, { seed, script = "", report = "" }) {
  * @param {import("../run/outcome.mjs").Judgement} judgement the recorder's
  * @throws {Difference}
  */
-function checkRaces(simulator, { seed, script = "", report = "", races }, { racy, events, isInScript }) {
+function checkRaces(simulator, outcome, { racy, events, isInScript }) {
+  const { seed, script = "", report = "", races, choices } = outcome;
   const traced = () => traceText(Log.from(events));
   const { status, output, failure } = isInScript
     ? asked(simulator, { job: "judge" }, script, "script's accesses")
     : asked(simulator, { job: "judge-trace" }, traced(), "trace");
   if (status === (racy ? FOUND_UNORDERED : 0)) return;
   /** @param {string[]} lines */
-  const differs = (...lines) =>
-    new Difference(`seed ${seed}: ${lines.join("\n")}`, { seed, script, report, trace: traced() }, report, output);
+  const differs = (...lines) => {
+    const scripted = { seed, script, report, ...(choices && { choices }), trace: traced() };
+    return new Difference(`seed ${seed}: ${lines.join("\n")}`, scripted, report, output);
+  };
   if (status !== 0 && status !== FOUND_UNORDERED) throw differs(failure);
   const found = races.length > 0 ? races[0].text : "unordered accesses";
   throw differs(

@@ -1,7 +1,10 @@
 // The error for a run that the simulator doesn't replay as the code has made it.
 
 /** @typedef {import("../run/outcome.mjs").Outcome} Outcome */
-/** @typedef {Pick<Outcome, "seed" | "script" | "report" | "trace">} Scripted what is kept of a run that differs */
+/**
+ * @typedef {Pick<Outcome, "seed" | "script" | "report" | "choices" | "trace">} Scripted what is kept of a run that
+ * differs
+ */
 
 /** What the code saw isn't what the simulator reports, or the simulator has failed: a defect of one of them. */
 export class Difference extends Error {

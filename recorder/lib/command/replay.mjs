@@ -7,6 +7,7 @@ import { Refused } from "../options/refused.mjs";
 import { countText } from "../run/words/summary-words.mjs";
 import { differingText, replayDifferenceText } from "../shorter/differing.mjs";
 import { idleMoves } from "../shorter/idle-moves.mjs";
+import { keptChoices, missingChoiceText, otherChoiceText } from "../shorter/kept-choices.mjs";
 import { callNumbers, keptScript } from "../shorter/kept-script.mjs";
 import { Replaying, keptRunText } from "./replaying.mjs";
 
@@ -53,19 +54,26 @@ export class Replay extends Replaying {
     this.idle = idleMoves(this.simulator, text);
     this.script = keptScript(text, file, this.idle.map(({ at }) => at));
     this.place = placeOf(this.script, options);
+    this.choices = keptChoices(file, this.script.canBlock.length);
     this.keepsAs(/\.json$/);
   }
 
   /** @param {import("../seeds/job.mjs").CheckedOutcome} outcome @returns {string | undefined} */
-  differenceOf({ divergence, detail, script }) {
+  differenceOf({ divergence, detail, script, choices = [] }) {
+    const { choices: kept, file } = this;
+    if (divergence?.reason === "choice") {
+      const [, asked] = /: (.*)$/.exec(detail) ?? ["", detail];
+      return otherChoiceText(kept, choices, divergence.agent, asked, file);
+    }
     if (divergence !== undefined) return differingText(divergence, detail, this.script);
-    return script === undefined ? undefined : replayDifferenceText(this.script, keptScript(script, "the run"));
+    const other = script === undefined ? undefined : replayDifferenceText(this.script, keptScript(script, "the run"));
+    return other ?? missingChoiceText(kept, choices);
   }
 
   /** @returns {Promise<import("../seeds/job.mjs").CheckedOutcome>} */
   async made() {
-    const { script: { draws }, module, place, seed } = this;
-    const wanted = { row: draws.map(({ agent }) => agent), isExact: true, calls: callNumbers(this.script) };
+    const { choices: { agents: choices }, script: { draws }, module, place, seed } = this;
+    const wanted = { row: draws.map(({ agent }) => agent), isExact: true, calls: callNumbers(this.script), choices };
     try {
       // A debugger would stop in each further run of the agents. So there are no pilots: the row says who moves, so
       // they would show nothing of use. And the lines of code are noted at once.

@@ -202,9 +202,8 @@ export class Session {
       return;
     }
     if (stopped instanceof Difference) {
-      const { outcome: { seed, script, report, trace }, replayed, judged } = stopped;
-      const theirs = { "sabsim-report": replayed, "sabsim-verdict": judged };
-      keeper.keepAll(seed, { json: script, report, "trace.jsonl": trace, ...theirs });
+      const { outcome, replayed, judged } = stopped;
+      keeper.keepDiffering(outcome, { "sabsim-report": replayed, "sabsim-verdict": judged });
     } else if (failing !== undefined && keeper.seed === failing.seed) {
       const outcome = shortened?.shortest ?? failing;
       const { keepBesides } = await import("../keeping/kept-besides.mjs");

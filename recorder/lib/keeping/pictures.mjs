@@ -4,6 +4,7 @@
 import { join } from "node:path";
 import { hasFloats } from "../../script/written.mjs";
 import { aboutOf } from "./about-run.mjs";
+import { withChoices } from "./explained-choices.mjs";
 import { PROGRAM_ENDING } from "./run-store.mjs";
 import { pageOfRun } from "./kept-page.mjs";
 import { wordsText } from "./program-words.mjs";
@@ -15,7 +16,8 @@ import { wordsText } from "./program-words.mjs";
  * @typedef {object} Picture
  * @property {string} ending of its file's name
  * @property {"explained" | "svg" | "json"} format of the replay that it is made from
- * @property {(output: string, outcome: Outcome, module: string, about: AboutRun) => string} made
+ * @property {(output: string, outcome: Outcome, module: string, about: AboutRun, facts: () => string) => string} made
+ * of the output of that replay, and of its output as lines of JSON if that is asked for
  * @property {boolean} [hasThreads] whether it is made only of runs whose threads have names
  */
 
@@ -34,11 +36,16 @@ class NotMade extends Error {}
 
 /** @type {readonly Picture[]} */
 const PICTURES = Object.freeze([
-  { ending: "explained", format: "explained", made: (output) => output },
+  { ending: "explained", format: "explained", made: explainedMade },
   { ending: "svg", format: "svg", made: (output) => output },
   { ending: "words", format: "json", hasThreads: true, made: wordsText },
   { ending: "html", format: "json", made: pageMade },
 ]);
+
+/** @type {Picture["made"]} */
+function explainedMade(output, outcome, module, _about, facts) {
+  return outcome.choices === undefined ? output : withChoices(output, facts(), outcome, module);
+}
 
 /** @param {string} facts @param {Outcome} outcome @param {string} module @param {AboutRun} about */
 function pageMade(facts, outcome, module, about) {
@@ -61,13 +68,25 @@ function pageMade(facts, outcome, module, about) {
  * @throws {NotMade}
  */
 function pictureOf(simulator, { format, made }, outcome, module, about) {
-  const { status, output, complaint } = replayed(simulator, format, outcome.script ?? "");
+  const replayedAs = (/** @type {Picture["format"]} */ as) => replayed(simulator, as, outcome.script ?? "");
+  return made(replayedAs(format), outcome, module, about, () => replayedAs("json"));
+}
+
+/**
+ * @param {ChosenSimulator} simulator
+ * @param {Picture["format"]} format
+ * @param {string} script
+ * @returns {string} what a replay prints
+ * @throws {NotMade}
+ */
+function replayed(simulator, format, script) {
+  const { status, output, complaint } = run(simulator, format, script);
   if (status !== 0) throw new NotMade(`sabsim ended with status ${status}: ${complaint.trim()}`);
-  return made(output, outcome, module, about);
+  return output;
 }
 
 /** @param {ChosenSimulator} simulator @param {Picture["format"]} format @param {string} script */
-function replayed(simulator, format, script) {
+function run(simulator, format, script) {
   try {
     return simulator.run({ job: "replay", format }, script);
   } catch (problem) {

@@ -3,6 +3,7 @@
 import { randomBytes } from "node:crypto";
 import { closeSync, existsSync, mkdirSync, openSync, renameSync, rmSync, writeFileSync } from "node:fs";
 import { join, resolve } from "node:path";
+import { choicesText } from "../../script/choices.mjs";
 import { Refused } from "../options/refused.mjs";
 import { HERE } from "../processes/platform.cjs";
 import { comesBefore } from "../run/order.mjs";
@@ -18,6 +19,16 @@ import { onceFree } from "./once-free.mjs";
 
 /** The ending of the file by which a kept run of a program is made again: its name begins with the run's. */
 export const PROGRAM_ENDING = "program.json";
+
+/** The ending of the file that has the choices of a kept run's agents. A replay looks for it beside the script. */
+export const CHOICES_ENDING = "choices.json";
+
+/**
+ * @param {Pick<import("../run/outcome.mjs").Outcome, "script" | "choices">} outcome
+ * @returns {string | undefined} the text of that file
+ */
+const choicesOf = ({ script, choices }) =>
+  (script === undefined || choices === undefined ? undefined : choicesText(choices));
 
 /** A file couldn't be written. */
 export class NotKept extends Error {}
@@ -100,14 +111,17 @@ export class RunStore {
    * comes after it was kept, its files go when all those of this one are there.
    * @param {import("../run/outcome.mjs").Outcome} outcome
    */
-  keepFirst({ seed, onlyIf, script, report, trace, threads }) {
-    const texts = { json: script, report, "trace.jsonl": trace };
+  keepFirst(outcome) {
+    const { seed, onlyIf, script, report, trace, threads } = outcome;
+    const texts = { json: script, [CHOICES_ENDING]: choicesOf(outcome), report, "trace.jsonl": trace };
     // For a program's run, the file that makes it again is kept later.
     const isEmpty = threads === undefined && Object.values(texts).every((text) => text === undefined);
     const own = { seed, onlyIf };
     if (isEmpty || (this.first !== undefined && comesBefore(this.first, own))) return;
     const before = this.names;
     this.keepAll(seed, texts);
+    // A replay would take those of another run for this one's.
+    if (texts[CHOICES_ENDING] === undefined) this.#discard(this.nameOf(seed, CHOICES_ENDING));
     this.seed = seed;
     this.first = own;
     this.#remove(before);
@@ -118,15 +132,28 @@ export class RunStore {
    * @param {import("../run/outcome.mjs").Outcome} original that is kept
    * @param {import("../run/outcome.mjs").Outcome} shortest
    */
-  keepShortest(original, { script, report, trace }) {
+  keepShortest(original, shortest) {
     const { seed } = original;
+    const { script, report, trace } = shortest;
     this.keepAll(seed, {
-      "original.json": original.script, "original.report": original.report, "original.trace.jsonl": original.trace,
+      "original.json": original.script, [`original.${CHOICES_ENDING}`]: choicesOf(original),
+      "original.report": original.report, "original.trace.jsonl": original.trace,
     });
-    const texts = { json: script, report, "trace.jsonl": trace };
+    if (original.choices === undefined) this.#discard(this.nameOf(seed, `original.${CHOICES_ENDING}`));
+    const texts = { json: script, [CHOICES_ENDING]: choicesOf(shortest), report, "trace.jsonl": trace };
     this.keepAll(seed, texts);
     const missing = Object.entries(texts).filter(([, text]) => text === undefined);
     this.#remove(missing.map(([ending]) => this.nameOf(seed, ending)).filter((name) => this.names.includes(name)));
+  }
+
+  /**
+   * Keeps a run about which the code and the simulator differ.
+   * @param {import("../check/difference.mjs").Scripted} outcome
+   * @param {Record<string, string | undefined>} theirs what the simulator says, by the endings of its files
+   */
+  keepDiffering(outcome, theirs) {
+    const { seed, script, report, trace } = outcome;
+    this.keepAll(seed, { json: script, [CHOICES_ENDING]: choicesOf(outcome), report, "trace.jsonl": trace, ...theirs });
   }
 
   /** @param {number} seed @param {string} ending @returns {string} the name of a file of a run */
@@ -174,13 +201,18 @@ export class RunStore {
   /** @param {string[]} names of files of this keeper */
   #remove(names) {
     for (const name of names) {
-      const path = join(this.folder, name);
-      try {
-        removeFile(path);
-      } catch (error) {
-        throw new NotKept(`${path} can't be removed: ${messageOf(error)}`);
-      }
+      this.#discard(name);
       this.names = this.names.filter((each) => each !== name);
+    }
+  }
+
+  /** @param {string} name of a file in the folder, which is removed if it is there */
+  #discard(name) {
+    const path = join(this.folder, name);
+    try {
+      removeFile(path);
+    } catch (error) {
+      throw new NotKept(`${path} can't be removed: ${messageOf(error)}`);
     }
   }
 

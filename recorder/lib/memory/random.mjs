@@ -53,6 +53,19 @@ export class Random {
     if ((this.words[0] | this.words[1] | this.words[2] | this.words[3]) === 0) this.words[0] = 1;
   }
 
+  /**
+   * Starts a row of a seed that has nothing in common with the seed's other rows. Rows that `branch` makes are alike in
+   * part: their words differ by the same bits for every seed.
+   * @param {number} seed a whole number from 0 to 2^53 - 1
+   * @param {number} number a whole number below 2^32
+   */
+  seedApart(seed, number) {
+    const low = splitmix32(seed % WORD)();
+    const mixed = splitmix32(splitmix32(low ^ floor(seed / WORD))() ^ number);
+    for (let at = 0; at < this.words.length; at += 1) this.words[at] = mixed();
+    if ((this.words[0] | this.words[1] | this.words[2] | this.words[3]) === 0) this.words[0] = 1;
+  }
+
   /** @returns {number} the next whole number below 2^32 */
   next() {
     const words = this.words;

@@ -61,6 +61,8 @@ const OF_EVERY = ["every", "trial", "command"];
 const OF_TRIAL = ["trial", "command"];
 
 const MOST_STATES = 20_000_000;
+const MOST_ROUNDS = 1_000;
+const DEFAULT_ROUNDS = 8;
 
 /** The seeds whose runs are compared with what was learned of agents, if none are given. */
 export const SEEDS_OF_ALL = Object.freeze({ first: 1, last: 300 });
@@ -181,6 +183,9 @@ export const OPTIONS = Object.freeze({
   clock: { ...word(["run", "real"],
     ["WHICH", "the time that clocks show agents: `run` (the run's own, which comes from the seed) or `real`"]),
     only: NOT_YET, not: notInAll("what agents see of it can't be learned", "real") },
+  rounds: { kind: whole(1, MOST_ROUNDS), of: ALL, assumed: DEFAULT_ROUNDS, isShared: true, only: OF_AGENTS,
+    not: notInAll("it can't yet try choices"),
+    help: ["N", "how often an agent's [`again()`](#agents-that-choose) returns true in a run, at most"] },
   maxMoves: rule(whole(1, SCRIPT_LIMITS.moves), SCRIPT_LIMITS.moves, ["M", "how many moves a run may have"]),
   seconds: rule(above0(MOST_SECONDS), DEFAULT_SECONDS, ["S", "for how long an agent may make no call"]),
   fresh: { kind: BOOLEAN, of: OF_MANY, ifNone: false, isShared: true,

@@ -39,6 +39,7 @@ export function programMemory(plan, logEvents) {
   const memory = memoryOf(plan, logEvents);
   return {
     ...memory,
+    choices: [],
     buffers: withMessages(memory.buffers),
     copies: withMessages(memory.copies),
     board: { ...memory.board, waiters: AsyncWaiters.memory(), names: NamedPlaces.names() },

@@ -8,7 +8,7 @@ import { waysOf } from "../board/strategy/ways.mjs";
 import { needsRightNames, planOf } from "../options/plan.mjs";
 import { Refused } from "../options/refused.mjs";
 import { runKindOf } from "../options/run-kinds.mjs";
-import { defaultsOf } from "../options/table.mjs";
+import { assumed, defaultsOf } from "../options/table.mjs";
 import { firstWorkers, learns } from "../processes/first-workers.cjs";
 import { framesOf } from "../processes/place-of-thread.mjs";
 import { begunThread } from "../processes/thread.mjs";
@@ -266,12 +266,12 @@ export class Group {
 
   /** @param {number} count how many agents' workers are to have begun */
   #beginUpTo(count) {
-    const { module, args, ordinary, clock, unrecorded } = this.options;
+    const { module, args, ordinary, clock, unrecorded, rounds = assumed("rounds") } = this.options;
     const begun = Array.from({ length: count - this.begun.length }, () => this.thread(AGENT_MODULE));
     /** @type {((thread: Thread) => void)[]} */
     const awaited = [];
     for (const thread of begun) {
-      thread.give(AGENT_MODULE, { module, args, ordinary, clock, unrecorded });
+      thread.give(AGENT_MODULE, { module, args, ordinary, clock, unrecorded, rounds });
       this.begun.push(new Promise((done) => awaited.push(done)));
       void thread.next().then(() => awaited.shift()?.(thread));
     }

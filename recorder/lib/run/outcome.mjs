@@ -5,6 +5,7 @@
 /** @typedef {import("./races/race-reports.mjs").RaceReport} RaceReport */
 /** @typedef {import("./script/array-accesses.mjs").ArrayAccesses} ArrayAccesses */
 /** @typedef {import("./windows/in-windows.mjs").NamedWindow} NamedWindow */
+/** @typedef {import("../../script/choices.mjs").Choice} Choice */
 
 /** @typedef {"finished" | "deadlock" | "stuck" | "failed" | "check" | "race" | "limit"} Ending */
 
@@ -21,6 +22,7 @@
  * @property {import("./ending/final-state.mjs").FinalState} state of the end
  * @property {RaceReport[]} races the unordered accesses, each pair of lines of code once
  * @property {number[]} [row] which agent moved with each draw, in order, if that is asked for
+ * @property {Choice[][]} [choices] what each agent chose, if one did
  * @property {string} [noScript] why there is no script
  * @property {string[]} [unrecorded] which shared memory and which threads agents used that aren't recorded, if any
  * @property {string[]} [real] what a program has used that the machine answers, by name and line, if anything
@@ -55,7 +57,8 @@
  * @property {ArrayAccesses} [accesses] by which arrays the trace's ordinary accesses were made, and what they read
  * @property {string} [noTrace] why there is no trace, though it was wanted
  * @property {import("./words/source-names.mjs").SourceText[]} [sources] the code of each file that the trace names
- * @property {LoopTask[]} [tasks] of a program that has its trace: what its event loops have begun besides messages
+ * @property {LoopTask[]} [tasks] of a program that has its trace: what its event loops have begun besides messages; of
+ * agents what they chose, if one did
  * @property {[number, string][]} [messages] of the same run: the number of each message, and what is in it, shortened
  */
 
@@ -67,10 +70,10 @@
 /** @typedef {BriefOutcome & OutcomeScript & OutcomeLines & OutcomeNames} Outcome of one run */
 
 /**
- * @typedef {object} LoopTask a timer, an immediate, or what comes of a function that node does later
+ * @typedef {object} LoopTask a timer, an immediate, or what comes of a function that node does later; or a choice
  * @property {number} event how many events of the trace come before it
  * @property {number} agent
- * @property {string} text what its event loop begins, in words
+ * @property {string} text what its event loop begins, or what it chose, in words
  * @property {string | null} source where that was made: file, line and column
  */
 
@@ -86,6 +89,8 @@
  * @property {boolean} [isShown] whether what a program prints is shown, though the run isn't the first one
  * @property {boolean} [learns] whether pilots of a program are made before, of which nothing is known yet
  * @property {boolean} [isFresh] whether the agents' workers are started anew before
+ * @property {Choice[][]} [choices] what each agent is to choose; else the seed draws it. If the run is to go exactly by
+ * a row, it ends at the first question that differs
  */
 
 /** @typedef {Wanting & import("../board/drawn-schedule.mjs").WantedSchedule} WantedRun a run that is to be made */
@@ -96,6 +101,7 @@
  * arrival
  * @property {import("../board/drawn-schedule.mjs").Divergence} [divergence] how it has diverged from the row that it
  * was to go by exactly
+ * @property {number[][]} [drawsBefore] of each agent's choices how many draws were made before, if the row is wanted
  * @property {FirstRunAgain} [again] the result of a program's run in fresh threads, if it was made once more there
  */
 

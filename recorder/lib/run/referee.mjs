@@ -353,7 +353,8 @@ const learnedDetail = ({ ending, detail }, again) =>
   (ending === "failed" && again.detail.startsWith(detail) ? again.detail : detail);
 
 /** @param {RunResult} found @returns {import("./outcome.mjs").Aside} */
-const asideOf = ({ waiting, divergence }) => ({ waiting, divergence });
+const asideOf = ({ waiting, divergence, choices }) =>
+  ({ waiting, divergence, ...(choices && { drawsBefore: choices.map((made) => made.map(({ draws }) => draws)) }) });
 
 /** Waits for what it needs to make runs, and then for its work: one group after the other. */
 export function main() {

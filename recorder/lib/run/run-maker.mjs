@@ -2,13 +2,14 @@
 // end, looks for unordered accesses, and calls for `check`.
 
 import { Board } from "../board/board.mjs";
-import { divergenceText } from "../board/drawn-schedule.mjs";
+import { Choices } from "../memory/choices.mjs";
 import { NOBODY, ORDER } from "../memory/layout.mjs";
 import { RecordedMemory } from "../memory/recorded-memory.mjs";
 import { Notes } from "../memory/notes.mjs";
 import { agentsState } from "./agents-state.mjs";
 import { initialStores } from "./initial.mjs";
 import { isRacy } from "./races/races.mjs";
+import { divergenceText } from "./words/divergence-text.mjs";
 import { unseenText } from "./words/unseen-text.mjs";
 
 /** @typedef {import("./outcome.mjs").WantedRun} WantedRun */
@@ -34,6 +35,7 @@ import { unseenText } from "./words/unseen-text.mjs";
  * was to go by
  * @property {import("./words/program-names.mjs").ProgramNames} [names] of a program's threads and blocks
  * @property {import("./ending/final-state.mjs").MoreBytes} [more] of a program, in blocks that no script can have
+ * @property {import("../memory/choices.mjs").ChoiceMade[][]} [choices] of each agent, if one has made some
  */
 
 /**
@@ -92,6 +94,7 @@ export class RunMaker {
     this.log = this.board.logIn(memory.log);
     this.stores = this.board.storesIn(memory.stores, this.memory);
     this.notes = memory.notes.map((each) => new Notes(each));
+    this.choices = memory.choices.map((each) => new Choices(each));
     this.agents = plan.canBlock.map((_, agent) => agent);
     /** @type {import("./agents-state.mjs").RunState} */
     this.state = State === undefined ? agentsState(this.memory, this.agents)
@@ -133,7 +136,7 @@ export class RunMaker {
     const gone = this.#cancelled();
     const endless = gone.filter((agent) => !board.turn.isParked(agent));
     const racy = options.ordinary === "watch" && isRacy(this.log, plan.agents, plan.buffers.length);
-    const named = state.named(result.detail, isAtLimit, sourceNames);
+    const named = state.named(result.detail, isAtLimit || divergence?.reason === "choice", sourceNames);
     const still = state.standstill(result.ending, sourceNames);
     const told = [named, ...still].filter((line) => line !== "");
     const detail = divergence === undefined ? told.join("\n") : divergenceText(divergence, named);
@@ -144,7 +147,7 @@ export class RunMaker {
     const more = state.moreBytes();
     const { ending } = result;
     const ended = { ending, detail, bytes, gone, endless, racy, initial, waiting, asking, met };
-    return { ...ended, unseen, real, divergence, names, more };
+    return { ...ended, unseen, real, divergence, names, more, choices: this.chosen() };
   }
 
   /**
@@ -156,7 +159,8 @@ export class RunMaker {
     const unseen = unseenText(found.unseen, unrecorded, this.sourceNames.placeName);
     if (unseen !== "" && found.divergence === undefined) return failedFor(unseen, found);
     if (found.ending !== "finished") return found;
-    if (kind.mustCall && this.#triedNothing()) return { ...found, ending: "failed", detail: NOTHING_TRIED };
+    const isEmpty = kind.mustCall && this.#triedNothing() && !hasChosenNothing(found.choices);
+    if (isEmpty) return { ...found, ending: "failed", detail: NOTHING_TRIED };
     const problem = check === undefined ? "" : await this.#asked("check");
     if (problem !== "") return { ...found, ending: "check", detail: `check ${problem}` };
     return found.racy && races === "fail" ? { ...found, ending: "race" } : found;
@@ -234,6 +238,12 @@ export class RunMaker {
     this.board.journal.begin();
     this.board.deadlines.begin();
     for (const notes of this.notes) notes.clear();
+    this.choices.forEach((choices, agent) => choices.begin(wanted.choices?.[agent], wanted.isExact));
+  }
+
+  /** @returns {RunResult["choices"]} those of the run that was made last */
+  chosen() {
+    return this.choices.some(({ count }) => count > 0) ? this.choices.map((each) => each.made()) : undefined;
   }
 
   /**
@@ -279,6 +289,16 @@ export class RunMaker {
       this.port.postMessage(message);
     });
   }
+}
+
+/**
+ * @param {RunResult["choices"]} choices
+ * @returns {boolean} whether they may be why agents did nothing: none went on, or one chose what it does
+ */
+function hasChosenNothing(choices) {
+  if (choices === undefined) return false;
+  const all = choices.flat().map(({ choice }) => choice);
+  return all.some(([does]) => does === "choose") || !all.some(([, goesOn]) => goesOn);
 }
 
 /**

@@ -2,11 +2,13 @@
 // and its report, or what lines of code show: unordered accesses and the trace.
 
 import { createHash } from "node:crypto";
+import { choicesText } from "../../script/choices.mjs";
 import { CopiedRuns } from "../memory/copied-runs.mjs";
 import { Records } from "../memory/records.mjs";
 import { Sources } from "../memory/sources.mjs";
 import { Names } from "../options/names.mjs";
 import { preloads } from "../processes/preloads.mjs";
+import { chosenTasks, choicesOf } from "./script/choice-tasks.mjs";
 import { accessesIn } from "./script/array-accesses.mjs";
 import { standstillOf, thrownIn } from "./ending/failure.mjs";
 import { raceReports } from "./races/race-reports.mjs";
@@ -24,6 +26,7 @@ import { NO_SCRIPT, realIn, unrecordedIn } from "./words/unseen-text.mjs";
 /** @typedef {import("./outcome.mjs").OutcomeLines} OutcomeLines */
 /** @typedef {import("./run-maker.mjs").RunResult} RunResult */
 /** @typedef {import("./windows/in-windows.mjs").Written} Written */
+/** @typedef {import("../memory/task-notes.mjs").TaskNote} TaskNote */
 
 export class RunReporter {
   /** @param {import("./run-maker.mjs").RefereeWorkerData} given @param {import("./run-maker.mjs").RunMaker} maker */
@@ -75,6 +78,7 @@ export class RunReporter {
       state: this.states.of(ending, maker.state.own(found.bytes), found.more),
       races: [],
       ...(draws === undefined || (options.isBrief && !fails) ? {} : { row: draws }),
+      ...(found.choices === undefined || (options.isBrief && !fails) ? {} : { choices: choicesOf(found.choices) }),
       ...(missed === undefined ? {} : { noScript: missed }),
       ...(unrecorded.length === 0 ? {} : { unrecorded }),
       ...(real.length === 0 ? {} : { real }),
@@ -160,7 +164,8 @@ export class RunReporter {
   acts(outcome, found) {
     const hasTexts = outcome.script !== undefined || outcome.noScript !== undefined;
     const { script, report, noScript } = hasTexts ? outcome : this.script(outcome, found);
-    return createHash("sha256").update(`${script} ${report} ${noScript}`).digest("base64");
+    const chosen = found.choices === undefined ? "" : ` ${choicesText(choicesOf(found.choices))}`;
+    return createHash("sha256").update(`${script} ${report} ${noScript}${chosen}`).digest("base64");
   }
 
   /**
@@ -208,14 +213,16 @@ export class RunReporter {
    */
   #trace(written, firstLine) {
     const { run: { log }, sourceNames, maker: { state: { tasks: begun } } } = this;
+    const chosen = chosenTasks(this.maker.chosen() ?? [], this.sources);
     const names = this.sources.map((each) => each.list().map((/** @type {string} */ place) =>
       place === "" ? "" : sourceNames.nameOf(place)));
-    const tasks = this.#tasks();
+    const tasks = this.#named(begun?.list() ?? chosen);
     return {
       trace: firstLine + traceText(written.run.log, names),
       accesses: accessesIn(written.run.log, written.run.lengths),
       sources: sourceNames.textsOf([...placesIn(log, names), ...tasks.flatMap(({ source }) => source ?? [])]),
-      ...(begun === undefined ? {} : { tasks, messages: begun.messages() }),
+      ...(begun === undefined && chosen.length === 0 ? {} : { tasks }),
+      ...(begun === undefined ? {} : { messages: begun.messages() }),
     };
   }
 
@@ -226,9 +233,8 @@ export class RunReporter {
     return this.seesAll && log.hasRoom() ? "" : UNSEEN_LINE;
   }
 
-  /** @returns {import("./outcome.mjs").LoopTask[]} those that a program's event loops have begun */
-  #tasks() {
-    const tasks = this.maker.state.tasks?.list() ?? [];
+  /** @param {TaskNote[]} tasks @returns {import("./outcome.mjs").LoopTask[]} */
+  #named(tasks) {
     const sourceOf = (/** @type {string} */ place) => (place === "" ? null : this.sourceNames.nameOf(place));
     return tasks.map(({ place, ...task }) => ({ ...task, source: sourceOf(place) }));
   }

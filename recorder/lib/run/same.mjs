@@ -3,18 +3,21 @@
 import { isRealAnswer, moverOf } from "../board/drawn-schedule.mjs";
 
 /** @typedef {import("./outcome.mjs").BriefOutcome} BriefOutcome */
-/** @typedef {"seed" | "ending" | "detail" | "moves" | "calls" | "state" | "noScript" | "real" | "row"} ComparedName */
+/**
+ * @typedef {"seed" | "ending" | "detail" | "moves" | "calls" | "state" | "noScript" | "real" | "row"
+ * | "choices"} ComparedName
+ */
 /** @typedef {Pick<BriefOutcome, ComparedName>} RunSummary with its row if it got real answers */
 
 /**
  * Whether two runs of a seed did the same, as far as every run reports. If they got real answers, their rows are
- * compared too.
+ * compared too, and so are their agents' choices, if there are some.
  * @param {RunSummary} one
  * @param {RunSummary} other
  */
 export function areSame(one, other) {
   /** @param {RunSummary} summary */
-  const parts = ({ ending, calls, state }) => [ending, calls, state.hash].join(" ");
+  const parts = ({ ending, calls, state, choices = [] }) => [ending, calls, state.hash, JSON.stringify(choices)].join(" ");
   if (parts(one) !== parts(other)) return false;
   // An answer on which no agent moves is counted as a move, too.
   if (one.real && one.row && other.row) return firstOtherMove(one.row, other.row) === undefined;

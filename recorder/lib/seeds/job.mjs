@@ -36,7 +36,7 @@ const NOT_CHECKED = "the process of its job ended before it was checked";
  * @property {import("../shorter/shorten.mjs").Shortened} shortened
  */
 
-/** @typedef {"row" | "bytes" | "answers" | "script" | "report"} LongTextOfCalls */
+/** @typedef {"row" | "choices" | "bytes" | "answers" | "script" | "report"} LongTextOfCalls */
 /** @typedef {"trace" | "accesses" | "sources" | "tasks" | "messages"} LongTextOfTrace */
 
 /**

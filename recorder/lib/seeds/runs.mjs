@@ -38,8 +38,8 @@ import { startJob } from "./start-job.cjs";
 /** @typedef {import("../run/group.mjs").GroupOptions & OfRuns} RunsOptions */
 
 /** @param {CheckedOutcome} outcome @returns {import("../run/same.mjs").RunSummary} */
-const briefly = ({ seed, ending, detail, moves, calls, state, noScript, real, row }) =>
-  ({ seed, ending, detail, moves, calls, state, noScript, ...(real === undefined ? {} : { real, row }) });
+const briefly = ({ seed, ending, detail, moves, calls, state, noScript, real, row, choices }) =>
+  ({ seed, ending, detail, moves, calls, state, noScript, choices, ...(real === undefined ? {} : { real, row }) });
 
 export class Runs {
   /** @type {Promise<void>[]} of each job, settled when it has made its last run */

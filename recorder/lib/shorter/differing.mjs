@@ -32,7 +32,7 @@ export function differingText({ reason, agent, draw }, detail, { draws }) {
   if (reason === "call" && !goesOn) return `${was} was ${text} in the script, and is now ${other}${perhaps}`;
   const now = {
     call: `it makes the next one, ${other}`, leaves: "it goes on from a wait", waits: "it still waits",
-    ended: "it has come to its end", comes: "it gets a real answer",
+    ended: "it has come to its end", comes: "it gets a real answer", choice: `it asks for another choice, ${other}`,
   }[reason];
   if (goesOn) return `agent ${agent} was still in its call ${call}, ${text}, in the script, and now ${now}`;
   return `${was} was ${text} in the script, and now the agent hasn't come so far: ${now}`;

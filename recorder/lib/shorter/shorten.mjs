@@ -1,12 +1,16 @@
 // The shortest run that fails in the same way as one that was found. Runs without the early end of a timed wait come
-// first, then those with the fewest changes of agents, then those with the fewest calls. It is looked for by runs that
-// are forced to go by rows, as long as that helps. A row is the found run's in another order, without some of its
-// stretches, with two stretches of an agent joined, or with one made shorter.
+// first, then those with the fewest changes of agents, then those with the fewest calls, then those with the fewest and
+// smallest choices. It is looked for by runs that are forced to go by rows, as long as that helps. A row is the found
+// run's in another order, without some of its stretches, with two stretches of an agent joined, or with one made
+// shorter. If agents choose, it is also looked for with fewer rounds and smaller numbers.
 
 import { areSame, firstOtherMove } from "../run/same.mjs";
 import { NO_SCRIPT } from "../run/words/unseen-text.mjs";
 import { OTHER_INPUT, TIMES_TRIED } from "../run/words/summary-words.mjs";
 import { failsAlike } from "./alike.mjs";
+import {
+  compareChoices, lowerable, mostRounds, withSmaller, withZeros, withoutRounds,
+} from "./fewer-choices.mjs";
 import { groupedByAgent } from "./grouped-by-agent.mjs";
 import { keptScript } from "./kept-script.mjs";
 import { changesOf, joinedFrom, rowOf, shortenedAt, stretchesOf, stretchesWithout } from "./stretches.mjs";
@@ -63,18 +67,21 @@ const NOT_AGAIN_BY_INPUT = `${OTHERWISE}: ${OTHER_INPUT}`;
 /** @param {Pick<RunSummary, "real">} summary */
 const notAgain = ({ real }) => (real === undefined ? NOT_AGAIN : NOT_AGAIN_BY_INPUT);
 
-/** @typedef {{ row: number[], isEarly: boolean, changes: number, calls: number }} Measured */
+/**
+ * @typedef {{ isEarly: boolean, changes: number, calls: number } & import("./fewer-choices.mjs").ChosenRun} Measured
+ */
 
-/** @param {Outcome} outcome that has its row @returns {Measured} how long a run is, and whether a wait ends early */
-const measured = ({ row = [], onlyIf, calls }) =>
-  ({ row, isEarly: onlyIf !== undefined, changes: changesOf(row), calls });
+/** @param {One} run whose outcome has its row @returns {Measured} how long a run is, and whether a wait ends early */
+const measured = ({ outcome: { row = [], onlyIf, calls, choices }, aside: { drawsBefore } }) =>
+  ({ row, isEarly: onlyIf !== undefined, changes: changesOf(row), calls, choices, drawsBefore });
 
 /** @param {Measured} one @param {Measured} other */
 function isShorter(one, other) {
   if (one.isEarly !== other.isEarly) return other.isEarly;
   if (one.changes !== other.changes) return one.changes < other.changes;
   if (one.calls !== other.calls) return one.calls < other.calls;
-  return one.row.length < other.row.length;
+  const chosen = compareChoices(one, other);
+  return chosen === 0 ? one.row.length < other.row.length : chosen < 0;
 }
 
 /**
@@ -104,7 +111,7 @@ class Search {
     this.limits = limits;
     this.until = begun + limits.milliseconds;
     /** The shortest of all, and the shortest of those that go on from the found run in one way. */
-    this.best = measured(first.outcome);
+    this.best = measured(first);
     this.current = this.best;
     // That run is the first, and the shortest will be made once more.
     this.runs = 2;
@@ -117,11 +124,13 @@ class Search {
   /** Looks for shorter runs, from the found run's first stretch on and from its last one, until no try is better. */
   async run() {
     await this.#tryEach(this.#orders());
+    await this.#dropRounds();
     const start = this.current;
     for (const isBackward of [false, true]) {
       this.current = start;
       await this.#dropChunks(isBackward);
-      while (await this.#tryAll(joinedFrom) || await this.#tryAll(droppedAt) || await this.#tryAll(shortenedAt));
+      while (await this.#tryAll(joinedFrom) || await this.#tryAll(droppedAt) || await this.#tryAll(shortenedAt)
+        || await this.#dropRounds() || await this.#lowerNumbers());
       if (isShorter(this.current, this.best)) this.best = this.current;
     }
   }
@@ -133,6 +142,39 @@ class Search {
     const kept = keptScript(script, "the run");
     const rows = kept.canBlock.map((_, agent) => stretchesOf(groupedByAgent(kept, agent)));
     return rows.sort((one, other) => one.length - other.length);
+  }
+
+  /**
+   * Leaves out many rounds in a row, then ever fewer.
+   * @returns {Promise<boolean>} whether that was better
+   */
+  async #dropRounds() {
+    let isBetter = false;
+    for (let size = mostRounds(this.current); size >= 1; size = Math.floor(size / 2)) {
+      for (let at = 0; at < mostRounds(this.current);) {
+        if (await this.#tryFewer(withoutRounds(this.current, at, size))) isBetter = true;
+        else at += size;
+      }
+    }
+    return isBetter;
+  }
+
+  /** Lets agents choose smaller numbers. @returns {Promise<boolean>} whether that was better */
+  async #lowerNumbers() {
+    let isBetter = await this.#tryFewer(withZeros(this.current));
+    for (let at = 0; at < lowerable(this.current).length;) {
+      if (await this.#tryFewer(withSmaller(this.current, lowerable(this.current)[at]))) isBetter = true;
+      else at += 1;
+    }
+    return isBetter;
+  }
+
+  /** @param {import("./fewer-choices.mjs").FewerChoices[]} runs @returns {Promise<boolean>} as `#tryEach` */
+  async #tryFewer(runs) {
+    for (const { row, choices } of runs) {
+      if (await this.#isBetter(stretchesOf(row), choices)) return true;
+    }
+    return false;
   }
 
   /** @returns {Stretch[]} those of the shortest run so far */
@@ -182,13 +224,15 @@ class Search {
   /**
    * Tries a row, and goes on from it if its run is shorter and fails in the same way.
    * @param {Stretch[]} stretches
+   * @param {Measured["choices"]} [choices] of its agents, as far as they fit
    */
-  async #isBetter(stretches) {
+  async #isBetter(stretches, choices = this.current.choices) {
     const row = rowOf(stretches);
-    const name = stretchesOf(row).map(({ agent, draws }) => `${agent}x${draws}`).join();
+    const draws = stretchesOf(row).map((stretch) => `${stretch.agent}x${stretch.draws}`).join();
+    const name = choices === undefined ? draws : `${draws} ${JSON.stringify(choices)}`;
     if (!this.known.has(name)) {
       if (!this.#goesOn()) return false;
-      this.known.set(name, await this.#made(row));
+      this.known.set(name, await this.#made(row, choices));
     }
     const found = this.known.get(name);
     if (found === undefined || !isShorter(found, this.current)) return false;
@@ -201,16 +245,17 @@ class Search {
   /**
    * Makes a run by a row.
    * @param {number[]} row
+   * @param {Measured["choices"]} choices
    * @returns {Promise<Measured | undefined>} undefined: it doesn't fail in the same way
    */
-  async #made(row) {
+  async #made(row, choices) {
     const { seed, ending, detail } = this.first.outcome;
     const wantsLines = ending === "race" || UNSETTLED.test(detail);
-    const wanted = { seed, whole: false, row, wantsRow: true, isTrial: true, wantsLines };
+    const wanted = { seed, whole: false, row, choices, wantsRow: true, isTrial: true, wantsLines };
     const run = await this.group.one(wanted);
     this.runs += 1;
     this.limits.onTry({ runs: this.runs, changes: Math.min(this.best.changes, this.current.changes) });
-    return failsAlike(run, this.first) ? measured(run.outcome) : undefined;
+    return failsAlike(run, this.first) ? measured(run) : undefined;
   }
 
   #goesOn() {
@@ -251,7 +296,7 @@ export async function shorten(group, summary, limits = {}) {
   const search = new Search(group, first, all, begun);
   await search.run();
   const { best, runs, stopped } = search;
-  if (!isShorter(best, measured(first.outcome))) {
+  if (!isShorter(best, measured(first))) {
     return asFound(summary, first.outcome, runs - 1, "no shorter one was found", stopped);
   }
   const shortest = await remade(group, first, best);
@@ -286,9 +331,9 @@ function asFound({ calls }, { row = [] }, runs, unchanged, stopped) {
  * @param {Measured} best
  * @returns {Promise<One | undefined>} undefined: it wasn't the same
  */
-async function remade(group, first, { row, calls }) {
+async function remade(group, first, { row, calls, choices }) {
   const { seed } = first.outcome;
-  const wanted = { seed, whole: true, row, isExact: true, wantsRow: true, needsTrace: true, isFresh: true };
+  const wanted = { seed, whole: true, row, choices, isExact: true, wantsRow: true, needsTrace: true, isFresh: true };
   for (let left = timesOf(first.outcome); left > 0; left -= 1) {
     const run = await group.one(wanted);
     const isSame = run.outcome.calls === calls && firstOtherMove(row, run.outcome.row ?? []) === undefined;

@@ -79,7 +79,8 @@ function actsOf(lines, data) {
     const isOrdinary = what === "ordinary" || what === "store";
     const does = `${move} ${agent} ${count} ${access?.writes ? "write" : "read"} `.padEnd(width);
     const where = place < 0 ? "" : `, at ${data.places[place]}`;
-    const words = isReworded ? `${line.slice(0, width)}${sentence}` : line;
+    const isOther = isReworded || what === "task";
+    const words = isOther ? `${line.slice(0, width).padEnd(what === "task" ? width : 0)}${sentence}` : line;
     const text = `${shortened(isOrdinary ? `${does}${sentence}` : words)}${where}`;
     return { at, text, isMarked: event !== undefined && racing.has(event) };
   });

@@ -93,6 +93,10 @@ const FOUND = {
   semaphore: (outcomes) => `nothing; ${timeOuts(outcomes)} times an agent gives up`,
   "bounded-queue": sameBytes,
   barrier: sameBytes,
+  choosing: (outcomes) => {
+    const rounds = outcomes.flatMap(({ choices }) => choices.flat()).filter(([does, goesOn]) => does === "again" && goesOn);
+    return `nothing; agents make ${rounds.length.toLocaleString("en")} rounds, and give up ${timeOuts(outcomes)} times`;
+  },
   ring: sameBytes,
   "ring-frees-first": (outcomes) => {
     const racing = outcomes.filter(({ races }) => races.length > 0);
@@ -135,9 +139,10 @@ function count(outcomes) {
 const NAMES = readdirSync(FOLDER).filter((name) => name.endsWith(".agents.mjs")).map((name) => name.split(".")[0]);
 
 describe("examples", () => {
-  test("there are eleven", () => {
-    const names = ["barrier", "bounded-queue", "late-notify", "late-notify-mended", "mutex-naive", "mutex-three-state"];
-    assert.deepEqual(NAMES.sort(), [...names, "node-cwd", "readers-writer", "ring", "ring-frees-first", "semaphore"]);
+  test("there are twelve", () => {
+    const first = ["barrier", "bounded-queue", "choosing", "late-notify", "late-notify-mended", "mutex-naive"];
+    const others = ["mutex-three-state", "node-cwd", "readers-writer", "ring", "ring-frees-first", "semaphore"];
+    assert.deepEqual(NAMES.sort(), [...first, ...others]);
   });
 
   for (const name of NAMES) {
@@ -190,12 +195,16 @@ describe("the checks of the agents find a lock that isn't one", () => {
     }`,
   };
 
-  for (const [name, lock] of Object.entries(broken)) {
-    test(name, async () => {
-      const agents = readFileSync(join(FOLDER, `${name}.agents.mjs`), "utf8")
+  const uses = Object.keys(broken).map((name) => ({ name, module: name }));
+  const chosen = ["mutex-three-state", "semaphore", "bounded-queue"].map((name) => ({ name, module: "choosing" }));
+
+  for (const { name, module: agentsOf } of [...uses, ...chosen]) {
+    test(agentsOf === name ? name : `${name} of ${agentsOf}`, async () => {
+      const lock = broken[name];
+      const agents = readFileSync(join(FOLDER, `${agentsOf}.agents.mjs`), "utf8")
         .replace(new RegExp(`^import .* from "\\./${name}\\.mjs";$`, "m"), lock)
         .replaceAll('from "./', `from "${pathToFileURL(FOLDER).href}/`);
-      const module = fileIn(folder, `${name}.agents.mjs`, agents);
+      const module = fileIn(folder, `${name}-of-${agentsOf}.agents.mjs`, agents);
       // Without pilots each agent needs one worker less. What isn't a lock fails all the same.
       const outcomes = await outcomesOf(module, 50, 0, { everywhere: true });
       assert.ok(outcomes.some(({ ending }) => ending === "failed"));

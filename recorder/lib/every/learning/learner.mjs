@@ -9,6 +9,7 @@ import { nodeText } from "../search/node-texts.mjs";
 import { CantLearn, askedEnd, isSame, keyOf } from "./asked-nodes.mjs";
 import { accessed, cantText } from "./asking.mjs";
 import { PART } from "./learning-progress.mjs";
+import { noChoices } from "./no-choices.mjs";
 import { namesRewritten, thrownText } from "./thrown.mjs";
 
 /** @typedef {import("../search/nodes.mjs").Node} Node */
@@ -57,6 +58,7 @@ export class Learner {
   constructor(asker, agents, code) {
     const { agentNow, line, place = () => -1, lineOfError = line, key, hasChanged = () => false } = code;
     this.asker = asker;
+    this.choices = noChoices((why) => asker.refuse(why));
     this.agents = agents;
     this.agentNow = agentNow;
     this.line = line;
@@ -169,7 +171,8 @@ export class Learner {
     const fn = this.agentNow();
     this.runs += 1;
     this.agent = agent;
-    const given = { buffers: [...asker.buffers], agent, agents: agents.count, args: [...agents.args] };
+    const { count, args } = agents;
+    const given = { buffers: [...asker.buffers], agent, agents: count, args: [...args], ...this.choices };
     const noticed = { get: this.number, set: this.changesNumber, enumerable: true, configurable: true };
     if (agents.isShared) defineProperty(given, "agent", noticed);
     return asker.watched(PART.AGENT, () => this.#ended(run, () => fn(given)));

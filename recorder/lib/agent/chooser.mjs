@@ -1,0 +1,63 @@
+// Makes an agent's choices in a run, in the agent's own thread. A choice is no move: nobody else moves, and no time
+// passes.
+
+import { MOST_CHOICES, askedText } from "../../script/choices.mjs";
+import { choiceOf } from "../memory/choices.mjs";
+import { Choosing, NO_ROOM, NOT_GIVEN } from "./choosing.mjs";
+import { numberAbove, sourceAbove } from "./frames.mjs";
+
+export class Chooser {
+  /**
+   * @param {import("./agent-run.mjs").AgentRun} part of the agent
+   * @param {import("../memory/choices.mjs").Choices} choices its memory
+   * @param {number} rounds how often `again` is true at most
+   */
+  constructor(part, choices, rounds) {
+    this.part = part;
+    this.choices = choices;
+    this.choosing = new Choosing(part.agent, choices, rounds);
+  }
+
+  /** A run begins. */
+  begin() {
+    this.choosing.begin(this.part.context.board.clock.seed());
+  }
+
+  /**
+   * @param {number} asked as `Choosing` takes it
+   * @param {Function} called the function that the agent's code has called
+   * @returns {number} what was chosen
+   */
+  chosen(asked, called) {
+    const { choices, choosing, part, part: { context: { board, log, sources } } } = this;
+    part.needsRun();
+    // An agent that chooses does something new, as one that looks at a clock.
+    board.spins.found(part.agent);
+    const number = choosing.answer(asked, board.mode.isPilot);
+    if (number === NOT_GIVEN) this.#asksOther(asked, called);
+    if (number === NO_ROOM) this.#meetsMost(called);
+    const source = board.mode.notesLines ? numberAbove(sources, called) : 0;
+    choices.note(asked, number, log.length, board.row.draws, source);
+    return number;
+  }
+
+  /** @param {number} asked @param {Function} called @returns {never} */
+  #asksOther(asked, called) {
+    const { part } = this;
+    const place = sourceAbove(called);
+    part.enter();
+    part.context.board.row.differsByChoice(part.agent);
+    return part.end("failed", `${askedText(choiceOf(asked, 0))}${whereText(place)}`);
+  }
+
+  /** @param {Function} called @returns {never} */
+  #meetsMost(called) {
+    const { part } = this;
+    const place = sourceAbove(called);
+    part.enter();
+    return part.endAtLimit(`agent ${part.agent} has made ${MOST_CHOICES} choices, and goes on${whereText(place)}`, false);
+  }
+}
+
+/** @param {string | undefined} place @returns {string} to be added to what is done there */
+const whereText = (place) => (place === undefined ? "" : `, at ${place}`);

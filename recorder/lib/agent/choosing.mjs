@@ -1,0 +1,112 @@
+// What an agent's `again()` and `choose(n)` return: as the seed draws it, or as it is given.
+
+import { MOST_CHOICES, MOST_NUMBERS, canChooseFrom } from "../../script/choices.mjs";
+import { AGAIN, GIVEN } from "../memory/choices.mjs";
+import { Random } from "../memory/random.mjs";
+
+const { Int32Array, RangeError: EngineRangeError, String: text } = globalThis;
+
+// `again` is true in all but one of so many cases.
+const ENDS_IN = 4;
+
+/** What `answer` returns if the agent asks something else than is given. */
+export const NOT_GIVEN = -1;
+
+/** What it returns if the agent has made as many choices as it can. */
+export const NO_ROOM = -2;
+
+export class Choosing {
+  /**
+   * @param {number} agent
+   * @param {import("../memory/choices.mjs").Choices} choices
+   * @param {number} rounds how often `again` is true at most
+   */
+  constructor(agent, choices, rounds) {
+    this.agent = agent;
+    this.choices = choices;
+    this.rounds = rounds;
+    this.random = new Random(new Int32Array(4));
+    /** The seed of the run. */
+    this.seed = 0;
+    /** Whether random numbers were drawn in it. */
+    this.hasDrawn = false;
+    /** How many rounds are left in it. */
+    this.left = rounds;
+    /** How many of the choices that are given were taken. */
+    this.at = 0;
+  }
+
+  /** @param {number} seed of the run that begins */
+  begin(seed) {
+    this.seed = seed;
+    this.hasDrawn = false;
+    this.left = this.rounds;
+    this.at = 0;
+  }
+
+  /**
+   * @param {number} asked `AGAIN`, or the number that `choose` is asked with
+   * @param {boolean} isPilot
+   * @returns {number} what is returned, or `NOT_GIVEN` or `NO_ROOM`
+   */
+  answer(asked, isPilot) {
+    const { choices } = this;
+    if (choices.how === GIVEN.EXACTLY) return this.#exactly(asked);
+    if (choices.count === MOST_CHOICES) return NO_ROOM;
+    return choices.how === GIVEN.LENIENTLY ? this.#leniently(asked) : this.#drawn(asked, isPilot);
+  }
+
+  /** @param {number} asked */
+  #exactly(asked) {
+    const { at, choices } = this;
+    if (at === choices.given || choices.askedAt(at) !== asked) return NOT_GIVEN;
+    this.at += 1;
+    return choices.returnedAt(at);
+  }
+
+  /**
+   * The next one that is given and fits. If none does, the agent doesn't go on, and chooses 0.
+   * @param {number} asked
+   */
+  #leniently(asked) {
+    const { choices } = this;
+    let { at } = this;
+    while (at < choices.given && choices.askedAt(at) !== asked) at += 1;
+    if (at === choices.given) return 0;
+    this.at = at + 1;
+    return choices.returnedAt(at);
+  }
+
+  /** @param {number} asked @param {boolean} isPilot which is to show as much as it can */
+  #drawn(asked, isPilot) {
+    if (asked !== AGAIN) return this.#below(asked);
+    if (this.left === 0 || (!isPilot && this.#below(ENDS_IN) === 0)) return 0;
+    this.left -= 1;
+    return 1;
+  }
+
+  /** @param {number} count @returns {number} a whole number below it */
+  #below(count) {
+    if (!this.hasDrawn) {
+      this.random.seedApart(this.seed, this.agent);
+      this.hasDrawn = true;
+    }
+    return this.random.below(count);
+  }
+}
+
+/**
+ * What an agent chooses by.
+ * @param {(asked: number, called: Function) => number} chosen makes a choice, for the function that was called
+ * @returns {{ again: () => boolean, choose: (count: number) => number }}
+ */
+export function choicesBy(chosen) {
+  const again = () => chosen(AGAIN, again) === 1;
+  /** @param {number} count */
+  const choose = (count) => {
+    if (canChooseFrom(count)) return chosen(count, choose);
+    const given = typeof count === "number" ? text(count) : `a value of type ${typeof count}`;
+    throw new EngineRangeError(`choose(n) takes a whole number from 1 to ${MOST_NUMBERS}, and was given ${given}`);
+  };
+  return { again, choose };
+}

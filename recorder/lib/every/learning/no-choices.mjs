@@ -1,0 +1,15 @@
+// What stands for `again` and `choose` of an agent that is learned: each may be named and handed on, and is refused when
+// it is called.
+
+import { StandIns } from "./stand-ins.mjs";
+
+const NOT_YET = "--all can't yet try choices";
+
+/**
+ * @param {import("./stand-ins.mjs").EndAgents} refuse
+ * @returns {{ again: Function, choose: Function }}
+ */
+export function noChoices(refuse) {
+  const standIns = new StandIns((what) => refuse(`${what}, and ${NOT_YET}`));
+  return { again: standIns.of(() => {}, "again"), choose: standIns.of(() => {}, "choose") };
+}
