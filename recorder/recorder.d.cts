@@ -105,8 +105,8 @@ export interface Outcome {
   /** The code of each file that the trace names; null if it can't be read, or is longer than 2^20 characters. */
   sources?: { file: string; text: string | null }[];
   /**
-   * For a program's run with its trace: timers, immediates and other tasks, each behind so many events of the trace. For
-   * a module's run what agents chose, if one did.
+   * For a program's run with its trace: timers, immediates and other tasks, each behind so many events of the trace.
+   * For a module's run what agents chose, if one did.
    */
   tasks?: { event: number; agent: number; text: string; source: string | null }[];
   /** For the same run: the number of each message, and what is in it, shortened. */
@@ -141,7 +141,7 @@ export interface Outcome {
   shortened?: Shortened;
 }
 
-/** What an agent chose: `again()` returned a boolean, or `choose(n)` the second of two numbers, the first of which is n. */
+/** What an agent chose: `again()` returned a boolean, or `choose(n)`, with n as the first number, the second one. */
 export type Choice = ["again", boolean] | ["choose", number, number];
 
 /** Bytes of a program's buffer, from `from` to `to` - 1, that are in a block of the script and of the trace. */
@@ -257,7 +257,7 @@ export interface AgentRun {
   agents: number;
   /** The words after `--` on the command line, or the option `args`. */
   args: string[];
-  /** Whether the agent makes another round, as the seed decides: at most so many in a run as the option `rounds` says. */
+  /** Whether the agent makes another round, as the seed decides: at most as many in a run as `rounds` says. */
   again: () => boolean;
   /** A whole number from 0 to `count` - 1, as the seed decides. `count` is a whole number from 1 to 1,000. */
   choose: (count: number) => number;

@@ -16,7 +16,8 @@ export const setup = {
 
 /** @type {import("sabsim").Agent} */
 export default function agent({ buffers: [buffer], agent, again, choose }) {
-  const [lock, count, counted, permits, inside] = Array.from({ length: 5 }, (_, at) => new Int32Array(buffer, 4 * at, 1));
+  const words = Array.from({ length: 5 }, (_, at) => new Int32Array(buffer, 4 * at, 1));
+  const [lock, count, counted, permits, inside] = words;
   const mutex = new ThreeStateMutex(lock);
   const semaphore = new Semaphore(permits);
   const queue = new BoundedQueue(new Int32Array(buffer, 20));

@@ -2,11 +2,11 @@
 // script.
 
 /**
- * @typedef {["again", boolean] | ["choose", number, number]} Choice what was asked, and what was returned: of `again()`
- * whether it goes on, of `choose(n)` the number n and the one that was chosen
+ * @typedef {["again", boolean] | ["choose", number, number]} AgentChoice what was asked, and what was returned: of
+ * `again()` whether it goes on, of `choose(n)` the number n and the one that was chosen
  */
 
-/** @typedef {{ agents: Choice[][] }} ChoicesFile what such a file has: each agent's choices in their order */
+/** @typedef {{ agents: AgentChoice[][] }} ChoicesFile what such a file has: each agent's choices in their order */
 
 /** From how many numbers an agent can choose. */
 export const MOST_NUMBERS = 1_000;
@@ -22,26 +22,26 @@ const { isInteger } = Number;
 /** @param {unknown} count @returns {count is number} whether `choose` takes it */
 export const canChooseFrom = (count) => isInteger(count) && Number(count) >= 1 && Number(count) <= MOST_NUMBERS;
 
-/** @param {Choice} choice @returns {string} what was asked, as the code has it */
+/** @param {AgentChoice} choice @returns {string} what was asked, as the code has it */
 export const askedText = ([does, count]) => (does === "again" ? "again()" : `choose(${count})`);
 
-/** @param {Choice} choice @returns {string} what was asked and returned */
+/** @param {AgentChoice} choice @returns {string} what was asked and returned */
 export const choiceText = (choice) => `${askedText(choice)}, which returned ${choice.at(-1)}`;
 
-/** @param {Choice} choice @returns {string} the same, as what its agent did */
+/** @param {AgentChoice} choice @returns {string} the same, as what its agent did */
 export function chosenText([does, asked, number]) {
   if (does === "choose") return `chose ${number} of ${asked}`;
   return asked ? "chose to go on" : "chose not to go on";
 }
 
-/** @param {Choice[][]} agents the choices of each @returns {string} the text of their file */
+/** @param {AgentChoice[][]} agents the choices of each @returns {string} the text of their file */
 export const choicesText = (agents) => `${JSON.stringify({ agents })}\n`;
 
 /**
  * Reads such a file.
  * @param {string} text
  * @param {number} count how many agents there are
- * @returns {Choice[][]}
+ * @returns {AgentChoice[][]}
  * @throws {UnlikeChoices}
  */
 export function choicesIn(text, count) {
@@ -89,8 +89,8 @@ function isChoice(choice) {
 }
 
 /**
- * @param {Choice | undefined} one
- * @param {Choice | undefined} other
+ * @param {AgentChoice | undefined} one
+ * @param {AgentChoice | undefined} other
  * @returns {boolean} whether the same was asked, with the same result
  */
 export const isSameChoice = (one, other) => `${one}` === `${other}`;

@@ -11,7 +11,7 @@ import { syncBuiltinESMExports } from "node:module";
 import { Writable } from "node:stream";
 import threads from "node:worker_threads";
 import { Board } from "../board/board.mjs";
-import { Choices } from "../memory/choices.mjs";
+import { Choices } from "../memory/choice-list.mjs";
 import { ORDER } from "../memory/layout.mjs";
 import { RecordedMemory } from "../memory/recorded-memory.mjs";
 import { Notes } from "../memory/notes.mjs";

@@ -2,14 +2,14 @@
 // passes.
 
 import { MOST_CHOICES, askedText } from "../../script/choices.mjs";
-import { choiceOf } from "../memory/choices.mjs";
+import { choiceOf } from "../memory/choice-list.mjs";
 import { Choosing, NO_ROOM, NOT_GIVEN } from "./choosing.mjs";
 import { numberAbove, sourceAbove } from "./frames.mjs";
 
 export class Chooser {
   /**
    * @param {import("./agent-run.mjs").AgentRun} part of the agent
-   * @param {import("../memory/choices.mjs").Choices} choices its memory
+   * @param {import("../memory/choice-list.mjs").Choices} choices its memory
    * @param {number} rounds how often `again` is true at most
    */
   constructor(part, choices, rounds) {
@@ -55,7 +55,8 @@ export class Chooser {
     const { part } = this;
     const place = sourceAbove(called);
     part.enter();
-    return part.endAtLimit(`agent ${part.agent} has made ${MOST_CHOICES} choices, and goes on${whereText(place)}`, false);
+    const many = `agent ${part.agent} has made ${MOST_CHOICES} choices, and goes on`;
+    return part.endAtLimit(`${many}${whereText(place)}`, false);
   }
 }
 

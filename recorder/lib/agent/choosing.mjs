@@ -1,7 +1,7 @@
 // What an agent's `again()` and `choose(n)` return: as the seed draws it, or as it is given.
 
 import { MOST_CHOICES, MOST_NUMBERS, canChooseFrom } from "../../script/choices.mjs";
-import { AGAIN, GIVEN } from "../memory/choices.mjs";
+import { AGAIN, GIVEN } from "../memory/choice-list.mjs";
 import { Random } from "../memory/random.mjs";
 
 const { Int32Array, RangeError: EngineRangeError, String: text } = globalThis;
@@ -18,7 +18,7 @@ export const NO_ROOM = -2;
 export class Choosing {
   /**
    * @param {number} agent
-   * @param {import("../memory/choices.mjs").Choices} choices
+   * @param {import("../memory/choice-list.mjs").Choices} choices
    * @param {number} rounds how often `again` is true at most
    */
   constructor(agent, choices, rounds) {

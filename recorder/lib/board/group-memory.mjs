@@ -1,6 +1,6 @@
 // The memory that the threads of a group share: the agents' buffers, and what the recorder writes down of a run.
 
-import { Choices } from "../memory/choices.mjs";
+import { Choices } from "../memory/choice-list.mjs";
 import { CopiedRuns } from "../memory/copied-runs.mjs";
 import { Log } from "../memory/log.mjs";
 import { Notes } from "../memory/notes.mjs";

@@ -49,7 +49,10 @@ function asked(simulator, job, input, what) {
 function checkReplay(simulator, { seed, script = "", report = "", choices }) {
   const { status, output, failure } = asked(simulator, { job: "replay" }, script, "script");
   /** @param {string[]} lines */
-  const differs = (...lines) => new Difference(`seed ${seed}: ${lines.join("\n")}`, { seed, script, report, ...(choices && { choices }) }, output);
+  const differs = (...lines) => {
+    const run = { seed, script, report, ...(choices && { choices }) };
+    return new Difference(`seed ${seed}: ${lines.join("\n")}`, run, output);
+  };
   if (status !== 0) throw differs(failure);
   const difference = firstDifference(report, output);
   if (difference === undefined) return;

@@ -7,7 +7,10 @@ import { runDataOf } from "./kept-page.mjs";
 
 /** @typedef {import("../../page/steps.mjs").Step} Step */
 
-/** @param {Step} step of the script @returns {number} the number of its first move: one that begins comes before it acts */
+/**
+ * @param {Step} step of the script
+ * @returns {number} the number of its first move: one that begins comes before it acts
+ */
 const firstMove = ({ what, entry = 0 }) => (what === "leave" || what === "stuck" ? entry : entry - 1);
 
 /**

@@ -5,7 +5,7 @@
 /** @typedef {import("./races/race-reports.mjs").RaceReport} RaceReport */
 /** @typedef {import("./script/array-accesses.mjs").ArrayAccesses} ArrayAccesses */
 /** @typedef {import("./windows/in-windows.mjs").NamedWindow} NamedWindow */
-/** @typedef {import("../../script/choices.mjs").Choice} Choice */
+/** @typedef {import("../../script/choices.mjs").AgentChoice} AgentChoice */
 
 /** @typedef {"finished" | "deadlock" | "stuck" | "failed" | "check" | "race" | "limit"} Ending */
 
@@ -22,7 +22,7 @@
  * @property {import("./ending/final-state.mjs").FinalState} state of the end
  * @property {RaceReport[]} races the unordered accesses, each pair of lines of code once
  * @property {number[]} [row] which agent moved with each draw, in order, if that is asked for
- * @property {Choice[][]} [choices] what each agent chose, if one did
+ * @property {AgentChoice[][]} [choices] what each agent chose, if one did
  * @property {string} [noScript] why there is no script
  * @property {string[]} [unrecorded] which shared memory and which threads agents used that aren't recorded, if any
  * @property {string[]} [real] what a program has used that the machine answers, by name and line, if anything
@@ -89,8 +89,8 @@
  * @property {boolean} [isShown] whether what a program prints is shown, though the run isn't the first one
  * @property {boolean} [learns] whether pilots of a program are made before, of which nothing is known yet
  * @property {boolean} [isFresh] whether the agents' workers are started anew before
- * @property {Choice[][]} [choices] what each agent is to choose; else the seed draws it. If the run is to go exactly by
- * a row, it ends at the first question that differs
+ * @property {AgentChoice[][]} [choices] what each agent is to choose; else the seed draws it. If the run is to go
+ * exactly by a row, it ends at the first question that differs
  */
 
 /** @typedef {Wanting & import("../board/drawn-schedule.mjs").WantedSchedule} WantedRun a run that is to be made */

@@ -2,7 +2,7 @@
 // end, looks for unordered accesses, and calls for `check`.
 
 import { Board } from "../board/board.mjs";
-import { Choices } from "../memory/choices.mjs";
+import { Choices } from "../memory/choice-list.mjs";
 import { NOBODY, ORDER } from "../memory/layout.mjs";
 import { RecordedMemory } from "../memory/recorded-memory.mjs";
 import { Notes } from "../memory/notes.mjs";
@@ -35,7 +35,7 @@ import { unseenText } from "./words/unseen-text.mjs";
  * was to go by
  * @property {import("./words/program-names.mjs").ProgramNames} [names] of a program's threads and blocks
  * @property {import("./ending/final-state.mjs").MoreBytes} [more] of a program, in blocks that no script can have
- * @property {import("../memory/choices.mjs").ChoiceMade[][]} [choices] of each agent, if one has made some
+ * @property {import("../memory/choice-list.mjs").ChoiceMade[][]} [choices] of each agent, if one has made some
  */
 
 /**

@@ -17,7 +17,8 @@ import { isRealAnswer, moverOf } from "../board/drawn-schedule.mjs";
  */
 export function areSame(one, other) {
   /** @param {RunSummary} summary */
-  const parts = ({ ending, calls, state, choices = [] }) => [ending, calls, state.hash, JSON.stringify(choices)].join(" ");
+  const parts = ({ ending, calls, state, choices = [] }) =>
+    [ending, calls, state.hash, JSON.stringify(choices)].join(" ");
   if (parts(one) !== parts(other)) return false;
   // An answer on which no agent moves is counted as a move, too.
   if (one.real && one.row && other.row) return firstOtherMove(one.row, other.row) === undefined;

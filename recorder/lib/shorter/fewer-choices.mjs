@@ -1,20 +1,20 @@
 // Runs in which agents make fewer rounds, or choose smaller numbers. A round begins when `again` is true, and ends when
 // its agent asks `again` the next time.
 
-/** @typedef {import("../../script/choices.mjs").Choice} Choice */
+/** @typedef {import("../../script/choices.mjs").AgentChoice} AgentChoice */
 
 /**
  * @typedef {object} ChosenRun
  * @property {number[]} row
- * @property {Choice[][]} [choices] of each agent; undefined: none has made one
+ * @property {AgentChoice[][]} [choices] of each agent; undefined: none has made one
  * @property {number[][]} [drawsBefore] of each choice how many draws of the row come before it
  */
 
-/** @typedef {{ row: number[], choices: Choice[][] }} FewerChoices */
+/** @typedef {{ row: number[], choices: AgentChoice[][] }} FewerChoices */
 
 /** @typedef {{ from: number, to: number, agent: number }} Part of a list */
 
-/** @param {Choice[]} choices @returns {number[]} where rounds begin and, at last, where the last one ends */
+/** @param {AgentChoice[]} choices @returns {number[]} where rounds begin and, at last, where the last one ends */
 function roundsIn(choices) {
   const asked = choices.flatMap(([does], at) => (does === "again" ? [at] : []));
   const last = asked.at(-1);
@@ -90,10 +90,11 @@ export const lowerable = ({ choices = [] }) => choices.flatMap((each, agent) =>
 export function withSmaller(run, { agent, at }) {
   const number = Number(run.choices?.[agent][at].at(-1));
   const smaller = [...new Set([0, Math.floor(number / 2), number - 1])];
-  return smaller.map((other) => withNumbers(run, (whose, where, own) => (whose === agent && where === at ? other : own)));
+  return smaller.map((other) =>
+    withNumbers(run, (whose, where, own) => (whose === agent && where === at ? other : own)));
 }
 
-/** @param {Choice} choice */
+/** @param {AgentChoice} choice */
 const isLowerable = ([does, , number]) => does === "choose" && Number(number) > 0;
 
 /**
@@ -106,5 +107,5 @@ export function compareChoices({ choices: one = [] }, { choices: other = [] }) {
   return fewer === 0 ? sumOf(one) - sumOf(other) : fewer;
 }
 
-/** @param {Choice[][]} choices */
+/** @param {AgentChoice[][]} choices */
 const sumOf = (choices) => choices.flat().reduce((sum, choice) => sum + Number(choice.at(-1)), 0);

@@ -4,9 +4,11 @@ import { existsSync, readFileSync } from "node:fs";
 import { UnlikeChoices, choiceText, choicesIn, isSameChoice } from "../../script/choices.mjs";
 import { Refused } from "../options/refused.mjs";
 
-/** @typedef {import("../../script/choices.mjs").Choice} Choice */
+/** @typedef {import("../../script/choices.mjs").AgentChoice} AgentChoice */
 
-/** @typedef {{ agents: Choice[][], file: string | undefined }} KeptChoices of each agent; the file, if there is one */
+/**
+ * @typedef {{ agents: AgentChoice[][], file: string | undefined }} KeptChoices of each agent; the file, if there is one
+ */
 
 const SCRIPT = /\.json$/;
 
@@ -41,7 +43,7 @@ const whereText = ({ file }, script) => file ?? script.replace(SCRIPT, ".choices
 /**
  * How a run has asked for another choice than it was given.
  * @param {KeptChoices} kept
- * @param {Choice[][]} made by the run before that
+ * @param {AgentChoice[][]} made by the run before that
  * @param {number} agent that has asked
  * @param {string} asked what it has asked for, with its line
  * @param {string} script
@@ -60,7 +62,7 @@ export function otherChoiceText(kept, made, agent, asked, script) {
 /**
  * The first choice that a run hasn't made, or has made with another result.
  * @param {KeptChoices} kept
- * @param {Choice[][]} made
+ * @param {AgentChoice[][]} made
  * @returns {string | undefined} undefined: both are the same
  */
 export function missingChoiceText({ agents, file }, made) {

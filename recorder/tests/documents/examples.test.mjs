@@ -94,7 +94,8 @@ const FOUND = {
   "bounded-queue": sameBytes,
   barrier: sameBytes,
   choosing: (outcomes) => {
-    const rounds = outcomes.flatMap(({ choices }) => choices.flat()).filter(([does, goesOn]) => does === "again" && goesOn);
+    const all = outcomes.flatMap(({ choices }) => choices.flat());
+    const rounds = all.filter(([does, goesOn]) => does === "again" && goesOn);
     return `nothing; agents make ${rounds.length.toLocaleString("en")} rounds, and give up ${timeOuts(outcomes)} times`;
   },
   ring: sameBytes,

@@ -69,7 +69,7 @@ const DRAWN = [
   + '["again",true],["choose",4,2],["again",false]]]',
 ];
 
-test("choices take nothing of the schedule: a module that makes them by itself has the same script", async (context) => {
+test("choices take nothing of the schedule: a module that makes them itself has the same script", async (context) => {
   const module = moduleOf(context, LOCK);
   const own = moduleOf(context, LOCK.replace("{ buffers, again, choose }", "{ buffers, agent, args }").replace(
     "const words", `const left = JSON.parse(args[0])[agent];
@@ -127,12 +127,13 @@ export default ({ buffers, choose }) => {
   choose(0);
 };`), ...FEW });
   assert.equal(ending, "failed");
-  assert.match(detail, /^agent \d threw RangeError: choose\(n\) takes a whole number from 1 to 1000, and was given 0\n/);
+  const wanted = /^agent \d threw RangeError: choose\(n\) takes a whole number from 1 to 1000, and was given 0\n/;
+  assert.match(detail, wanted);
   assert.match(failure.sources[0], /^agents\.mjs:4:3$/);
   assert.deepEqual(choices.map((made) => made.map(([does, of]) => [does, of])), [[["choose", 7]], [["choose", 7]]]);
 });
 
-test("an agent whose run is over makes no more choices, and one that chooses for ever meets a limit", async (context) => {
+test("an agent whose run is over makes no more choices; one that chooses for ever meets a limit", async (context) => {
   const over = moduleOf(context, `${HEAD}
 export default ({ buffers, agent, choose }) => {
   const words = new Int32Array(buffers[0]);
@@ -268,7 +269,8 @@ describe("a kept run", () => {
     assert.equal(await differenceOf(module, file),
       `agent 0's choice 3 was again(), which returned false, in ${where}, and isn't made now`);
     changed("  }\n}", "  }\n  choose(9);\n}");
-    assert.equal(await differenceOf(module, file), `agent 0's choice 4 is choose(9), at agents.mjs:10:3, and isn't in ${where}`);
+    assert.equal(await differenceOf(module, file),
+      `agent 0's choice 4 is choose(9), at agents.mjs:10:3, and isn't in ${where}`);
     await assert.rejects(replayed(module, file), NoLongerTheSame);
   });
 
@@ -282,8 +284,8 @@ describe("a kept run", () => {
   test("whose choices don't fit is refused", async (context) => {
     const { module, folder, file } = await kept(context);
     const where = fileIn(folder, "seed-15.choices.json", '{"agents":[[]]}\n');
-    const why = `${where}, which has the choices for ${file}, doesn't fit it: it has choices of 1 agents, and the script's `
-      + "run had 2";
+    const why = `${where}, which has the choices for ${file}, doesn't fit it: it has choices of 1 agents, and the `
+      + "script's run had 2";
     assert.throws(() => replayed(module, file), (error) => error instanceof Refused && error.message === why);
   });
 
@@ -384,7 +386,7 @@ describe("many runs", () => {
     assert.throws(() => merged([one, ...third]), refusedInALine(/--rounds is not given in the one and 3 in the other/));
   });
 
-  test("are repeated by the first seed's run, and a module that asks other questions then is noticed", async (context) => {
+  test("are repeated by the first seed's run, and a module that asks other questions is noticed", async (context) => {
     const remembers = async (code) => (await outcomesOf(moduleOf(context, code), { seeds: 5 })).at(-1).remembers;
     assert.equal(await remembers(ADDS), undefined);
     const other = await remembers(`${HEAD}
@@ -424,7 +426,8 @@ describe("options", () => {
   test("a number of rounds that can't be is refused, and so is one for a program", async (context) => {
     const module = moduleOf(context, LOCK);
     for (const rounds of [0, 1_001, 1.5]) {
-      await assert.rejects(record({ module, rounds }), refusedInALine(/`rounds` must be a whole number from 1 to 1,?000/));
+      const refusal = refusedInALine(/`rounds` must be a whole number from 1 to 1,?000/);
+      await assert.rejects(record({ module, rounds }), refusal);
     }
     await assert.rejects(record({ program: module, rounds: 2 }), refusedInALine(/`rounds` doesn't go with `program`/));
     const { status, stderr } = await commandHere(["--program", module, "--rounds", "2"]);
@@ -437,10 +440,10 @@ describe("options", () => {
       assert.deepEqual([status, stdout], [2, ""]);
       return stderr;
     };
-    assert.equal(await refused(LOCK), "record: --all can't learn what the agents do: it uses `again`, and --all can't yet "
-      + "try choices, at agents.mjs:4:10\n");
-    assert.equal(await refused(ADDS.replace("again()", "choose(2) > 0")), "record: --all can't learn what the agents do: "
-      + "it uses `choose`, and --all can't yet try choices, at agents.mjs:4:10\n");
+    const refusal = (name) => `record: --all can't learn what the agents do: it uses \`${name}\`, and --all can't yet `
+      + "try choices, at agents.mjs:4:10\n";
+    assert.equal(await refused(LOCK), refusal("again"));
+    assert.equal(await refused(ADDS.replace("again()", "choose(2) > 0")), refusal("choose"));
     assert.equal(await refused(LOCK, "--rounds", "2"),
       "record: --rounds doesn't go with --all: it can't yet try choices\n");
     const named = moduleOf(context, `${HEAD}
@@ -455,7 +458,7 @@ export default function agent(run) {
 });
 
 test("a program gets no choices", async (context) => {
-  const module = moduleOf(context, "if (typeof again !== 'undefined' || typeof choose !== 'undefined') throw new Error();");
+  const module = moduleOf(context, "if ([typeof again, typeof choose].some((it) => it !== 'undefined')) throw 1;");
   const { status, stderr } = await commandThere(["--program", module, "--seeds", "1"]);
   assert.equal(status, 0, stderr);
 });

@@ -4,7 +4,7 @@
 import assert from "node:assert/strict";
 import { test } from "node:test";
 import { Choosing, NO_ROOM, NOT_GIVEN, choicesBy } from "../../lib/agent/choosing.mjs";
-import { AGAIN, Choices } from "../../lib/memory/choices.mjs";
+import { AGAIN, Choices } from "../../lib/memory/choice-list.mjs";
 import {
   compareChoices, lowerable, mostRounds, withSmaller, withZeros, withoutRounds,
 } from "../../lib/shorter/fewer-choices.mjs";
@@ -146,7 +146,8 @@ const WRONG = {
 
 test("what is no file of choices is refused, with what is wrong", () => {
   for (const [text, message] of Object.entries(WRONG)) {
-    assert.throws(() => choicesIn(text, 2), (error) => error instanceof UnlikeChoices && message.test(error.message), text);
+    const isWanted = (error) => error instanceof UnlikeChoices && message.test(error.message);
+    assert.throws(() => choicesIn(text, 2), isWanted, text);
   }
   const many = JSON.stringify({ agents: [Array(MOST_CHOICES + 1).fill(["again", true])] });
   assert.throws(() => choicesIn(many, 1), /4001 choices, and an agent can make 4000/);

@@ -1,5 +1,5 @@
-// What stands for `again` and `choose` of an agent that is learned: each may be named and handed on, and is refused when
-// it is called.
+// What stands for `again` and `choose` of an agent that is learned: each may be named and handed on, and is refused
+// when it is called.
 
 import { StandIns } from "./stand-ins.mjs";
 

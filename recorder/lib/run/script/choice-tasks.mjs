@@ -3,9 +3,9 @@
 
 import { chosenText } from "../../../script/choices.mjs";
 
-/** @typedef {import("../../memory/choices.mjs").ChoiceMade} ChoiceMade */
+/** @typedef {import("../../memory/choice-list.mjs").ChoiceMade} ChoiceMade */
 
-/** @param {ChoiceMade[][]} made by each agent @returns {import("../../../script/choices.mjs").Choice[][]} */
+/** @param {ChoiceMade[][]} made by each agent @returns {import("../../../script/choices.mjs").AgentChoice[][]} */
 export const choicesOf = (made) => made.map((each) => each.map(({ choice }) => choice));
 
 /**

@@ -3,7 +3,7 @@
 
 import { MOST_CHOICES } from "../../script/choices.mjs";
 
-/** @typedef {import("../../script/choices.mjs").Choice} Choice */
+/** @typedef {import("../../script/choices.mjs").AgentChoice} AgentChoice */
 
 // Agents may change what they find, so the engine's own functions are kept here, before.
 const { Int32Array, SharedArrayBuffer } = globalThis;
@@ -31,10 +31,14 @@ const WORDS_EACH = 5;
 const FIRST_GIVEN = HEAD + MOST_CHOICES * WORDS_EACH;
 const GIVEN_EACH = 2;
 
-/** @param {number} asked @param {number} returned @returns {Choice} */
-export const choiceOf = (asked, returned) => (asked === AGAIN ? ["again", returned === 1] : ["choose", asked, returned]);
+/** @param {number} asked @param {number} returned @returns {AgentChoice} */
+export const choiceOf = (asked, returned) =>
+  (asked === AGAIN ? ["again", returned === 1] : ["choose", asked, returned]);
 
-/** @typedef {{ choice: Choice, event: number, draws: number, source: number }} ChoiceMade with the number of its line */
+/**
+ * @typedef {{ choice: AgentChoice, event: number, draws: number, source: number }} ChoiceMade with the number of its
+ * line
+ */
 
 export class Choices {
   /** @returns {SharedArrayBuffer} */
@@ -49,7 +53,7 @@ export class Choices {
 
   /**
    * A run begins. No agent may be busy.
-   * @param {Choice[]} [given] which choices the agent is to make; else the seed draws them
+   * @param {AgentChoice[]} [given] which choices the agent is to make; else the seed draws them
    * @param {boolean} [isExact] whether the run ends if the agent asks something else
    */
   begin(given, isExact = false) {
