@@ -30,7 +30,10 @@ const WANTS_STANDARD = 1;
  */
 const INPUTS = ["script", "trace", "automata", "states"];
 
-/** How many bytes the output may have, if what is left out isn't made again. @type {{ [kind: string]: number }} */
+/**
+ * How many bytes the output may have, if what is left out isn't made again.
+ * @type {{ [kind in InputKind]?: number }}
+ */
 const ROOMS = { automata: ROOM_OF_SEARCH, states: ROOM_OF_STATES };
 
 /** A list of no bytes. */
