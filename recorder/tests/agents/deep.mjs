@@ -6,7 +6,7 @@ export const ASKS = {
   wait: (words) => Atomics.wait(words, 3, 0, 5),
   notify: (words) => Atomics.notify(words, 3),
   exchange: (words) => Atomics.exchange(words, { valueOf: () => 3 }, "0.5"),
-  refuse: (words) => Atomics.store(words, 3, 2 ** 53),
+  refuse: (words) => Atomics.waitAsync(words, 3, 0),
 };
 
 /** Goes down to the end of the stack, and asks on the way back. */

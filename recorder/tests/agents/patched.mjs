@@ -108,7 +108,7 @@ const ENDS = [
   () => {
     throw new EngineError("as it must be");
   },
-  (words) => void Atomics.store(words, 5, 2 ** 53),
+  (words) => void Atomics.waitAsync(words, 5, 0),
   () => void setImmediate(() => {}),
 ];
 

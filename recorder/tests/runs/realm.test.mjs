@@ -213,7 +213,7 @@ describe("a patched language", () => {
   /** How the module's agents end, in the order of its cases, and what is said about it. */
   const ENDS = {
     finished: "", deadlock: "waits at byte 20", failed: "threw Error: as it must be",
-    refused: "the value 9007199254740992",
+    refused: "Atomics.waitAsync",
     later: "goes on later, by setImmediate",
   };
 

@@ -2,7 +2,7 @@
 // is known by its first prototype, which its constructor gives it: so it is noted when such an object gets another one.
 // That makes the walk of values complete for all that the engine or node can make, however it is called.
 
-import nodeUtil, { types } from "node:util";
+import nodeUtil from "node:util";
 import { methodOf, replace } from "../../agent/ordinary/patch.mjs";
 import { boundOf } from "./bound-functions.mjs";
 import {
@@ -14,7 +14,7 @@ import {
 const noted = new WeakSet();
 const add = uncurried(WeakSet.prototype.add);
 const has = uncurried(WeakSet.prototype.has);
-const { isProxy } = types;
+const { isProxy } = /** @type {any} */ (nodeUtil).types;
 const { prototype: functions } = Function;
 
 /** @type {NamedBuiltins | undefined} what was there before the agents' code */
