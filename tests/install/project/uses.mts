@@ -3,7 +3,7 @@
 import {
   everySchedule, explore, record, Difference, KeepsGlobals, LostJob, NoSabsim, NotAsLearned, Refused,
 } from "sabsim";
-import type { Accesses, Agent, AgentRun, Ending, ExploreOptions, Outcome, Race, RaceSide } from "sabsim";
+import type { Accesses, Agent, AgentRun, Choice, Ending, ExploreOptions, Outcome, Race, RaceSide } from "sabsim";
 import type { Kind, NamedPart, NamedPlace, OnlyByTime, RecordOptions, Setup, Shortened, Standing } from "sabsim";
 import type { EveryOptions, EverySchedule, FoundBySchedule, OfEvery } from "sabsim";
 import type { ManyRuns, MemoryWindow, OfModule, OfProgram, OneRun, RunOptions, Summary, WithBuffers } from "sabsim";
@@ -19,6 +19,13 @@ export const agent: Agent = ({ buffers, agent, agents, args }: AgentRun) => {
   Atomics.store(words, agent % 2, agents + args.length);
 };
 
+export const choosing: Agent = ({ buffers: [buffer], again, choose }) => {
+  while (again()) Atomics.add(new Int32Array(buffer!), choose(2), 1);
+};
+
+const choiceText = ([does, ...numbers]: Choice): string => `${does} ${numbers.join()}`;
+export const choicesText = ({ choices = [] }: Outcome): string => choices.flat().map(choiceText).join();
+
 // @ts-expect-error: an agent must be synchronous
 export const late: Agent = async ({ buffers }) => void Atomics.load(new Int32Array(buffers[0]!), 0);
 
@@ -29,7 +36,7 @@ const filled: WithBuffers = ([buffer], { agents, args }) => {
 const options: RunOptions & OneRun & OfModule = {
   module: "./lock.mjs", agents: 2, buffers: [8], noBlock: [0], seed: 7, args: ["counting"], strategy: "switch:0.5",
   timeouts: 0.1, maxMoves: 1_000, seconds: 2, ordinary: "watch", races: "allow", limits: "fail", clock: "run",
-  unrecorded: "fail", init: filled, check: ([buffer]) => buffer!.byteLength === 8, sabsim: false, trace: true,
+  unrecorded: "fail", rounds: 3, init: filled, check: ([buffer]) => buffer!.byteLength === 8, sabsim: false, trace: true,
   shorten: true,
 };
 
