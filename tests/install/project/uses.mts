@@ -36,8 +36,8 @@ const filled: WithBuffers = ([buffer], { agents, args }) => {
 const options: RunOptions & OneRun & OfModule = {
   module: "./lock.mjs", agents: 2, buffers: [8], noBlock: [0], seed: 7, args: ["counting"], strategy: "switch:0.5",
   timeouts: 0.1, maxMoves: 1_000, seconds: 2, ordinary: "watch", races: "allow", limits: "fail", clock: "run",
-  unrecorded: "fail", rounds: 3, init: filled, check: ([buffer]) => buffer!.byteLength === 8, sabsim: false, trace: true,
-  shorten: true,
+  unrecorded: "fail", init: filled, check: ([buffer]) => buffer!.byteLength === 8, sabsim: false, trace: true,
+  shorten: true, rounds: 3,
 };
 
 const { seed, shorten, ...rest } = options;
