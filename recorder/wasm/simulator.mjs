@@ -25,7 +25,7 @@ const WANTS_NOTHING = 0;
 const WANTS_STANDARD = 1;
 
 /**
- * What that is, by the status of the reply; `states` is a file of automata whose states are to be written.
+ * What the input is, by the status of the reply; `states` is a file of automata whose states are to be written.
  * @type {readonly InputKind[]}
  */
 const INPUTS = ["script", "trace", "automata", "states"];
