@@ -2,12 +2,12 @@
 // that leads to its node. Two histories are one node only if all that the agent keeps is the same.
 
 import { leftOpen } from "../../agent/answer.mjs";
-import { defineProperty } from "../../primordials.mjs";
 import { CantShow } from "../state/object-kinds.mjs";
 import { DONE, DOES, isCall, nodeOf } from "../search/nodes.mjs";
 import { nodeText } from "../search/node-texts.mjs";
 import { CantLearn, askedEnd, isSame, keyOf } from "./asked-nodes.mjs";
 import { accessed, cantText } from "./asking.mjs";
+import { putNumber } from "./given-number.mjs";
 import { PART } from "./learning-progress.mjs";
 import { noChoices } from "./no-choices.mjs";
 import { namesRewritten, thrownText } from "./thrown.mjs";
@@ -173,8 +173,7 @@ export class Learner {
     this.agent = agent;
     const { count, args } = agents;
     const given = { buffers: [...asker.buffers], agent, agents: count, args: [...args], ...this.choices };
-    const noticed = { get: this.number, set: this.changesNumber, enumerable: true, configurable: true };
-    if (agents.isShared) defineProperty(given, "agent", noticed);
+    if (agents.isShared) putNumber(given, this.number, this.changesNumber);
     return asker.watched(PART.AGENT, () => this.#ended(run, () => fn(given)));
   }
 
