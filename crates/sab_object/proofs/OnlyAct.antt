@@ -1,14 +1,12 @@
 -- From one state an act has one outcome.
-use Rattle.std.proofs.Common.{◌≡◌, ℕ, Bool, false, List, length, slice_get, slice_set, Option, Some, None, refl, ap, sym, ◌∙◌, subst, arith}
+use Rattle.std.proofs.Common.{◌≡◌, ℕ, Bool, false, length, slice_get, slice_set, Option, Some, None, refl, ap, sym, ◌∙◌, subst, arith}
 use Rattle.std.proofs.lemmas.Grind.{common_steps}
-use Rattle.std.proofs.lemmas.Bool.{cases_eq, true≢false}
-use Rattle.sab_block.specs.declared.operand.Operand.{Operand}
-use Rattle.sab_block.specs.declared.view.View.{View}
+use Rattle.std.proofs.lemmas.Bool.{true≢false}
 use Rattle.sab_block.specs.declared.access.Access.{Access}
 use Rattle.sab_block.specs.declared.access.Access.TheVariants as X
 use Rattle.sab_block.specs.Operand.{raw, whole_of}
 use Rattle.sab_block.specs.View.{kind_of, place}
-use Rattle.sab_block.specs.Access.{ActsAt, element, index_of}
+use Rattle.sab_block.specs.Access.{index_of}
 use Rattle.sab_plan.specs.declared.place.Place.{Place}
 use Rattle.sab_plan.specs.declared.plan_view.PlanView.{PlanView}
 use Rattle.sab_plan.specs.declared.call.Call.{Call}
@@ -32,15 +30,6 @@ one_value o x y e f = cc
 -- an option isn't both
 not_both : {X : Type 0} (o : Option X) (x : X) → o ≡ Some x → o ≡ None → ⊥
 not_both o x e f = cc
-
--- an access acts in one way
-ActsAt-one : (v : View) (access : Access) (p : ℕ) (mem : List ℕ) (x y : Operand) (new new' : List ℕ)
-    → ActsAt v access p mem x new → ActsAt v access p mem y new' → (x ≡ y) × (new ≡ new')
-ActsAt-one v (X.Load index) p mem x y new new' a b = (a.0 ∙ sym b.0, a.1 ∙ sym b.1)
-ActsAt-one v (X.Store index z) p mem x y new new' a b = (a.0 ∙ sym b.0, a.1 ∙ sym b.1)
-ActsAt-one v (X.Rmw op index z) p mem x y new new' a b = (a.0 ∙ sym b.0, a.1 ∙ sym b.1)
-ActsAt-one v (X.CompareExchange index z r) p mem x y new new' a b =
-    grind (arith, common_steps, cases_eq, element, raw, kind_of, whole_of)
 
 -- a call that has begun has one outcome
 pub DoesCall-one : (cb : Bool) (a : ℕ) (v : PlanView) (call : Call) (S : State) (w : What) (T : State) (w' : What)

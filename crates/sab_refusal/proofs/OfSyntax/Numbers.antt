@@ -1,5 +1,5 @@
 -- What the rest of a number has to be, by its parts.
-use Rattle.std.proofs.Common.{◌≡◌, ℕ, suc, ◌+◌, ◌-◌, Bool, true, false, cond, ◌||◌, List, [], ◌∷◌, drop, Option, Some, None, option_and_then, refl, sym, ap, ◌∙◌, arith}
+use Rattle.std.proofs.Common.{◌≡◌, ℕ, suc, ◌+◌, ◌-◌, Bool, true, false, cond, ◌||◌, List, ◌∷◌, drop, Option, Some, None, option_and_then, refl, sym, ap, ◌∙◌, arith}
 use Rattle.std.proofs.lemmas.Grind.{common_steps}
 use Rattle.std.proofs.lemmas.Bool.{ne_eqb}
 use Rattle.std.specs.Prelude.{◌==◌}
@@ -134,17 +134,6 @@ number_rest-step Fraction b xs =
 number_rest-step Power b xs = by_sign b xs (b == 45 || b == 43) refl
 number_rest-step Sign b xs = by_last_digit b xs
 number_rest-step Exponent b xs = by_more b xs (is_ascii_digit b) Exponent None Some refl refl refl
-
--- a number ends where the text does
-pub number_rest-end : (q : NumberPart) → number_rest q [] ≡ cond (is_complete q) (Some []) None
-number_rest-end Minus = refl
-number_rest-end Zero = refl
-number_rest-end Whole = refl
-number_rest-end Point = refl
-number_rest-end Fraction = refl
-number_rest-end Power = refl
-number_rest-end Sign = refl
-number_rest-end Exponent = refl
 
 -- the first byte of a number
 

@@ -60,10 +60,6 @@ keep_map : {A B : Type 0} (p : A → Bool) (q : B → Bool) (f : A → B) → ((
 keep_map p q f same None = refl
 keep_map p q f same (Some x) = ap (λ b. cond b (Some x.1) None) (same x.0)
 
-IsSomeOf : {A : Type 0} → Option A → Type 0
-IsSomeOf None = ⊥
-IsSomeOf (Some a) = Unit {0}
-
 keep_left : {A : Type 0} (p : A → Bool) (o : Option (A × List Token)) (r : List Token) → keep p o ≡ Some r
     → left o ≡ Some r
 keep_left p None r e = e

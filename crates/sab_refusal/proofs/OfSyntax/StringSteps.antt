@@ -94,23 +94,6 @@ string_rest-step P.PairSecond b xs = by_second (is_from_c b) (is_hex b) P.PairTh
 string_rest-step P.PairThird b xs = by_cond (is_hex b) P.PairFourth F.Escape xs
 string_rest-step P.PairFourth b xs = by_cond (is_hex b) P.Plain F.Escape xs
 
--- no string ends where the text does
-pub string_rest-nil : (part : StringPart) → string_rest part [] ≡ false
-unfolding content
-string_rest-nil P.Plain = refl
-string_rest-nil P.Escape = refl
-string_rest-nil P.First = refl
-string_rest-nil (P.Second false) = refl
-string_rest-nil (P.Second true) = refl
-string_rest-nil (P.Third h) = refl
-string_rest-nil (P.Fourth h) = refl
-string_rest-nil P.Pair = refl
-string_rest-nil P.PairEscape = refl
-string_rest-nil P.PairFirst = refl
-string_rest-nil P.PairSecond = refl
-string_rest-nil P.PairThird = refl
-string_rest-nil P.PairFourth = refl
-
 -- ---- the lexer beside it
 
 abbrev pub mode_of : StringPart → Mode
