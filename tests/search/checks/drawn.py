@@ -31,8 +31,8 @@ class Drawn(NamedTuple):
 
 
 def drawn(seed, only_calls=False, has_likes=False):
-    """Returns the file of a seed; if asked with calls alone, on zero bytes, and with timeouts at any time; or with
-    several agents of an automaton."""
+    """Returns the file of a seed; if asked without ordinary accesses, on zero bytes, and with timeouts at any time;
+    or with several agents of an automaton."""
     draw = random.Random(f"{seed} {only_calls}{' likes' * has_likes}")
     choice = "early" if only_calls else draw.choice(["early", "early", "last", "last", "never"])
     file = Writer(draw, only_calls, has_likes).file()
