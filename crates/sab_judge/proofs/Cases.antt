@@ -1,5 +1,6 @@
 -- What tests of events show.
-use Rattle.std.proofs.Common.{◌≡◌, ℕ, ◌==◌, ◌&&◌, ◌+◌, ◌-◌, ◌<◌, true, Option, Some, None, sym, ◌∙◌, arith}
+use Rattle.std.proofs.Common.{◌≡◌, ℕ, ◌==◌, ◌&&◌, ◌+◌, ◌-◌, ◌<◌, true, Option, Some, None, sym, arith}
+use Rattle.std.proofs.lemmas.Grind.{common_steps}
 use Rattle.std.proofs.lemmas.Bool.{false≢true, eqb-true, eq-eqb, and_parts, and_from, leb-true, le-leb, ltb-true, lt-ltb}
 use Rattle.sab_judge.specs.declared.place.Place.{Place}
 use Rattle.sab_judge.specs.declared.access.Access.{Access}
@@ -10,12 +11,7 @@ use Rattle.sab_judge.specs.Event.{share_waiters}
 
 -- two places that are a third are one
 same_place-joined : (p q r : Place) → same_place p r ≡ true → same_place q r ≡ true → same_place p q ≡ true
-same_place-joined p q r e f =
-    let x = and_parts (p.block == r.block) (p.byte == r.byte) e in
-    let y = and_parts (q.block == r.block) (q.byte == r.byte) f in
-    and_from (p.block == q.block) (p.byte == q.byte)
-    (eq-eqb p.block q.block (eqb-true p.block r.block x.0 ∙ sym (eqb-true q.block r.block y.0)))
-    (eq-eqb p.byte q.byte (eqb-true p.byte r.byte x.1 ∙ sym (eqb-true q.byte r.byte y.1)))
+same_place-joined p q r e f = grind (arith, common_steps, and_parts, and_from, eq-eqb, eqb-true)
 
 -- who is among the waiters of no place shares them with nobody
 pub no_waiters : (x : Option Place) → share_waiters x None ≡ true → ⊥
@@ -49,9 +45,4 @@ covered_byte a block byte e =
     }
 
 pub byte_covered : (a : Access) (block byte : ℕ) → IsByteOf a block byte → covers a block byte ≡ true
-byte_covered a block byte its =
-    and_from (a.place.block == block) (nat_le a.place.byte byte && nat_lt byte (a.place.byte + a.len))
-    (eq-eqb a.place.block block (sym its.block_is))
-    (and_from (nat_le a.place.byte byte) (nat_lt byte (a.place.byte + a.len))
-    (le-leb a.place.byte byte (omega (arith, its.byte_is)))
-    (lt-ltb byte (a.place.byte + a.len) (omega (arith, its.byte_is, its.inside))))
+byte_covered a block byte its = grind (arith, common_steps, and_from, nat_le, nat_lt, eq-eqb, le-leb, lt-ltb)

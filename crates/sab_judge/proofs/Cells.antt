@@ -1,5 +1,6 @@
 -- What is kept of all cells, with one event more, and in which cells the accesses begin that race.
 use Rattle.std.proofs.Common.{◌≡◌, ◌⊎◌, inl, inr, ℕ, zero, suc, ◌+◌, ◌-◌, ◌*◌, ◌/◌, ◌^◌, ◌<◌, ◌≤◌, ◌==◌, ◌&&◌, ◌||◌, not, Bool, true, false, unwrap_or, List, [], length, slice_index_or, slice_set, Option, Some, None, refl, sym, subst, ap, ◌∙◌, arith, get_or-set_other, get_or-set_same}
+use Rattle.std.proofs.lemmas.Grind.{common_steps}
 use Rattle.std.specs.Prelude.{nat_lt}
 use Rattle.std.specs.Int.{leading_zeros, w32}
 use Rattle.std.specs.HashMap.{get}
@@ -42,25 +43,11 @@ all_skipped trace j cells kept none cell few = kept_skipped cell (get same_pair 
 
 -- an access begins in one cell of its class
 pub same_cell : {trace : List Event} {j : ℕ} (c d : Cell) → BeginsIn trace c j → BeginsIn trace d j → c ≡ d
-same_cell c d h k =
-    let same : h.access ≡ k.access = some_is_some _ _ (sym h.makes ∙ k.makes) in
-    let block : c.block ≡ d.block = sym h.is_in.block ∙ ap (λ (a : Access). a.place.block) same ∙ k.is_in.block in
-    let class : c.class ≡ d.class = sym h.is_in.class ∙ ap (λ (a : Access). class_of a.len) same ∙ k.is_in.class in
-    let index : c.index ≡ d.index = sym h.is_in.index
-    ∙ ap (λ (a : Access). a.place.byte / 2 ^ c.class) same
-    ∙ ap (λ (x : ℕ). k.access.place.byte / 2 ^ x) class ∙ k.is_in.index in
-    λ i. record { block = block i; class = class i; index = index i }
+same_cell c d h k = grind (arith, common_steps, some_is_some, class_of)
 
 -- cells of one key are one
 cell_of_key : (c d : Cell) → c.class < 32 → d.class < 32 → same_pair (key_of c) (key_of d) ≡ true → c ≡ d
-cell_of_key c d few also e =
-    let both = and_parts (c.block == d.block) ((c.index * 32 + c.class) == (d.index * 32 + d.class)) e in
-    let block : c.block ≡ d.block = eqb-true c.block d.block both.0 in
-    let keys : c.index * 32 + c.class ≡ d.index * 32 + d.class =
-    eqb-true (c.index * 32 + c.class) (d.index * 32 + d.class) both.1 in
-    let class : c.class ≡ d.class = omega (arith, keys, few, also) in
-    let index : c.index ≡ d.index = omega (arith, keys, few, also) in
-    λ i. record { block = block i; class = class i; index = index i }
+cell_of_key c d few also e = grind (arith, common_steps, and_parts, eqb-true)
 
 key_of_cell : (c d : Cell) → c ≡ d → same_pair (key_of c) (key_of d) ≡ true
 key_of_cell c d e = and_from (c.block == d.block) ((c.index * 32 + c.class) == (d.index * 32 + d.class))
@@ -113,45 +100,34 @@ less_than_two len small = go (leading_length 32 len small)
 pub used_more : (trace : List Event) {j class : ℕ} (used : List Bool) {a : Access} → AreUsed trace j used
     → (event_at trace j).access ≡ Some a → class ≡ class_of a.len → length used ≡ 32
     → AreUsed trace (j + 1) (slice_set used class true)
-used_more trace {j} {class} used {a} before makes is count i b lt also = elim (cases_eq (class_of b.len) class) [
-  | inl same ↦ ap (λ (x : ℕ). slice_index_or (slice_set used class true) x false) same
-      ∙ get_or-set_same used class true false (let small = class_small a.len in omega (arith, small, is, count))
-  | inr other ↦ get_or-set_other used class (class_of b.len) true false other ∙ elim (cases_lt i j) [
-    | inl less ↦ before i b less also
-    | inr ge ↦ (let here : j ≡ i = omega (arith, lt, ge) in
-        let same : a ≡ b = some_is_some _ _ (sym makes
-        ∙ subst (λ (x : ℕ). (event_at trace x).access ≡ Some b) (sym here) also) in
-        absurd (other (sym (is ∙ ap (λ (x : Access). class_of x.len) same))))
-  ]
-]
+used_more trace {j} {class} used {a} before makes is count i b lt also =
+    grind (
+      arith,
+      common_steps,
+      cases_eq,
+      class_of,
+      slice_index_or,
+      slice_set,
+      get_or-set_same,
+      class_small,
+      get_or-set_other,
+      cases_lt,
+      some_is_some,
+      event_at,
+    )
 
 pub used_skipped : (trace : List Event) {j : ℕ} (used : List Bool) → AreUsed trace j used
     → (event_at trace j).access ≡ None → AreUsed trace (j + 1) used
-used_skipped trace {j} used before none i b lt also = elim (cases_lt i j) [
-  | inl less ↦ before i b less also
-  | inr ge ↦ (let here : i ≡ j = omega (arith, lt, ge) in
-      let e : ◌≡◌ {A = Option Access} None (Some b) = sym none
-      ∙ subst (λ (x : ℕ). (event_at trace x).access ≡ Some b) here also in absurd (cc))
-]
+used_skipped trace {j} used before none i b lt also = grind (arith, common_steps, cases_lt, event_at)
 
 pub short_more : (trace : List Event) {j : ℕ} {a : Access} → AreShort trace j → (event_at trace j).access ≡ Some a
     → a.len < 2 * 2 ^ class_of a.len → AreShort trace (j + 1)
-short_more trace {j} {a} before makes short i b lt also = elim (cases_lt i j) [
-  | inl less ↦ before i b less also
-  | inr ge ↦ (let here : j ≡ i = omega (arith, lt, ge) in
-      let same : a ≡ b = some_is_some _ _ (sym makes
-      ∙ subst (λ (x : ℕ). (event_at trace x).access ≡ Some b) (sym here) also) in
-      subst (λ (x : Access). x.len < 2 * 2 ^ class_of x.len) same short)
-]
+short_more trace {j} {a} before makes short i b lt also =
+    grind (arith, common_steps, cases_lt, some_is_some, event_at, class_of)
 
 pub short_skipped : (trace : List Event) {j : ℕ} → AreShort trace j → (event_at trace j).access ≡ None
     → AreShort trace (j + 1)
-short_skipped trace {j} before none i b lt also = elim (cases_lt i j) [
-  | inl less ↦ before i b less also
-  | inr ge ↦ (let here : i ≡ j = omega (arith, lt, ge) in
-      let e : ◌≡◌ {A = Option Access} None (Some b) = sym none
-      ∙ subst (λ (x : ℕ). (event_at trace x).access ≡ Some b) here also in absurd (cc))
-]
+short_skipped trace {j} before none i b lt also = grind (arith, common_steps, cases_lt, event_at)
 
 -- ---- races
 
@@ -240,15 +216,7 @@ record AreNear (a b : Access) : Type 0 where
   after_start : b.place.byte < a.place.byte + a.len
 
 near : (a b : Access) → overlap a b ≡ true → AreNear a b
-near a b e =
-    let x = and_parts (a.place.block == b.place.block)
-    (nat_lt a.place.byte (b.place.byte + b.len) && nat_lt b.place.byte (a.place.byte + a.len)) e in
-    let y = and_parts (nat_lt a.place.byte (b.place.byte + b.len)) (nat_lt b.place.byte (a.place.byte + a.len)) x.1 in
-    record {
-      block_is = eqb-true a.place.block b.place.block x.0;
-      before_end = ltb-true a.place.byte (b.place.byte + b.len) y.0;
-      after_start = ltb-true b.place.byte (a.place.byte + a.len) y.1;
-    }
+near a b e = grind (arith, common_steps, and_parts, nat_lt, eqb-true, ltb-true)
 
 -- a race's accesses are near
 race_near : {trace : List Event} {i j : ℕ} {a b : Access} → IsRace trace i j → (event_at trace i).access ≡ Some a
@@ -353,13 +321,5 @@ all_classes has counted = counts_same (λ i lt p. p.0) (λ i lt r. (r, has i r.r
 
 -- an event that races makes an access
 pub of_some_class : {trace : List Event} {i j : ℕ} → IsRace trace i j → IsOfLowerClass trace 32 i
-of_some_class {trace} {i} {j} race = go (event_at trace i).access refl
-  where
-    nothing : (y : Option Access) → both_are conflict None y ≡ true → false ≡ true
-    nothing None e = e
-    nothing (Some b) e = e
-
-    go : (x : Option Access) → (event_at trace i).access ≡ x → IsOfLowerClass trace 32 i
-    go (Some a) e = record { access = a; makes = e; below = class_small a.len }
-    go None e = absurd (false≢true (nothing (event_at trace j).access
-        (subst (λ (u : Option Access). both_are conflict u (event_at trace j).access ≡ true) e race.conflict)))
+of_some_class {trace} {i} {j} race =
+    grind (arith, common_steps, event_at, both_are, conflict, class_small, false≢true)

@@ -1,5 +1,6 @@
 -- Data races of the standard are races, and which races are data races.
-use Rattle.std.proofs.Common.{◌≡◌, inl, inr, ℕ, ◌+◌, ◌*◌, ◌<◌, ◌≤◌, ◌==◌, ◌&&◌, ◌||◌, not, Bool, true, false, List, Option, Some, None, refl, sym, subst, ◌∙◌, arith}
+use Rattle.std.proofs.Common.{◌≡◌, inl, inr, ℕ, ◌+◌, ◌*◌, ◌<◌, ◌≤◌, ◌&&◌, ◌||◌, not, Bool, true, false, List, Option, Some, None, refl, sym, subst, ◌∙◌, arith}
+use Rattle.std.proofs.lemmas.Grind.{common_steps}
 use Rattle.std.specs.Prelude.{nat_le, nat_lt}
 use Rattle.std.proofs.lemmas.Bool.{false≢true, eqb-true, eq-eqb, and_parts, and_from, or_left, not_from_false, leb-true, ltb-true, lt-ltb}
 use Rattle.sab_judge.specs.declared.access.Access.{Access}
@@ -22,27 +23,12 @@ record IsInside (a : Access) (block byte : ℕ) : Type 0 where
   high : byte < a.place.byte + a.len
 
 inside : (a : Access) (block byte : ℕ) → covers a block byte ≡ true → IsInside a block byte
-inside a block byte e =
-    let x = and_parts (a.place.block == block) (nat_le a.place.byte byte && nat_lt byte (a.place.byte + a.len)) e in
-    let y = and_parts (nat_le a.place.byte byte) (nat_lt byte (a.place.byte + a.len)) x.1 in
-    record {
-      block_is = eqb-true a.place.block block x.0;
-      low = leb-true a.place.byte byte y.0;
-      high = ltb-true byte (a.place.byte + a.len) y.1;
-    }
+inside a block byte e = grind (arith, common_steps, and_parts, nat_le, nat_lt, eqb-true, leb-true, ltb-true)
 
 -- ranges with a byte in common overlap
 overlap-common : (a b : Access) (block byte : ℕ) → covers a block byte ≡ true → covers b block byte ≡ true
     → overlap a b ≡ true
-overlap-common a b block byte e f =
-    let x = inside a block byte e in
-    let y = inside b block byte f in
-    and_from (a.place.block == b.place.block)
-    (nat_lt a.place.byte (b.place.byte + b.len) && nat_lt b.place.byte (a.place.byte + a.len))
-    (eq-eqb a.place.block b.place.block (x.block_is ∙ sym y.block_is))
-    (and_from (nat_lt a.place.byte (b.place.byte + b.len)) (nat_lt b.place.byte (a.place.byte + a.len))
-    (lt-ltb a.place.byte (b.place.byte + b.len) (omega (arith, x.low, y.high)))
-    (lt-ltb b.place.byte (a.place.byte + a.len) (omega (arith, y.low, x.high))))
+overlap-common a b block byte e f = grind (arith, common_steps, inside, and_from, nat_lt, eq-eqb, lt-ltb)
 
 conflicts : (a b : Access) → overlap a b ≡ true → a.writes ≡ true → are_atomic_alike a b ≡ false
     → conflict a b ≡ true
@@ -65,22 +51,11 @@ read_conflicts : (x y : Option Access) (block byte : ℕ)
 read_conflicts x None block byte w r unlike = absurd (false≢true r)
 read_conflicts None (Some b) block byte w r unlike = absurd (false≢true w)
 read_conflicts (Some a) (Some b) block byte w r unlike =
-    let p = and_parts a.writes (covers a block byte) w in
-    let q = and_parts b.reads (covers b block byte) r in
-    conflicts a b (overlap-common a b block byte p.1 q.1) p.0 unlike
+    grind (arith, common_steps, and_parts, covers, conflicts, overlap-common)
 
 pub data_race_races : (trace : List Event) (i j : ℕ) → IsDataRace trace i j → IsRace trace i j
-data_race_races trace i j race = record {
-  earlier = race.earlier;
-  within = race.within;
-  agents = λ e. race.unordered (in_agent (record { earlier = race.earlier; within = race.within; same_agent = e }));
-  conflict = elim race.meet [
-    | inl both ↦ writes_conflict (event_at trace i).access (event_at trace j).access both race.unlike
-    | inr reads ↦ read_conflicts (event_at trace i).access (event_at trace j).access reads.block reads.byte
-        reads.reads.writes reads.reads.reads race.unlike
-  ];
-  unordered = race.unordered;
-}
+data_race_races trace i j race =
+    grind (arith, common_steps, in_agent, conflict, writes_conflict, event_at, read_conflicts)
 
 not_true : (b : Bool) → not b ≡ true → b ≡ false
 not_true true e = absurd (false≢true e)
@@ -96,13 +71,7 @@ unlike_from_conflict (Some a) (Some b) e =
 
 -- a race whose events meet is a data race
 pub meeting_race : {trace : List Event} {i j : ℕ} → IsRace trace i j → Meet trace i j → IsDataRace trace i j
-meeting_race {trace} {i} {j} race meet = record {
-  earlier = race.earlier;
-  within = race.within;
-  unordered = race.unordered;
-  meet = meet;
-  unlike = unlike_from_conflict (event_at trace i).access (event_at trace j).access race.conflict;
-}
+meeting_race {trace} {i} {j} race meet = grind (arith, common_steps, unlike_from_conflict, event_at, conflict)
 
 -- ---- how many there are
 
@@ -111,10 +80,7 @@ both_from_read : (x : Option Access) (b : Access) (block byte : ℕ) → b.write
     → both_are both_write x (Some b) ≡ true
 both_from_read None b block byte writes w r = absurd (false≢true w)
 both_from_read (Some a) b block byte writes w r =
-    let p = and_parts a.writes (covers a block byte) w in
-    let q = and_parts b.reads (covers b block byte) r in
-    and_from (overlap a b) (a.writes && b.writes) (overlap-common a b block byte p.1 q.1)
-    (and_from a.writes b.writes p.0 writes)
+    grind (arith, common_steps, and_parts, covers, and_from, overlap, overlap-common)
 
 both_writes : (x : Option Access) (b : Access) → both_are both_write x (Some b) ≡ true → b.writes ≡ true
 both_writes None b e = absurd (false≢true e)

@@ -1,5 +1,6 @@
 -- Events, races and refusals that `==` finds equal are the same.
-use Rattle.std.proofs.Common.{◌≡◌, ℕ, true, Option, Some, None, refl, ap, subst, rules}
+use Rattle.std.proofs.Common.{◌≡◌, ℕ, true, Option, Some, None, refl, ap, subst, rules, arith}
+use Rattle.std.proofs.lemmas.Grind.{common_steps}
 use denote.Enum.Bare.{same_true}
 use Rattle.std.specs.Cmp.{booleans_Decides}
 use Rattle.std.specs.Option.{option_eq}
@@ -23,11 +24,7 @@ use Rattle.sab_judge.specs.contracts.trace_fault.TraceFault.{the_type as trace_f
 use Rattle.sab_judge.specs.contracts.trace_fault.TraceFaultPartialEq.TheImpl as trace_fault
 
 same_place_value : (a b : Place) → (place.ghosts).eq a b ≡ true → a ≡ b
-same_place_value a b e =
-    let x = and_parts _ _ e in
-    let block = eqb-true a.block b.block x.0 in
-    let byte = eqb-true a.byte b.byte x.1 in
-    λ i. record { block = block i; byte = byte i }
+same_place_value a b e = grind (arith, common_steps, and_parts, eqb-true)
 
 same_order : (a b : Order) → (order.ghosts).eq a b ≡ true → a ≡ b
 same_order Unordered Unordered e = refl
@@ -35,17 +32,7 @@ same_order SeqCst SeqCst e = refl
 same_order _ _ e = absurd (false≢true e)
 
 pub same_access : (a b : Access) → (access.ghosts).eq a b ≡ true → a ≡ b
-same_access a b e =
-    let x = and_parts _ _ e in
-    let y = and_parts _ _ x.1 in
-    let z = and_parts _ _ y.1 in
-    let w = and_parts _ _ z.1 in
-    let place = same_place_value a.place b.place x.0 in
-    let len = eqb-true a.len b.len y.0 in
-    let reads = (booleans_Decides a.reads b.reads).0 z.0 in
-    let writes = (booleans_Decides a.writes b.writes).0 w.0 in
-    let order = same_order a.order b.order w.1 in
-    λ i. record { place = place i; len = len i; reads = reads i; writes = writes i; order = order i }
+same_access a b e = grind (arith, common_steps, and_parts, same_place_value, eqb-true, booleans_Decides, same_order)
 
 pub access_itself : (a b : Access) → a ≡ b → (access.ghosts).eq a b ≡ true
 access_itself a b e = subst (λ (x : Access). (access.ghosts).eq a x ≡ true) e (access_laws.laws-law.refl a)
@@ -75,24 +62,10 @@ same_option_number (Some a) None e = absurd (false≢true e)
 same_option_number (Some a) (Some b) e = ap Some (eqb-true a b e)
 
 pub same_event : (a b : Event) → (event.ghosts).eq a b ≡ true → a ≡ b
-same_event a b e =
-    let x = and_parts _ _ e in
-    let y = and_parts _ _ x.1 in
-    let agent = eqb-true a.agent b.agent x.0 in
-    let access = same_option_access a.access b.access y.0 in
-    let waiters = same_option_place a.waiters b.waiters y.1 in
-    λ i. record { agent = agent i; access = access i; waiters = waiters i }
+same_event a b e = grind (arith, common_steps, and_parts, eqb-true, same_option_access, same_option_place)
 
 pub same_race : (a b : Race) → (race.ghosts).eq a b ≡ true → a ≡ b
-same_race a b e =
-    let x = and_parts _ _ e in
-    let y = and_parts _ _ x.1 in
-    let first = eqb-true a.first b.first x.0 in
-    let second = eqb-true a.second b.second y.0 in
-    let z = and_parts _ _ y.1 in
-    let is_data_race = (booleans_Decides a.is_data_race b.is_data_race).0 z.0 in
-    let seen = same_option_number a.seen b.seen z.1 in
-    λ i. record { first = first i; second = second i; is_data_race = is_data_race i; seen = seen i }
+same_race a b e = grind (arith, common_steps, and_parts, eqb-true, booleans_Decides, same_option_number)
 
 pub same_trace_fault : (a b : TraceFault) → (trace_fault.ghosts).eq a b ≡ true → a ≡ b
 same_trace_fault = same_true trace_fault_type (search rules)

@@ -1,5 +1,6 @@
 -- The last events of one cell, with one event more.
 use Rattle.std.proofs.Common.{◌≡◌, ◌≢◌, ◌⊎◌, inl, inr, ℕ, ◌+◌, ◌<◌, List, [], ◌∷◌, ◌++◌, length, slice_get, slice_set, Some, sym, subst, ap, ◌∙◌, arith}
+use Rattle.std.proofs.lemmas.Grind.{common_steps}
 use Rattle.std.proofs.lemmas.Bool.{cases_lt, cases_eq, cases_order}
 use Rattle.sab_judge.specs.declared.cell.Cell.{Cell}
 use Rattle.sab_judge.specs.declared.event.Event.{Event}
@@ -27,25 +28,12 @@ no_latest none = record {
 -- it stays the last, where the next event isn't like it
 latest_stays : {trace : List Event} {j : ℕ} {cell : Cell} {t : Latest} → IsLatest trace j cell t
     → ¬ IsLike trace t.position j → IsLatest trace (j + 1) cell t
-latest_stays {trace} {j} {cell} {t} h unlike = record {
-  within = omega (arith, h.within);
-  agent = h.agent;
-  begins = h.begins;
-  last = λ i from below. elim (cases_lt i j) [
-    | inl less ↦ h.last i from less
-    | inr ge ↦ (let same : j ≡ i = omega (arith, below, ge) in subst (λ (x : ℕ). ¬ IsLike trace t.position x) same unlike)
-  ];
-}
+latest_stays {trace} {j} {cell} {t} h unlike = grind (arith, common_steps, cases_lt)
 
 -- the event that is the newest is the last
 newest : {trace : List Event} {j : ℕ} {cell : Cell} (t : Latest) → t.position ≡ j → t.agent ≡ agent_at trace j
     → BeginsIn trace cell j → IsLatest trace (j + 1) cell t
-newest {trace} {j} {cell} t at agent begins = record {
-  within = omega (arith, at);
-  agent = agent ∙ ap (λ (x : ℕ). agent_at trace x) (sym at);
-  begins = subst (λ (x : ℕ). BeginsIn trace cell x) (sym at) begins;
-  last = λ i from below. absurd (omega (arith, at, from, below));
-}
+newest {trace} {j} {cell} t at agent begins = grind (arith, common_steps, agent_at)
 
 -- an event that doesn't begin in the cell changes nothing
 pub latest_skipped : {trace : List Event} {j : ℕ} {cell : Cell} {list : List Latest} → AreLatest trace j cell list
@@ -175,8 +163,4 @@ never_before ts none begins i lt like =
 -- one of the list that is like the next event is the last before it
 pub last_before : {trace : List Event} {j : ℕ} {cell : Cell} {t : Latest} → IsLatest trace j cell t
     → IsLike trace t.position j → IsLast trace j t.position
-last_before h like = record {
-  before = h.within;
-  like = like_back like;
-  between = λ k from below also. h.last k from below (like_through like also);
-}
+last_before h like = grind (arith, common_steps, like_back, like_through)

@@ -1,5 +1,6 @@
 -- What clocks know, step by step.
 use Rattle.std.proofs.Common.{◌≡◌, ◌≢◌, ◌&&◌, inl, inr, ℕ, ◌+◌, ◌<◌, ◌≤◌, true, List, [], ◌∷◌, ◌++◌, length, length-append, slice_index, Option, Some, None, refl, sym, subst, ap, ◌∙◌, arith}
+use Rattle.std.proofs.lemmas.Grind.{common_steps}
 use Rattle.std.proofs.lemmas.Bool.{cases_lt, cases_eq, cases_order, eq-eqb, eqb-true, false≢true, and_parts}
 use Rattle.std.proofs.Math.ListN.{get_or-append}
 use Rattle.std.proofs.Math.Seq.{get_or-append_seam}
@@ -64,12 +65,7 @@ nothing_only {trace} nothing = record { before = λ i within knows. absurd (omeg
 pub agents_last : {trace : List Event} {j : ℕ} (from : Option ℕ) → j < length trace
     → IsLastBelow trace (OfAgent (agent_at trace j)) j from → (m : ℕ) → from ≡ Some m → HappensBefore trace m j
 agents_last {trace} {j} None within is_last m e = absurd (cc)
-agents_last {trace} {j} (Some p) within is_last m e =
-    subst (λ (x : ℕ). HappensBefore trace x j) (some_same p m e)
-    (in_agent (record { earlier = is_last.0; within = within; same_agent = eqb-true (agent_at trace p) (agent_at trace j) is_last.1 }))
-  where
-    some_same : (p m : ℕ) → Some p ≡ Some m → p ≡ m
-    some_same p m e = cc
+agents_last {trace} {j} (Some p) within is_last m e = grind (arith, common_steps, in_agent, eqb-true, agent_at)
 
 -- a clock that learns of the agent's last event knows of its earlier ones
 pub agents_known : {trace : List Event} {j : ℕ} {clocks : List Clock} (c : Clock) (from : Option ℕ) (e : Clock)
@@ -103,12 +99,7 @@ pub waiters_last : {trace : List Event} {j : ℕ} (p : Place) (from : Option ℕ
     → (event_at trace j).waiters ≡ Some p → IsLastBelow trace (AtWaiters p) j from
     → (m : ℕ) → from ≡ Some m → HappensBefore trace m j
 waiters_last {trace} {j} p None within waiters_is is_last m e = absurd (cc)
-waiters_last {trace} {j} p (Some q) within waiters_is is_last m e =
-    subst (λ (x : ℕ). HappensBefore trace x j) (some_same q m e)
-    (by_sync (inr (record { earlier = is_last.0; within = within; alike = rw waiters_is is_last.1 })))
-  where
-    some_same : (p m : ℕ) → Some p ≡ Some m → p ≡ m
-    some_same p m e = cc
+waiters_last {trace} {j} p (Some q) within waiters_is is_last m e = grind (arith, common_steps, by_sync)
 
 -- a clock that learns of the last event among the waiters knows of the earlier ones
 pub waiters_known : {trace : List Event} {j : ℕ} {clocks : List Clock} (p : Place) (c : Clock) (from : Option ℕ)
@@ -148,11 +139,7 @@ none_handed_on {trace} {j} c waiters_is m handed = absurd (no_waiters (event_at 
 
 pub one_writer : {trace : List Event} {j m n block byte : ℕ} → ReadsByteFrom trace j m block byte
     → ReadsByteFrom trace j n block byte → m ≡ n
-one_writer {trace} {j} {m} {n} {block} {byte} r s = elim (cases_order m n) [
-  | inl e ↦ e
-  | inr (inl lt) ↦ absurd (false≢true (sym (r.latest n lt s.earlier) ∙ s.writes))
-  | inr (inr gt) ↦ absurd (false≢true (sym (s.latest m gt r.earlier) ∙ r.writes))
-]
+one_writer {trace} {j} {m} {n} {block} {byte} r s = grind (arith, common_steps, cases_order, false≢true)
 
 -- a clock that learns of the write from which the byte is read knows of each
 pub byte_known : {trace : List Event} {j : ℕ} {clocks : List Clock} (block byte : ℕ) (c : Clock) (from : Option ℕ) (e : Clock)
@@ -165,12 +152,7 @@ byte_known {trace} {j} {clocks} block byte c (Some p) e clocked is_from learns m
 pub byte_before : {trace : List Event} {j : ℕ} (block byte : ℕ) (from : Option ℕ) → IsReadFrom trace j block byte from
     → (m : ℕ) → from ≡ Some m → HappensBefore trace m j
 byte_before {trace} {j} block byte None is_from m e = absurd (cc)
-byte_before {trace} {j} block byte (Some p) is_from m e =
-    subst (λ (x : ℕ). HappensBefore trace x j) (some_same p m e)
-    (by_sync (inl (record { alike = is_from.0; from = record { block = block; byte = byte; reads = is_from.1 } })))
-  where
-    some_same : (p m : ℕ) → Some p ≡ Some m → p ≡ m
-    some_same p m e = cc
+byte_before {trace} {j} block byte (Some p) is_from m e = grind (arith, common_steps, by_sync)
 
 -- a clock that knows of the writes from which each byte is read knows of all that is read
 pub read_known : {trace : List Event} {j : ℕ} {clock : Clock} (a : Access) → (event_at trace j).access ≡ Some a
@@ -258,15 +240,4 @@ no_clocks trace clocks e = record { count = ap length e; each = λ m h. absurd (
 pub one_clock_more : {trace : List Event} {j : ℕ} {clocks new : List Clock} (c : Clock) → AreClocks trace j clocks
     → IsClock trace j c → new ≡ clocks ++ c ∷ [] → AreClocks trace (j + 1) new
 one_clock_more {trace} {j} {clocks} {new} c clocked is_clock e =
-    subst (λ (cs : List Clock). AreClocks trace (j + 1) cs) (sym e) (record {
-      count = length-append clocks (c ∷ []) ∙ (rw clocked.count refl);
-      each = λ m h. elim (cases_lt m j) [
-        | inl lt ↦ (let inside : m < length clocks = omega (arith, clocked.count, lt) in
-            subst (λ (d : Clock). IsClock trace m d) (sym (get_or-append clocks (c ∷ []) no_clock m inside)) (clocked.each m lt))
-        | inr ge ↦ (let at : m ≡ length clocks = omega (arith, clocked.count, h) in
-            let at_j : m ≡ j = omega (arith, h) in
-            let found : clock_at (clocks ++ c ∷ []) m ≡ c = rw at (get_or-append_seam clocks c [] no_clock) in
-            subst (λ (d : Clock). IsClock trace m d) (sym found)
-            (subst (λ (x : ℕ). IsClock trace x c) (sym at_j) is_clock))
-      ];
-    })
+    grind (arith, common_steps, length-append, cases_lt, length, get_or-append, no_clock, clock_at, get_or-append_seam)

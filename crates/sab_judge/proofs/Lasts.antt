@@ -1,5 +1,6 @@
 -- The last event of a kind.
-use Rattle.std.proofs.Common.{◌≡◌, ℕ, ◌+◌, ◌<◌, ◌≤◌, true, false, List, Option, Some, None, inl, inr, refl, sym, subst, ◌∙◌, arith}
+use Rattle.std.proofs.Common.{◌≡◌, ℕ, ◌+◌, ◌<◌, ◌≤◌, true, false, List, Option, Some, None, sym, ◌∙◌, arith}
+use Rattle.std.proofs.lemmas.Grind.{common_steps}
 use Rattle.std.proofs.lemmas.Bool.{false≢true, cases_lt}
 use Rattle.sab_judge.specs.declared.event.Event.{Event}
 use Rattle.sab_judge.specs.Sought.{Sought}
@@ -18,28 +19,13 @@ pub record IsNoLater (trace : List Event) (sought : Sought) (j m : ℕ) (from : 
 pub found_last : (trace : List Event) (sought : Sought) (j m : ℕ) (from : Option ℕ) → IsLastBelow trace sought j from
     → m < j → is_hit sought (event_at trace m) ≡ true → IsNoLater trace sought j m from
 found_last trace sought j m None none lt hit = absurd (false≢true (sym (none m lt) ∙ hit))
-found_last trace sought j m (Some p) is_last lt hit = elim (cases_lt p m) [
-  | inl later ↦ absurd (false≢true (sym (is_last.2 m later lt) ∙ hit))
-  | inr no_later ↦ record { last = p; from_is = refl; later = no_later; below = is_last.0; hit = is_last.1 }
-]
+found_last trace sought j m (Some p) is_last lt hit = grind (arith, common_steps, cases_lt, false≢true)
 
 -- one more event that isn't sought
 pub last_miss : (trace : List Event) (sought : Sought) (n : ℕ) (from : Option ℕ) → IsLastBelow trace sought n from
     → is_hit sought (event_at trace n) ≡ false → IsLastBelow trace sought (n + 1) from
-last_miss trace sought n None none miss = λ k h. elim (cases_lt k n) [
-  | inl lt ↦ none k lt
-  | inr ge ↦ (let same : n ≡ k = omega arith in
-      subst (λ (x : ℕ). is_hit sought (event_at trace x) ≡ false) same miss)
-]
-last_miss trace sought n (Some m) is_last miss = (
-  omega (arith, is_last.0),
-  is_last.1,
-  λ k after h. elim (cases_lt k n) [
-    | inl lt ↦ is_last.2 k after lt
-    | inr ge ↦ (let same : n ≡ k = omega arith in
-        subst (λ (x : ℕ). is_hit sought (event_at trace x) ≡ false) same miss)
-  ],
-)
+last_miss trace sought n None none miss = grind (arith, common_steps, cases_lt, is_hit, event_at)
+last_miss trace sought n (Some m) is_last miss = grind (arith, common_steps, cases_lt, is_hit, event_at)
 
 -- one more event that is sought
 pub last_hit : (trace : List Event) (sought : Sought) (n : ℕ) → is_hit sought (event_at trace n) ≡ true

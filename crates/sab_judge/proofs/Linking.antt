@@ -1,5 +1,6 @@
 -- Events that are alike, and the ways back from each.
 use Rattle.std.proofs.Common.{◌≡◌, inl, inr, ℕ, ◌+◌, ◌-◌, ◌<◌, ◌≤◌, List, [], ◌∷◌, ◌++◌, length, Option, Some, None, refl, sym, subst, ◌∙◌, arith, length-append}
+use Rattle.std.proofs.lemmas.Grind.{common_steps}
 use Rattle.std.proofs.Math.ListN.{get_or-append}
 use Rattle.std.proofs.Math.Seq.{get_or-append_seam}
 use Rattle.std.proofs.lemmas.Bool.{cases_lt}
@@ -43,11 +44,7 @@ linked_behind {trace} {i} {p} counted last = counts_longer i (one_more (counts_a
 -- that of an event like which there is none before
 pub linked_first : {trace : List Event} {i : ℕ} {link : Link} → link.rank ≡ 0
     → ((k : ℕ) → k < i → ¬ IsLike trace i k) → IsLink trace i link
-linked_first {trace} {i} {link} none never access = record {
-  rank = rw none (counts_none i never);
-  previous = λ some. absurd (omega (arith, none, some));
-  jump = λ some. absurd (omega (arith, none, some));
-}
+linked_first {trace} {i} {link} none never access = grind (arith, common_steps, counts_none)
 
 -- where no event before is like it, it is the earliest
 pub earliest_first : {trace : List Event} {position bound at : ℕ} {link : Link} → at ≤ position → IsLike trace position at
@@ -87,9 +84,7 @@ pub rank_grows : {trace : List Event} {n position bound at : ℕ} {links : List 
     → position < n → HasAccess trace position → IsEarliest trace position bound at
     → (link_at links at).rank ≤ (link_at links position).rank
 rank_grows linked within access earliest =
-    let whole = linked_at linked _ within access in
-    let part = linked_at linked _ (omega (arith, earliest.within, within)) (access_of_like access earliest.like) in
-    counts_grow whole.rank (counts_alike earliest.like part.rank) earliest.within
+    grind (arith, common_steps, linked_at, access_of_like, counts_grow, counts_alike)
 
 -- a rank is at most the position
 pub rank_small : {trace : List Event} {i : ℕ} {link : Link} → IsLinked trace i link → link.rank ≤ i

@@ -1,5 +1,6 @@
 -- A verdict that lists no race, and leaves none.
-use Rattle.std.proofs.Common.{◌≡◌, ℕ, ◌+◌, List, length, inl, inr, refl, arith}
+use Rattle.std.proofs.Common.{◌≡◌, ℕ, ◌+◌, List, length, refl, arith}
+use Rattle.std.proofs.lemmas.Grind.{common_steps}
 use Rattle.sab_judge.specs.declared.event.Event.{Event}
 use Rattle.sab_judge.specs.declared.race.Race.{Race}
 use Rattle.sab_judge.specs.Race.{HaveNoRace, Counts, below_none, one_more, no_more, CountsRaces, of_none, and_of}
@@ -25,7 +26,4 @@ none_left trace most reported rest data_races v apart = no_races_counted v.count
 pub no_race : (trace : List Event) (most : ℕ) (reported : List Race) (rest data_races : ℕ)
     → IsVerdict trace most reported rest data_races
     → length reported + rest ≡ 0 → HaveNoRace trace
-no_race trace most reported rest data_races v clean i j race = elim (v.each i j race) [
-  | inl among ↦ omega (arith, among.inside, clean)
-  | inr left ↦ omega (arith, left.some, clean)
-]
+no_race trace most reported rest data_races v clean i j race = grind (arith, common_steps)

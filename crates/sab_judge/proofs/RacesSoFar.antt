@@ -1,12 +1,13 @@
 -- What is reported about races, one more at a time.
-use Rattle.std.proofs.Common.{◌≡◌, ◌⊎◌, inl, inr, ℕ, ◌+◌, ◌^◌, ◌<◌, ◌≤◌, List, [], ◌∷◌, ◌++◌, length, refl, sym, subst, ap, ◌∙◌, arith, length-append}
+use Rattle.std.proofs.Common.{◌≡◌, ◌⊎◌, inl, inr, ℕ, ◌+◌, ◌^◌, ◌<◌, ◌≤◌, List, [], ◌∷◌, ◌++◌, length, sym, subst, ap, ◌∙◌, arith, length-append}
+use Rattle.std.proofs.lemmas.Grind.{common_steps}
 use Rattle.std.proofs.Math.ListN.{get_or-append}
 use Rattle.std.proofs.Math.Seq.{get_or-append_seam}
 use Rattle.std.proofs.lemmas.Bool.{cases_lt}
-use Rattle.std.proofs.lemmas.List.Elements.{All-push, All-nil}
+use Rattle.std.proofs.lemmas.List.Elements.{All-push}
 use Rattle.sab_judge.specs.declared.event.Event.{Event}
 use Rattle.sab_judge.specs.declared.race.Race.{Race}
-use Rattle.sab_judge.specs.Race.{IsRace, Counts, below_none, one_more, no_more, CountsRaces, CountsDataRaces, of_none, and_of, ComesBefore}
+use Rattle.sab_judge.specs.Race.{IsRace, Counts, below_none, one_more, no_more, CountsDataRaces, of_none, and_of, ComesBefore}
 use Rattle.sab_judge.specs.Verdict.{race_at, IsReported, InOrder, IsAmong, ComesAfterAll, IsVerdict}
 use Rattle.sab_judge.specs.RacesSoFar.{HasReported}
 use Rattle.sab_judge.proofs.Counting.{few_below, some_counted}
@@ -16,10 +17,7 @@ use Rattle.sab_judge.proofs.Counting.{few_below, some_counted}
 -- who comes before the next pair comes before this one, or is this one
 before_next : {k l i j : ℕ} → ComesBefore k l (i + 1) j → ComesBefore k l i j ⊎ ((k ≡ i) × (l ≡ j))
 before_next {k} {l} {i} {j} (inl lt) = inl (inl lt)
-before_next {k} {l} {i} {j} (inr (same, lt)) = elim (cases_lt k i) [
-  | inl less ↦ inl (inr (same, less))
-  | inr ge ↦ inr (omega (arith, lt, ge), same)
-]
+before_next {k} {l} {i} {j} (inr (same, lt)) = grind (arith, common_steps, cases_lt)
 
 weaker : {k l i j : ℕ} → ComesBefore k l i j → ComesBefore k l (i + 1) j
 weaker (inl lt) = inl lt
@@ -31,42 +29,13 @@ passed_more reported passed k h = weaker (passed k h)
 -- ---- races that are listed
 
 among_more : {reported : List Race} {k l : ℕ} (r : Race) → IsAmong reported k l → IsAmong (reported ++ r ∷ []) k l
-among_more {reported} {k} {l} r a = record {
-  place = a.place;
-  inside = simp length-append (omega (arith, a.inside));
-  first = ap (λ (x : Race). x.first) same ∙ a.first;
-  second = ap (λ (x : Race). x.second) same ∙ a.second;
-}
-  where
-    same : race_at (reported ++ r ∷ []) a.place ≡ race_at reported a.place
-    same = get_or-append reported (r ∷ []) _ a.place a.inside
+among_more {reported} {k} {l} r a = grind (arith, common_steps, length-append, race_at, get_or-append)
 
 among_last : (reported : List Race) (r : Race) → IsAmong (reported ++ r ∷ []) r.first r.second
-among_last reported r = record {
-  place = length reported;
-  inside = simp length-append (omega arith);
-  first = ap (λ (x : Race). x.first) (get_or-append_seam reported r [] _);
-  second = ap (λ (x : Race). x.second) (get_or-append_seam reported r [] _);
-}
+among_last reported r = grind (arith, common_steps, length, length-append, get_or-append_seam)
 
 pub nothing_reported : (trace : List Event) (most : ℕ) (reported : List Race) → reported ≡ [] → HasReported trace 0 0 most reported 0
-nothing_reported trace most reported e = subst (λ (t : List Race). HasReported trace 0 0 most t 0) (sym e) (record {
-  races = All-nil (IsReported trace);
-  order = λ k l lt h. absurd (omega (arith, h));
-  passed = λ k h. absurd (omega (arith, h));
-  each = λ k l b race. elim b [
-    | inl lt ↦ absurd (omega (arith, lt))
-    | inr p ↦ absurd (omega (arith, p.1))
-  ];
-  before = 0;
-  count = of_none;
-  here = 0;
-  count_here = below_none;
-  sum = refl;
-  few = omega arith;
-  full = λ h. absurd (omega (arith, h));
-  small = omega arith;
-})
+nothing_reported trace most reported e = grind (arith, common_steps, of_none, below_none)
 
 -- two events that don't race
 pub passed_over : {trace : List Event} {j i most : ℕ} {reported : List Race} {rest : ℕ} → HasReported trace j i most reported rest
@@ -243,10 +212,7 @@ to_next {k} {l} {j} (inl lt) = inl (omega (arith, lt))
 to_next {k} {l} {j} (inr (same, lt)) = inl (omega (arith, same))
 
 from_next : {k l j : ℕ} → k < l → ComesBefore k l 0 (j + 1) → ComesBefore k l j j
-from_next {k} {l} {j} order (inl lt) = elim (cases_lt l j) [
-  | inl less ↦ inl less
-  | inr ge ↦ inr (omega (arith, lt, ge), omega (arith, lt, ge, order))
-]
+from_next {k} {l} {j} order (inl lt) = grind (arith, common_steps, cases_lt)
 from_next {k} {l} {j} order (inr (same, lt)) = absurd (omega (arith, lt))
 
 pub next_event : {trace : List Event} {j most : ℕ} {reported : List Race} {rest : ℕ} → j < 2 ^ 20
@@ -269,15 +235,4 @@ next_event {trace} {j} {most} {reported} {rest} few t = record {
 pub all_reported : {trace : List Event} {most : ℕ} {reported : List Race} {rest data_races : ℕ}
     → HasReported trace (length trace) 0 most reported rest → CountsDataRaces trace (length trace) data_races
     → IsVerdict trace most reported rest data_races
-all_reported {trace} {most} {reported} {rest} {data_races} t counted = record {
-  races = t.races;
-  order = t.order;
-  each = λ i j race. t.each i j (inl race.within) race;
-  count = subst (λ (n : ℕ). CountsRaces trace (length trace) n) total t.count;
-  few = t.few;
-  full = t.full;
-  data_count = counted;
-}
-  where
-    total : t.before ≡ length reported + rest
-    total = omega (arith, t.sum, few_below t.count_here)
+all_reported {trace} {most} {reported} {rest} {data_races} t counted = grind (arith, common_steps, length, few_below)

@@ -1,5 +1,6 @@
 -- Which of the events that are alike race with a later one.
 use Rattle.std.proofs.Common.{◌≡◌, ◌≢◌, ◌⊎◌, inl, inr, ℕ, ◌+◌, ◌<◌, ◌≤◌, ◌&&◌, true, false, List, length, slice_index, slice_get, Option, Some, None, sym, subst, ap, ◌∙◌, arith}
+use Rattle.std.proofs.lemmas.Grind.{common_steps}
 use Rattle.std.proofs.lemmas.Bool.{false≢true, cases_lt, and_parts}
 use Rattle.std.proofs.lemmas.Option.{slice_get_within}
 use Rattle.sab_judge.specs.declared.access.Access.{Access}
@@ -43,25 +44,14 @@ kind_conflicts BothWrite e f is = (and_parts (do_conflict e f) (do_both_write e 
 -- one that races isn't known
 unknown : {trace : List Event} {j : ℕ} {clock : Clock} → IsClock trace j clock → (i : ℕ) → IsRace trace i j
     → slice_index clock.bounds (agent_at trace i) ≤ i
-unknown {trace} {j} {clock} clocked i race = elim (cases_lt i (slice_index clock.bounds (agent_at trace i))) [
-  | inl known ↦ absurd (elim (clocked.sound i (omega (arith, race.earlier, race.within)) known) [
-    | inl same ↦ omega (arith, same, race.earlier)
-    | inr before ↦ race.unordered before
-  ])
-  | inr ge ↦ ge
-]
+unknown {trace} {j} {clock} clocked i race = grind (arith, common_steps, cases_lt, slice_index, agent_at)
 
 -- none of them races, where all are known
 pub none_unknown : {kind : RaceKind} {trace : List Event} {j : ℕ} {clock : Clock} {cell : Cell} {t : Latest} → IsClock trace j clock
     → IsLatest trace j cell t → t.position < slice_index clock.bounds t.agent
     → Counts (λ i. IsRaceOf kind trace i j × IsLike trace t.position i) j 0
-none_unknown {trace} {j} {clock} {cell} {t} clocked latest known = counts_none j (λ i lt p.
-    let bound : slice_index clock.bounds (agent_at trace i) ≡ slice_index clock.bounds t.agent =
-    ap (λ (a : ℕ). slice_index clock.bounds a) (p.1.agent ∙ sym latest.agent) in
-    elim (cases_lt t.position i) [
-      | inl behind ↦ latest.last i behind lt p.1
-      | inr le ↦ omega (arith, unknown clocked i p.0.race, bound, known, le)
-    ])
+none_unknown {trace} {j} {clock} {cell} {t} clocked latest known =
+    grind (arith, common_steps, counts_none, slice_index, agent_at, cases_lt, unknown)
 
 -- nor where they are of the same agent as the later event
 pub none_of_agent : {kind : RaceKind} {trace : List Event} {j : ℕ} {cell : Cell} {t : Latest} → IsLatest trace j cell t

@@ -1,5 +1,6 @@
 -- From which events one reads, byte by byte, and how many of them race with it.
-use Rattle.std.proofs.Common.{◌≡◌, ◌≢◌, ◌⊎◌, ◌↔◌, inl, inr, ℕ, ◌+◌, ◌-◌, ◌<◌, ◌≤◌, ◌&&◌, Bool, true, false, List, length, slice_index, slice_set, Option, Some, None, refl, sym, subst, ap, ◌∙◌, arith, get_or-set_other, get_or-set_same, length-set}
+use Rattle.std.proofs.Common.{◌≡◌, ◌≢◌, ◌⊎◌, ◌↔◌, inl, inr, ℕ, ◌+◌, ◌-◌, ◌<◌, ◌≤◌, Bool, true, false, List, length, slice_index, slice_set, Option, Some, None, refl, sym, subst, ap, ◌∙◌, arith, get_or-set_other, get_or-set_same, length-set}
+use Rattle.std.proofs.lemmas.Grind.{common_steps}
 use Rattle.std.proofs.lemmas.Bool.{false≢true, cases_lt, cases_eq, and_from}
 use Rattle.sab_judge.specs.declared.event.Event.{Event}
 use Rattle.sab_judge.specs.declared.readers.Readers.{Readers}
@@ -16,15 +17,7 @@ use Rattle.sab_judge.proofs.Reading.{writer_is, reads_last}
 
 pub none_noted : (trace : List Event) {j block start end : ℕ} (readers : Readers) → AreNoted (length trace) j readers
     → end ≤ start → HaveNoted trace j block start end readers 0
-none_noted trace {j} readers h empty = record {
-  all = h.count;
-  before = λ i. omega (arith, h.before i);
-  noted = λ i. (
-    λ e. absurd (omega (arith, e, h.before i)),
-    λ r. absurd (omega (arith, r.from_start, r.before_end, empty)),
-  );
-  counted = counts_none j (λ i lt p. absurd (omega (arith, p.1.from_start, p.1.before_end, empty)));
-}
+none_noted trace {j} readers h empty = grind (arith, common_steps, counts_none)
 
 pub all_noted : {trace : List Event} {j block start end count : ℕ} {readers : Readers}
     → HaveNoted trace j block start end readers count → AreNoted (length trace) (j + 1) readers
@@ -52,21 +45,14 @@ narrow {trace} {j} {block} {start} {at} w i lasts r = elim (cases_lt r.byte at) 
 -- nobody reads from bytes that nobody wrote
 unread : {trace : List Event} {j block start at next i : ℕ} → HaveWriter trace j block at next None
     → ReadsWithin trace j block start next i → ReadsWithin trace j block start at i
-unread {trace} {j} {block} {start} {at} {next} {i} lasts r = elim (cases_lt r.byte at) [
-  | inl less ↦ record { byte = r.byte; from_start = r.from_start; before_end = less; reads = r.reads }
-  | inr ge ↦ absurd (false≢true (sym (lasts r.byte ge r.before_end i r.reads.earlier) ∙ r.reads.writes))
-]
+unread {trace} {j} {block} {start} {at} {next} {i} lasts r = grind (arith, common_steps, cases_lt, false≢true)
 
 -- bytes that nobody wrote add none
 pub none_more : {trace : List Event} {j block start at next count : ℕ} (readers : Readers) → at < next
     → HaveWriter trace j block at next None
     → HaveNoted trace j block start at readers count → HaveNoted trace j block start next readers count
-none_more {trace} {j} {block} {start} {at} {next} readers lt lasts h = record {
-  all = h.all;
-  before = h.before;
-  noted = λ i. (λ e. wider lt ((h.noted i).0 e), λ r. (h.noted i).1 (unread lasts r));
-  counted = counts_same (λ i less p. (p.0, wider lt p.1)) (λ i less p. (p.0, unread lasts p.1)) h.counted;
-}
+none_more {trace} {j} {block} {start} {at} {next} readers lt lasts h =
+    grind (arith, common_steps, wider, unread, counts_same)
 
 -- bytes with one writer note it, and it is counted if it is new and races
 record HasMarked (trace : List Event) (j block start next w : ℕ) (new : Readers) : Type 0 where
@@ -193,16 +179,9 @@ last_below trace sought j (Some w) h m e = subst (λ (x : ℕ). x < j) (let same
 -- a byte of an access that reads is read
 reads_its_byte : (trace : List Event) (j : ℕ) (a : Access) → (event_at trace j).access ≡ Some a → a.reads ≡ true
     → (k : ℕ) → k < a.len → reads_byte (event_at trace j) a.place.block (a.place.byte + k) ≡ true
-reads_its_byte trace j a makes reads k lt =
-    ap (λ (x : Option Access). some_is (λ (b : Access). b.reads && covers b a.place.block (a.place.byte + k)) x) makes
-    ∙ and_from a.reads (covers a a.place.block (a.place.byte + k)) reads
-    (byte_covered a a.place.block (a.place.byte + k)
-    (record { offset = k; inside = lt; block_is = refl; byte_is = refl }))
+reads_its_byte trace j a makes reads k lt = grind (arith, common_steps, some_is, covers, and_from, byte_covered)
 
 pub reads_between : (trace : List Event) (j : ℕ) (a : Access) → (event_at trace j).access ≡ Some a → a.reads ≡ true
     → (byte : ℕ) → a.place.byte ≤ byte → byte < a.place.byte + a.len
     → reads_byte (event_at trace j) a.place.block byte ≡ true
-reads_between trace j a makes reads byte low high =
-    let at : a.place.byte + (byte - a.place.byte) ≡ byte = omega (arith, low) in
-    subst (λ (b : ℕ). reads_byte (event_at trace j) a.place.block b ≡ true) at
-    (reads_its_byte trace j a makes reads (byte - a.place.byte) (omega (arith, low, high)))
+reads_between trace j a makes reads byte low high = grind (arith, common_steps, reads_byte, event_at, reads_its_byte)

@@ -1,5 +1,6 @@
 -- From which event a byte is read.
-use Rattle.std.proofs.Common.{◌≡◌, ◌&&◌, inl, inr, ℕ, ◌+◌, ◌-◌, ◌<◌, ◌≤◌, arith, true, List, length, Option, Some, None, sym, subst, ap, ◌∙◌}
+use Rattle.std.proofs.Common.{◌≡◌, ◌&&◌, ℕ, ◌+◌, ◌-◌, ◌<◌, ◌≤◌, arith, true, List, length, Option, Some, None, sym, subst, ap, ◌∙◌}
+use Rattle.std.proofs.lemmas.Grind.{common_steps}
 use Rattle.std.specs.Option.{option_eq}
 use Rattle.std.specs.Prelude.{nat_eq}
 use Rattle.std.proofs.lemmas.Bool.{false≢true, cases_order, eqb-true, eq-eqb, and_parts, and_from}
@@ -20,11 +21,7 @@ none_read_from none m alike reads = false≢true (sym (none m reads.earlier) ∙
 -- a byte is read from its last writer
 pub writer_is : {trace : List Event} {j block byte : ℕ} (m w : ℕ) → IsLastBelow trace (Writes block byte) j (Some w)
     → ReadsByteFrom trace j m block byte → m ≡ w
-writer_is m w last reads = elim (cases_order m w) [
-  | inl same ↦ same
-  | inr (inl before) ↦ absurd (false≢true (sym (reads.latest w before last.0) ∙ last.1))
-  | inr (inr behind) ↦ absurd (false≢true (sym (last.2 m behind reads.earlier) ∙ reads.writes))
-]
+writer_is m w last reads = grind (arith, common_steps, cases_order, false≢true)
 
 pub writer_found : {trace : List Event} {j block byte : ℕ} (m : ℕ) (from : Option ℕ)
     → IsLastBelow trace (Writes block byte) j from → ReadsByteFrom trace j m block byte → from ≡ Some m
@@ -35,37 +32,21 @@ writer_found m (Some w) last reads = ap Some (sym (writer_is m w last reads))
 pub reads_last : {trace : List Event} {j w block byte : ℕ} → j < length trace
     → IsLastBelow trace (Writes block byte) j (Some w) → reads_byte (event_at trace j) block byte ≡ true
     → ReadsByteFrom trace j w block byte
-reads_last within last reads = record {
-  earlier = last.0;
-  within = within;
-  writes = last.1;
-  reads = reads;
-  latest = last.2;
-}
+reads_last within last reads = grind (arith, common_steps)
 
 pub same_some : (x : Option ℕ) (i : ℕ) → option_eq nat_eq x (Some i) ≡ true → x ≡ Some i
 same_some None i e = absurd (false≢true e)
 same_some (Some k) i e = ap Some (eqb-true k i e)
 
 pub some_same : (x : Option ℕ) (i : ℕ) → x ≡ Some i → option_eq nat_eq x (Some i) ≡ true
-some_same x i e = subst (λ (y : Option ℕ). option_eq nat_eq y (Some i) ≡ true) (sym e) (eq-eqb i i (ap (λ (k : ℕ). k) same))
-  where
-    same : i ≡ i
-    same = λ k. i
+some_same x i e = grind (arith, common_steps, option_eq, nat_eq, eq-eqb)
 
 -- a byte of an access that reads
 pub reads_at : {trace : List Event} {j i k : ℕ} (a : Access) → j < length trace → (event_at trace j).access ≡ Some a
     → a.reads ≡ true → k < a.len → IsLastBelow trace (Writes a.place.block (a.place.byte + k)) j (Some i)
     → ReadsFrom trace j i
-reads_at {trace} {j} {i} {k} a within is reads inside last = record {
-  block = a.place.block;
-  byte = a.place.byte + k;
-  reads = reads_last within last (ap (λ (x : Option Access). some_is (λ (b : Access). b.reads
-      && covers b a.place.block (a.place.byte + k)) x) is
-      ∙ and_from a.reads (covers a a.place.block (a.place.byte + k)) reads
-      (byte_covered a a.place.block (a.place.byte + k)
-      (record { offset = k; inside = inside; block_is = λ x. a.place.block; byte_is = λ x. a.place.byte + k })));
-}
+reads_at {trace} {j} {i} {k} a within is reads inside last =
+    grind (arith, common_steps, reads_last, some_is, covers, and_from, byte_covered)
 
 -- where no byte of an access is read from the event, the access isn't
 pub no_byte_read : {trace : List Event} {j i : ℕ} (a : Access) → (event_at trace j).access ≡ Some a

@@ -1,5 +1,6 @@
 -- What the later agent of a race has seen of the earlier one.
-use Rattle.std.proofs.Common.{◌≡◌, ◌≢◌, ap, ℕ, ◌<◌, List, Option, Some, None, inl, inr, sym, subst, ◌∙◌, arith, min, slice_index}
+use Rattle.std.proofs.Common.{◌≡◌, ◌≢◌, ℕ, ◌<◌, List, Option, Some, None, sym, ◌∙◌, arith, min, slice_index}
+use Rattle.std.proofs.lemmas.Grind.{common_steps}
 use Rattle.std.proofs.lemmas.Bool.{false≢true, cases_lt, eq-eqb, eqb-true}
 use Rattle.sab_judge.specs.declared.event.Event.{Event}
 use Rattle.sab_judge.specs.declared.clock.Clock.{Clock}
@@ -14,10 +15,7 @@ use Rattle.sab_judge.proofs.LastSteps.{before_earlier}
 below_bound : {trace : List Event} {j : ℕ} {clock : Clock} (agent k : ℕ) → HasClock trace j clock
     → agent_at trace k ≡ agent → HappensBefore trace k j → k < min (slice_index clock.bounds agent) j
 below_bound {trace} {j} {clock} agent k c by before =
-    let known : k < slice_index clock.bounds (agent_at trace k) = c.known.complete k (inr before) in
-    let bound : k < slice_index clock.bounds agent = subst (λ (a : ℕ). k < slice_index clock.bounds a) by known in
-    let earlier : k < j = before_earlier before in
-    omega (arith, bound, earlier)
+    grind (arith, common_steps, slice_index, agent_at, before_earlier)
 
 -- the last of another agent's events below the bound is the last that happens before the event
 pub last_below_is_seen : {trace : List Event} {j : ℕ} {clock : Clock} (agent : ℕ) (found : Option ℕ)
@@ -25,20 +23,5 @@ pub last_below_is_seen : {trace : List Event} {j : ℕ} {clock : Clock} (agent :
     → IsLastBelow trace (OfAgent agent) (min (slice_index clock.bounds agent) j) found → IsLastSeen trace agent j found
 last_below_is_seen {trace} {j} {clock} agent None c other none = λ k by before.
     false≢true (sym (none k (below_bound agent k c by before)) ∙ eq-eqb _ _ by)
-last_below_is_seen {trace} {j} {clock} agent (Some m) c other (below, hit, after) = (
-  by,
-  elim (c.known.sound m (omega (arith, below, c.within)) known) [
-    | inl same ↦ absurd (other (sym by ∙ ap (λ (x : ℕ). agent_at trace x) same))
-    | inr before ↦ before
-  ],
-  λ k k_by before. elim (cases_lt m k) [
-    | inl later ↦ absurd (false≢true (sym (after k later (below_bound agent k c k_by before)) ∙ eq-eqb _ _ k_by))
-    | inr no_later ↦ no_later
-  ],
-)
-  where
-    by : agent_at trace m ≡ agent
-    by = eqb-true _ _ hit
-
-    known : m < slice_index clock.bounds (agent_at trace m)
-    known = subst (λ (a : ℕ). m < slice_index clock.bounds a) (sym by) (omega (arith, below))
+last_below_is_seen {trace} {j} {clock} agent (Some m) c other (below, hit, after) =
+    grind (arith, common_steps, agent_at, cases_lt, false≢true, below_bound, eq-eqb, eqb-true, slice_index)

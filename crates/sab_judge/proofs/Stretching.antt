@@ -1,5 +1,6 @@
 -- Stretches, and how a write changes them.
 use Rattle.std.proofs.Common.{◌≡◌, ◌≢◌, ◌⊎◌, inl, inr, ℕ, zero, suc, ◌+◌, ◌-◌, ◌<◌, ◌≤◌, leb, true, false, List, length, slice_set, Option, Some, refl, sym, subst, ap, ◌∙◌, arith, leb-true, get_or-set_other, get_or-set_same, length-set}
+use Rattle.std.proofs.lemmas.Grind.{common_steps}
 use Rattle.std.specs.List.{insert}
 use Rattle.std.specs.List.Sorted.{IsPartitionedBy, IsPartitionPoint, IsNonDecreasingBy}
 use Rattle.std.proofs.lemmas.Bool.{false≢true, cases_lt, cases_eq, cases_order, le-leb}
@@ -34,76 +35,40 @@ parted {list} byte order = IsPartitionedBy-leb (λ s. s.start) list byte (rising
 -- the first one begins at byte 0
 pub some_begin : {list : List Stretch} (byte p : ℕ) → AreInOrder list
     → IsPartitionPoint (λ (s : Stretch). leb s.start byte ≡ true) (λ s. leb s.start byte ≡ false) list p → 1 ≤ p
-some_begin {list} byte p order point = elim (cases_lt 0 p) [
-  | inl more ↦ more
-  | inr none ↦ (let zero : p ≡ 0 = omega (arith, none) in
-      absurd (false≢true (sym (point.1 0 no_stretch none order.some)
-      ∙ le-leb (stretch_at list 0).start byte (omega (arith, order.first)))))
-]
+some_begin {list} byte p order point =
+    grind (arith, common_steps, cases_lt, false≢true, no_stretch, le-leb, stretch_at)
 
 -- the last of those that begin at the byte or before it has it
 pub last_has : {list : List Stretch} (byte p : ℕ) → AreInOrder list → p ≤ length list
     → IsPartitionPoint (λ (s : Stretch). leb s.start byte ≡ true) (λ s. leb s.start byte ≡ false) list p
     → HasByte list (p - 1) byte
 last_has {list} byte p order few point =
-    let more : 1 ≤ p = some_begin byte p order point in
-    record {
-      within = omega (arith, more, few);
-      from_start = leb-true _ _ (point.0 (p - 1) no_stretch (omega arith) (omega (arith, more)));
-      behind = λ m from lt. elim (cases_lt byte (stretch_at list m).start) [
-        | inl less ↦ less
-        | inr ge ↦ absurd (false≢true (sym (point.1 m no_stretch (omega (arith, from, more)) lt)
-            ∙ le-leb (stretch_at list m).start byte ge))
-      ];
-    }
+    grind (arith, common_steps, some_begin, leb-true, no_stretch, cases_lt, stretch_at, false≢true, le-leb)
 
 -- one stretch alone has a byte
 pub one_has : {list : List Stretch} {byte : ℕ} (k m : ℕ) → HasByte list k byte → HasByte list m byte → k ≡ m
-one_has k m h g = elim (cases_order k m) [
-  | inl same ↦ same
-  | inr (inl less) ↦ absurd (omega (arith, h.behind m less g.within, g.from_start))
-  | inr (inr more) ↦ absurd (omega (arith, g.behind k more h.within, h.from_start))
-]
+one_has k m h g = grind (arith, common_steps, cases_order)
 
 -- ---- an overwrite
 
 pub none_overwritten : (list : List Stretch) (from event : ℕ) → IsOverwritten list list from from event
-none_overwritten list from event = record {
-  count = refl;
-  starts = λ k. refl;
-  inside = λ k low high. absurd (omega (arith, low, high));
-  outside = λ k out. refl;
-}
+none_overwritten list from event = grind (arith, common_steps)
 
 pub one_more_overwritten : {old list : List Stretch} {from k event : ℕ} (new : Stretch) → IsOverwritten old list from k event
     → from ≤ k → k < length list → new.start ≡ (stretch_at list k).start → new.writer ≡ event + 1
     → IsOverwritten old (slice_set list k new) from (k + 1) event
-one_more_overwritten {old} {list} {from} {k} {event} new h low inside start writer = record {
-  count = length-set list k new ∙ h.count;
-  starts = λ m. elim (cases_eq m k) [
-    | inl same ↦ (let e : stretch_at (slice_set list k new) m ≡ new = here m same in
-        ap (λ (s : Stretch). s.start) e ∙ start ∙ ap (λ (x : ℕ). (stretch_at list x).start) (sym same) ∙ h.starts m)
-    | inr other ↦ ap (λ (s : Stretch). s.start) (there m other) ∙ h.starts m
-  ];
-  inside = λ m from_low below. elim (cases_eq m k) [
-    | inl same ↦ ap (λ (s : Stretch). s.writer) (here m same) ∙ writer
-    | inr other ↦ (let less : m < k = omega (arith, below, other) in
-        ap (λ (s : Stretch). s.writer) (there m other) ∙ h.inside m from_low less)
-  ];
-  outside = λ m out. elim out [
-    | inl before ↦ ap (λ (s : Stretch). s.writer) (there m (λ e. absurd (omega (arith, e, before, low))))
-        ∙ h.outside m (inl before)
-    | inr behind ↦ ap (λ (s : Stretch). s.writer) (there m (λ e. absurd (omega (arith, e, behind))))
-        ∙ h.outside m (inr (omega (arith, behind)))
-  ];
-}
-  where
-    here : (m : ℕ) → m ≡ k → stretch_at (slice_set list k new) m ≡ new
-    here m same = ap (λ (x : ℕ). stretch_at (slice_set list k new) x) same
-        ∙ get_or-set_same list k new no_stretch inside
-
-    there : (m : ℕ) → m ≢ k → stretch_at (slice_set list k new) m ≡ stretch_at list m
-    there m other = get_or-set_other list k m new no_stretch other
+one_more_overwritten {old} {list} {from} {k} {event} new h low inside start writer =
+    grind (
+      arith,
+      common_steps,
+      length-set,
+      cases_eq,
+      stretch_at,
+      slice_set,
+      get_or-set_same,
+      no_stretch,
+      get_or-set_other,
+    )
 
 -- ---- a split
 
@@ -115,9 +80,7 @@ inserted list p m new within less = get_or-insert_below list p new no_stretch m 
 behind_insert : (list : List Stretch) (p m : ℕ) (new : Stretch) → p ≤ length list → p < m
     → stretch_at (insert list p new) m ≡ stretch_at list (m - 1)
 behind_insert list p m new within more =
-    let at : m ≡ (m - 1) + 1 = omega (arith, more) in
-    ap (λ (x : ℕ). stretch_at (insert list p new) x) at
-    ∙ get_or-insert_above list p new no_stretch (m - 1) (omega (arith, more)) within
+    grind (arith, common_steps, stretch_at, insert, get_or-insert_above, no_stretch)
 
 pub split_before : {list : List Stretch} {k byte : ℕ} (new : Stretch) → AreInOrder list → HasByte list k byte
     → (stretch_at list k).start ≢ byte → new.start ≡ byte → new.writer ≡ (stretch_at list k).writer
@@ -253,21 +216,7 @@ split_before {list} {k} {byte} new order has other start writer = record {
 -- a stretch that begins at the byte is there
 pub split_there : {list : List Stretch} {k byte : ℕ} → AreInOrder list → HasByte list k byte
     → (stretch_at list k).start ≡ byte → IsSplit list list byte k
-split_there {list} {k} {byte} order has at = record {
-  order = order;
-  within = has.within;
-  begins = at;
-  same = λ other writer g. g;
-  kept = λ m lt before. (
-    elim (cases_order m k) [
-      | inl same ↦ (let e : (stretch_at list m).start ≡ (stretch_at list k).start =
-          ap (λ (x : ℕ). (stretch_at list x).start) same in absurd (omega (arith, e, at, before)))
-      | inr (inl less) ↦ less
-      | inr (inr more) ↦ absurd (omega (arith, has.behind m more lt, before))
-    ],
-    refl,
-  );
-}
+split_there {list} {k} {byte} order has at = grind (arith, common_steps, cases_order, stretch_at)
 
 -- ---- a write
 

@@ -1,12 +1,12 @@
 -- The acts of calls that have begun.
 use Rattle.std.proofs.Common.{◌≡◌, inl, inr, ℕ, ℤ, ◌<◌, Bool, List, length, map, set, slice_get, slice_set, Option, Some, None, Ok, Err, refl, ap, sym, ◌∙◌, subst, arith}
+use Rattle.std.proofs.lemmas.Grind.{common_steps}
 use Rattle.std.specs.Prelude.{option_map}
 use Rattle.std.proofs.Math.ListN.{length-set}
 use Rattle.std.proofs.lemmas.Option.{slice_get-get_or, slice_get_within}
 use Rattle.sab_block.specs.declared.thrown.Thrown.{Thrown}
 use Rattle.sab_block.specs.declared.access.Access.{Access}
 use Rattle.sab_block.specs.declared.operand.Operand.{Operand}
-use Rattle.sab_block.specs.Access.{Acts}
 use Rattle.sab_plan.specs.declared.place.Place.{Place}
 use Rattle.sab_plan.specs.declared.plan_view.PlanView.{PlanView}
 use Rattle.sab_plan.specs.declared.call.Call.{Call}
@@ -73,10 +73,7 @@ answered_turn {plan} {m} {a} {call} {v} acting x does =
 access_does : (can_block : Bool) (a : ℕ) (v : PlanView) (n : ℕ) (access : Access) (x : Answer)
     (mem mem' : List (List ℕ)) (S : State) → S.mem ≡ mem → AnswersAccess v access mem x mem'
     → DoesCall can_block a v (C.Access n access) S (Acted x) (record S { mem = mem' })
-access_does can_block a v n access (A.Value x) mem mem' S e h =
-    let at = subst (λ (m : List (List ℕ)). Acts v.view access (bytes_of m v.block) x h.1.0) (sym e) h.1.1 in
-    let put = h.1.2 ∙ ap (λ (m : List (List ℕ)). slice_set m v.block h.1.0) (sym e) in
-    (h.0, (h.1.0, at, ap (λ (m : List (List ℕ)). record S { mem = m }) put))
+access_does can_block a v n access (A.Value x) mem mem' S e h = grind (arith, common_steps, bytes_of, slice_set)
 access_does can_block a v n access (A.Threw t) mem mem' S e h =
     (h.0, ap (λ (m : List (List ℕ)). record S { mem = m }) (h.1 ∙ sym e))
 access_does can_block a v n access A.Woken mem mem' S e h = absurd h

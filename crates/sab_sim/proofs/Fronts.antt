@@ -1,5 +1,6 @@
 -- A journal and its fronts lead to one state each, and what the agents show of it.
 use Rattle.std.proofs.Common.{◌≡◌, ℕ, zero, suc, ◌<◌, true, false, List, [], ◌∷◌, ◌++◌, length, take, drop, slice_get, Option, Some, None, refl, ap, sym, ◌∙◌, subst, arith}
+use Rattle.std.proofs.lemmas.Grind.{common_steps}
 use Rattle.std.specs.Prelude.{slice_index_or}
 use Rattle.std.proofs.lemmas.Bool.{false≢true}
 use Rattle.std.proofs.lemmas.List.{take-append-drop}
@@ -63,14 +64,7 @@ at_wait plan journal a g ph p t at e returned =
 -- who waits wasn't woken
 not_woken : (g : Option Agent) → is_waiting g ≡ true → is_woken g ≡ false
 not_woken None e = refl
-not_woken (Some g) e = go g.phase e
-  where
-    go : (ph : Phase) → waiting_phase ph ≡ true → woken_phase ph ≡ false
-    go P.Woken f = absurd (false≢true f)
-    go P.Ready f = refl
-    go P.Begun f = refl
-    go (P.Waiting p t) f = refl
-    go (P.Answered x) f = refl
+not_woken (Some g) e = grind (arith, common_steps, waiting_phase, woken_phase, false≢true)
 
 pub IsOfWaits-kept : (plan : PlanParts) (moves : List Move) (journal : List Entry) (m : MachineParts)
     → Kept plan moves journal m → AtEnd plan journal (IsOfWaits plan journal)

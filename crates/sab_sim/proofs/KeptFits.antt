@@ -1,5 +1,6 @@
 -- What a simulator keeps.
 use Rattle.std.proofs.Common.{◌≡◌, inl, inr, ℕ, zero, suc, ◌+◌, ◌-◌, ◌^◌, ◌<◌, ◌≤◌, true, false, List, [], ◌∷◌, ◌++◌, length, map, take, replicate, slice_get, Some, refl, ap, sym, ◌∙◌, subst, arith, length-append, append_assoc, flat_map, add-zero}
+use Rattle.std.proofs.lemmas.Grind.{common_steps}
 use Rattle.std.proofs.lemmas.Option.{slice_get_within, slice_get-get_or}
 use Rattle.std.proofs.lemmas.List.{take-append-le, length-replicate, take_all}
 use Rattle.std.proofs.lemmas.Grind.{flat_map-append}
@@ -110,9 +111,7 @@ pub IsWhere-agent_at : (plan : PlanParts) (moves : List Move) (journal : List En
     → (slice_get machine.agents a ≡ Some (agent_at machine.agents a))
     × IsWhere plan journal a (agent_at machine.agents a)
 IsWhere-agent_at plan moves journal machine a kept within =
-    let there : slice_get machine.agents a ≡ Some (agent_at machine.agents a) =
-    slice_get-get_or machine.agents a newcomer (omega (arith, within, kept.size)) in
-    (there, kept.agents_are a (agent_at machine.agents a) there)
+    grind (arith, common_steps, slice_get, agent_at, slice_get-get_or, newcomer)
 
 -- what is kept fits
 pub FitsMoves-kept : (plan : PlanParts) (moves : List Move) (journal : List Entry) (machine : MachineParts)
@@ -144,39 +143,8 @@ newcomers_free (suc n) zero = (refl, refl)
 newcomers_free (suc n) (suc a) = newcomers_free n a
 
 Kept-opening : (plan : PlanParts) → Kept plan [] [] (opening_machine plan)
-Kept-opening plan = record {
-  one_each = refl;
-  named = λ k m e. absurd (cc);
-  answers = λ k m e f g. absurd (cc);
-  justified = λ k e f. absurd (cc);
-  object = (
-    opening plan.lens,
-    refl,
-    record {
-      mem_is = refl;
-      notified_is = λ b. sym (newcomers_free n b).0;
-      stands_is = λ b. sym (newcomers_free n b).1;
-      seated = tt;
-      tickets = λ b p t w. absurd (
-          let e = all_newcomers n b w.0 w.1 in
-          let f : P.Ready ≡ P.Waiting p t = ap (λ (g : Agent). g.phase) e ∙ w.2 in
-          cc);
-    },
-  );
-  size = length-replicate n newcomer;
-  agents_are = λ a g g_is. subst (λ (h : Agent). IsWhere plan [] a h) (all_newcomers n a g g_is) (record {
-    courses = [];
-    part = [];
-    track_is = refl;
-    is_part = refl;
-    count = refl;
-    returned = refl;
-    at_call = omega arith;
-  });
-}
-  where
-    n : ℕ
-    n = length plan.scripts
+Kept-opening plan =
+    grind (arith, common_steps, opening, newcomers_free, all_newcomers, length-replicate, newcomer, length)
 
 length-zero_blocks : (lens : List ℕ) → map (length {A = ℕ}) (map (λ len. replicate len 0) lens) ≡ lens
 length-zero_blocks [] = refl

@@ -1,5 +1,6 @@
 -- Moves into the line and out of it.
 use Rattle.std.proofs.Common.{◌≡◌, ◌≢◌, ℕ, zero, suc, ◌<◌, ◌≤◌, ◌==◌, ◌&&◌, ◌||◌, not, Bool, true, false, cond, List, [], ◌∷◌, ◌++◌, set, slice_get, Some, None, refl, ap, sym, ◌∙◌, subst, arith}
+use Rattle.std.proofs.lemmas.Grind.{common_steps}
 use Rattle.std.specs.Prelude.{Contains, filter}
 use Rattle.std.proofs.Math.Bool.{or-false, or-true, and-false, and-true}
 use Rattle.std.proofs.lemmas.Option.{slice_get_within}
@@ -119,19 +120,21 @@ taken_off-without : (agents : List Agent) (low a : ℕ) (p : Place) (t : ℕ) (l
     → filter (λ (w : Waiter). not (is_at p w && (w.agent == a))) line ≡ without a line
 taken_off-without agents low a p t [] s waits = refl
 taken_off-without agents low a p t (w ∷ line) s waits =
-    go (taken_off-without agents (suc s.0) a p t line s.3 waits) (w.agent == a) refl
-  where
-    rest : List Waiter
-    rest = filter (λ (w : Waiter). not (is_at p w && (w.agent == a))) line
-
-    go : rest ≡ without a line → (b : Bool) → (w.agent == a) ≡ b
-        → cond (not (is_at p w && b)) (w ∷ rest) rest ≡ cond (not b) (w ∷ without a line) (without a line)
-    go e true own =
-        let places = one_ticket agents a w.place s.0 p t
-        (subst (λ n. WaitsAt agents n w.place s.0) (eqb-true w.agent a own) s.2) waits in
-        let at : same_place w.place p ≡ true = same_place-same w.place p places.0 in
-        rw at e
-    go e false own = rw (and-false (is_at p w)) (ap (λ (ws : List Waiter). w ∷ ws) e)
+    grind (
+      arith,
+      common_steps,
+      filter,
+      not,
+      is_at,
+      without,
+      cond,
+      one_ticket,
+      eqb-true,
+      same_place,
+      same_place-same,
+      and-false,
+      taken_off-without agents (suc s.0) a p t line s.3 waits,
+    )
 
 -- who waits, and stands in the line, stands there at its place
 stands_at : (agents : List Agent) (low a : ℕ) (p : Place) (t : ℕ) (line : List Waiter) → IsSeated agents low line

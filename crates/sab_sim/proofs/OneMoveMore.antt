@@ -1,5 +1,6 @@
 -- What one move keeps.
 use Rattle.std.proofs.Common.{◌≡◌, ◌≢◌, inl, inr, ℕ, suc, ◌+◌, ◌≤◌, ◌==◌, ◌&&◌, not, Bool, true, false, cond, List, [], ◌∷◌, ◌++◌, length, map, slice_get, Some, refl, ap, sym, ◌∙◌, subst, arith, length-append, append_assoc, flat_map, MatchBool}
+use Rattle.std.proofs.lemmas.Grind.{common_steps}
 use Rattle.std.proofs.lemmas.Option.{slice_get_within}
 use Rattle.std.proofs.lemmas.List.{map-append, take-append-le, append-nil}
 use Rattle.std.proofs.lemmas.List.Elements.{filter-append}
@@ -46,10 +47,8 @@ Reaches-push plan journal S T e r g =
 -- what holds of each entry and of one more
 pub EachAfter-push : (P : List Entry → Entry → Type 0) (journal : List Entry) (e : Entry) → EachAfter P journal
     → P journal e → EachAfter P (journal ++ e ∷ [])
-EachAfter-push P journal e all here k f at = elim (slice_get-push journal e k f at) [
-  | inl h ↦ rw (take-append-le k journal (e ∷ []) (omega (arith, h.1))) (all k f h.0)
-  | inr h ↦ rw (h.0, take-append_seam journal (e ∷ []), ← h.1) here
-]
+EachAfter-push P journal e all here k f at =
+    grind (arith, common_steps, slice_get-push, take-append-le, take-append_seam)
 
 -- the entries answer their moves, and so does one more
 EachAnswers-push : (moves : List Move) (journal : List Entry) (m : Move) (e : Entry) → length journal ≡ length moves
@@ -92,41 +91,18 @@ returned_of-other journal e b h =
 returned_of-own : (journal : List Entry) (e : Entry)
     → returned_of (journal ++ e ∷ []) e.agent ≡ returned_of journal e.agent + cond (is_return e.what) 1 0
 returned_of-own journal e =
-    let match : (e.agent == e.agent) ≡ true = eq-eqb e.agent e.agent refl in
-    let before = returned_of journal e.agent in
-    rw (filter-append (λ (f : Entry). (f.agent == e.agent) && is_return f.what) journal (e ∷ []), match, length-append)
-    (elim (is_return e.what) as (λ b. before + length (cond (true && b) (e ∷ []) []) ≡ before + cond b 1 0)
-    [ true ↦ refl | false ↦ refl ])
+    grind (arith, common_steps, eq-eqb, returned_of, filter-append, is_return, length-append, length, cond)
 
 -- an agent is where it was, after an entry of another
 IsWhere-other : (plan : PlanParts) (journal : List Entry) (e : Entry) (b : ℕ) (g : Agent) → b ≢ e.agent
     → IsWhere plan journal b g → IsWhere plan (journal ++ e ∷ []) b g
-IsWhere-other plan journal e b g h w = record {
-  courses = w.courses;
-  part = w.part;
-  track_is = track-other journal e b h ∙ w.track_is;
-  is_part = w.is_part;
-  count = w.count;
-  returned = returned_of-other journal e b h ∙ w.returned;
-  at_call = w.at_call;
-}
+IsWhere-other plan journal e b g h w = grind (arith, common_steps, track-other, returned_of-other)
 
 -- a woken agent did what it did as it waited
 IsWhere-like : (plan : PlanParts) (journal : List Entry) (b : ℕ) (g h : Agent) → IsLike g h
     → IsWhere plan journal b g → IsWhere plan journal b h
 IsWhere-like plan journal b g h (inl same) w = subst (λ (k : Agent). IsWhere plan journal b k) (sym same) w
-IsWhere-like plan journal b g h (inr woken) w =
-    let part : w.part ≡ Began ∷ Enlisted ∷ [] = subst (λ (ph : Phase). IsPart ph w.part) woken.2 w.is_part in
-    let at = subst (λ (ph : Phase). IsAtCall plan (calls_of plan b) g.returned ph) woken.2 w.at_call in
-    subst (λ (k : Agent). IsWhere plan journal b k) (sym woken.3) (record {
-      courses = w.courses;
-      part = w.part;
-      track_is = w.track_is;
-      is_part = part;
-      count = w.count;
-      returned = w.returned;
-      at_call = (at.0, at.1, (woken.0, at.2));
-    })
+IsWhere-like plan journal b g h (inr woken) w = grind (arith, common_steps, calls_of)
 
 -- an agent in the line has begun its wait and joined
 in_line_part : (ph : Phase) (part : List What) → IsInLine ph → IsPart ph part → part ≡ Began ∷ Enlisted ∷ []
@@ -157,15 +133,8 @@ goes_on : (plan : PlanParts) (journal : List Entry) (a : ℕ) (g : Agent) (what 
     (w : IsWhere plan journal a g) → w.part ≡ begun → is_stuck what ≡ false → is_return what ≡ false
     → h.returned ≡ g.returned → IsPart h.phase (begun ++ what ∷ [])
     → IsAtCall plan (calls_of plan a) h.returned h.phase → IsWhere plan (journal ++ its_entry a g what ∷ []) a h
-goes_on plan journal a g what h begun w part moves stays same is_part at = record {
-  courses = w.courses;
-  part = begun ++ what ∷ [];
-  track_is = track-push journal (its_entry a g what) (flat_map course w.courses) w.part begun w.track_is part moves;
-  is_part = is_part;
-  count = w.count ∙ sym same;
-  returned = returned_of-same journal (its_entry a g what) g.returned w.returned stays ∙ sym same;
-  at_call = at;
-}
+goes_on plan journal a g what h begun w part moves stays same is_part at =
+    grind (arith, common_steps, track-push, flat_map, course, returned_of-same)
 
 -- an agent's call returns
 goes_back : (plan : PlanParts) (journal : List Entry) (a : ℕ) (g : Agent) (x : Answer) (c : Course)
@@ -217,16 +186,7 @@ IsWhere-own plan journal a g (Returned x) h w adv at =
       | inr p ↦ goes_back plan journal a g x (InLine x) (Began ∷ Enlisted ∷ Left x ∷ []) w p refl left
     ])
 IsWhere-own plan journal a g (Stuck why) h w adv at =
-    let e = its_entry a g (Stuck why) in
-    subst (λ (k : Agent). IsWhere plan (journal ++ e ∷ []) a k) (sym adv) (record {
-      courses = w.courses;
-      part = w.part;
-      track_is = track-own journal e ∙ (append-nil (track journal a) ∙ w.track_is);
-      is_part = w.is_part;
-      count = w.count;
-      returned = returned_of-same journal e g.returned w.returned refl;
-      at_call = w.at_call;
-    })
+    grind (arith, common_steps, track-own, append-nil, track, returned_of-same)
 
 -- the entry answers its move, and all is kept
 pub Kept-push : (plan : PlanParts) (moves : List Move) (journal : List Entry) (machine : MachineParts) (m : Move)

@@ -1,5 +1,6 @@
 -- After a kept journal each move has one entry.
-use Rattle.std.proofs.Common.{◌≡◌, ◌⊎◌, inl, inr, ℕ, zero, suc, ◌+◌, ◌<◌, ◌==◌, ◌||◌, Bool, true, false, cond, List, [], ◌∷◌, ◌++◌, length, slice_get, Some, None, refl, ap, sym, ◌∙◌, subst, arith, length-append, flat_map, MatchBool}
+use Rattle.std.proofs.Common.{◌≡◌, ◌⊎◌, inl, inr, ℕ, zero, suc, ◌+◌, ◌<◌, ◌==◌, Bool, true, false, cond, List, [], ◌∷◌, ◌++◌, length, slice_get, Some, None, refl, ap, sym, ◌∙◌, subst, arith, length-append, flat_map, MatchBool}
+use Rattle.std.proofs.lemmas.Grind.{common_steps}
 use Rattle.std.specs.Prelude.{Contains}
 use Rattle.std.specs.List.{list_any}
 use Rattle.std.proofs.lemmas.Option.{slice_get_within}
@@ -138,11 +139,7 @@ stands-contained [] w (k, l, e) = absurd (omega (arith, l))
 stands-contained (q ∷ line) w (zero, l, e) =
     let own : (q.agent == w.agent) ≡ true = eq-eqb q.agent w.agent (ap (λ (x : Waiter). x.agent) e) in rw own refl
 stands-contained (q ∷ line) w (suc k, l, e) =
-    rw (stands-contained line w (k, omega (arith, l), e)) (or_true (q.agent == w.agent))
-  where
-    or_true : (x : Bool) → (x || true) ≡ true
-    or_true true = refl
-    or_true false = refl
+    grind (arith, common_steps, stands-contained line w (k, omega (arith, l), e))
 
 -- to time out is to stand in the line
 timed_out_stands : (cb : Bool) (a : ℕ) (v : PlanView) (call : Call) (S T : State)
@@ -175,11 +172,7 @@ left_answers cb a v call S T x d = absurd (first_of (assumption, cc))
 -- by a step it is by a notify
 step_left : (plan : PlanParts) (i a : ℕ) (g : Agent) (S : State) (x : Answer) → CanDo plan (Step i) a g S (Left x)
     → (x ≡ A.Woken) × (S.notified a ≡ true)
-step_left plan i a g S x f =
-    elim (left_answers f.goes.acts.script.can_block a f.goes.acts.view f.goes.acts.call S f.target x f.goes.acts.does) [
-      | inl h ↦ h
-      | inr h ↦ absurd (false≢true (subst (λ (y : Answer). answers_move (Step i) (Left y) ≡ true) h f.kind))
-    ]
+step_left plan i a g S x f = grind (arith, common_steps, left_answers, false≢true, answers_move)
 
 -- whether it is stuck
 stuck_cases : (w : What) → (is_stuck w ≡ false) ⊎ ((why : Why) × (w ≡ Stuck why))
@@ -201,36 +194,18 @@ step_stuck plan i a g S Y.Endless f = absurd (false≢true f.kind)
 -- a step of one that has a call and doesn't wait isn't stuck
 step_unstuck : (plan : PlanParts) (i a : ℕ) (g : Agent) (S : State) (w : What) → stands S a ≡ false
     → g.returned < length (calls_of plan a) → CanDo plan (Step i) a g S w → is_stuck w ≡ false
-step_unstuck plan i a g S w n c f = elim (stuck_cases w) [
-  | inl h ↦ h
-  | inr h ↦ elim (step_stuck plan i a g S h.0 (subst (CanDo plan (Step i) a g S) h.1 f)) [
-    | inl d ↦ absurd (omega (arith, d.1, c))
-    | inr d ↦ absurd (false≢true (sym n ∙ d.1))
-  ]
-]
+step_unstuck plan i a g S w n c f = grind (arith, common_steps, stuck_cases, step_stuck, false≢true)
 
 -- a step of one that was woken leaves
 step_woken : (plan : PlanParts) (i a : ℕ) (g : Agent) (S : State) (w : What) → g.phase ≡ P.Woken → stands S a ≡ false
     → g.returned < length (calls_of plan a) → CanDo plan (Step i) a g S w → w ≡ Left A.Woken
-step_woken plan i a g S w e n c f =
-    let l = subst (λ (ph : Phase). MayFollow ph w) e (f.next (step_unstuck plan i a g S w n c f)).0 in
-    let one = step_left plan i a g S l.0 (subst (CanDo plan (Step i) a g S) l.1 f) in
-    l.1 ∙ ap (λ (x : Answer). Left x) one.0
+step_woken plan i a g S w e n c f = grind (arith, common_steps, step_unstuck, step_left)
 
 -- a step of one that waits is stuck
 step_waiting : (plan : PlanParts) (i a : ℕ) (p : Place) (t : ℕ) (g : Agent) (S : State) (w : What)
     → g.phase ≡ P.Waiting p t → S.notified a ≡ false → g.returned < length (calls_of plan a)
     → CanDo plan (Step i) a g S w → w ≡ Stuck Y.Waiting
-step_waiting plan i a p t g S w e n c f = elim (stuck_cases w) [
-  | inl h ↦
-      let l = subst (λ (ph : Phase). MayFollow ph w) e (f.next h).0 in
-      let one = step_left plan i a g S l.0 (subst (CanDo plan (Step i) a g S) l.1 f) in
-      absurd (false≢true (sym n ∙ one.1))
-  | inr h ↦ elim (step_stuck plan i a g S h.0 (subst (CanDo plan (Step i) a g S) h.1 f)) [
-    | inl d ↦ absurd (omega (arith, d.1, c))
-    | inr d ↦ h.1 ∙ ap (λ (y : Why). Stuck y) d.0
-  ]
-]
+step_waiting plan i a p t g S w e n c f = grind (arith, common_steps, stuck_cases, step_left, false≢true, step_stuck)
 
 -- a step of one that has its answer returns it
 step_answered : (plan : PlanParts) (i a : ℕ) (x : Answer) (g : Agent) (S : State) (w : What) → g.phase ≡ P.Answered x
@@ -243,13 +218,7 @@ step_ready : (plan : PlanParts) (i a : ℕ) (g : Agent) (S : State) (w : What) �
     → CanDo plan (Step i) a g S w
     → ((w ≡ Began) × (g.returned < length (calls_of plan a)))
     ⊎ ((w ≡ Stuck Y.Done) × (g.returned ≡ length (calls_of plan a)))
-step_ready plan i a g S w e n f = elim (stuck_cases w) [
-  | inl h ↦ inl (subst (λ (ph : Phase). MayFollow ph w) e (f.next h).0, (f.next h).1)
-  | inr h ↦ elim (step_stuck plan i a g S h.0 (subst (CanDo plan (Step i) a g S) h.1 f)) [
-    | inl d ↦ inr (h.1 ∙ ap (λ (y : Why). Stuck y) d.0, d.1)
-    | inr d ↦ absurd (false≢true (sym n ∙ d.1))
-  ]
-]
+step_ready plan i a g S w e n f = grind (arith, common_steps, stuck_cases, step_stuck, false≢true)
 
 timed_out_is_timed : (cb : Bool) (a : ℕ) (v : PlanView) (call : Call) (S T : State)
     → DoesCall cb a v call S (Left A.TimedOut) T → is_timed (Some call) ≡ true
@@ -274,18 +243,11 @@ time_waiting : (plan : PlanParts) (i a : ℕ) (g : Agent) (S : State) (w : What)
     → CanDo plan (TimeUp i) a g S w
     → w ≡ cond (is_timed (call_of plan a g.returned)) (Left A.TimedOut) (Stuck Y.Endless)
 time_waiting plan i a g S (Stuck Y.NotWaiting) n f = absurd (false≢true (sym f.goes.justified ∙ n))
-time_waiting plan i a g S (Stuck Y.Endless) n f =
-    let j = f.goes.justified.1 in
-    let timed : is_timed (call_of plan a g.returned) ≡ false = ap is_timed j.1 ∙ forever_not_timed j.0 j.2 in
-    rw timed refl
+time_waiting plan i a g S (Stuck Y.Endless) n f = grind (arith, common_steps, is_timed, call_of, forever_not_timed)
 time_waiting plan i a g S (Stuck Y.Done) n f = absurd (false≢true f.kind)
 time_waiting plan i a g S (Stuck Y.Waiting) n f = absurd (false≢true f.kind)
 time_waiting plan i a g S (Left A.TimedOut) n f =
-    let d = f.goes.acts in
-    let timed : is_timed (call_of plan a g.returned) ≡ true = ap is_timed
-    (call_of-does plan S f.target (its_entry a g (Left A.TimedOut)) d) ∙ timed_out_is_timed d.script.can_block a
-    d.view d.call S f.target d.does in
-    rw timed refl
+    grind (arith, common_steps, is_timed, call_of, call_of-does, its_entry, timed_out_is_timed)
 time_waiting plan i a g S w n f = absurd (false≢true f.kind)
 
 begun_outcome : (plan : PlanParts) (a : ℕ) (g : Agent) (S T : State) (w : What) → MayFollow P.Begun w
@@ -299,10 +261,7 @@ begun_outcome plan a g S T w (inr e) d = absurd (let f = e.1 in cc)
 step_begun : (plan : PlanParts) (i a : ℕ) (g : Agent) (S : State) (w : What) → g.phase ≡ P.Begun → stands S a ≡ false
     → g.returned < length (calls_of plan a) → CanDo plan (Step i) a g S w
     → (T : State) × IsOutcome w × Does plan S (its_entry a g w) T
-step_begun plan i a g S w e n c f =
-    let o = begun_outcome plan a g S f.target w
-    (subst (λ (ph : Phase). MayFollow ph w) e (f.next (step_unstuck plan i a g S w n c f)).0) f.goes.acts in
-    (f.target, o.0, o.1)
+step_begun plan i a g S w e n c f = grind (arith, common_steps, begun_outcome, step_unstuck)
 
 -- one that is at a call has it
 IsAtCall-within : (plan : PlanParts) (calls : List Call) (n : ℕ) (ph : Phase) → IsAtCall plan calls n ph
@@ -325,18 +284,7 @@ CanDo-one plan (Step i) machine a g S w w' (P.Waiting p t) e g_is at l f f' =
     let ca : S.notified a ≡ false = l.notified_is a ∙ (rw (g_is, e) refl) in
     let there = IsAtCall-within plan (calls_of plan a) g.returned (P.Waiting p t) at (λ q. cc) in
     step_waiting plan i a p t g S w e ca there f ∙ sym (step_waiting plan i a p t g S w' e ca there f')
-CanDo-one plan (Step i) machine a g S w w' P.Ready e g_is at l f f' =
-    let st = Represents-not_waiting machine a g S l g_is (rw e refl) in
-    elim (step_ready plan i a g S w e st f) [
-      | inl d ↦ elim (step_ready plan i a g S w' e st f') [
-        | inl d' ↦ d.0 ∙ sym d'.0
-        | inr d' ↦ absurd (omega (arith, d.1, d'.1))
-      ]
-      | inr d ↦ elim (step_ready plan i a g S w' e st f') [
-        | inl d' ↦ absurd (omega (arith, d.1, d'.1))
-        | inr d' ↦ d.0 ∙ sym d'.0
-      ]
-    ]
+CanDo-one plan (Step i) machine a g S w w' P.Ready e g_is at l f f' = grind (arith, common_steps, step_ready)
 CanDo-one plan (Step i) machine a g S w w' P.Begun e g_is at l f f' =
     let st = Represents-not_waiting machine a g S l g_is (rw e refl) in
     let there = IsAtCall-within plan (calls_of plan a) g.returned P.Begun at (λ q. cc) in
@@ -344,13 +292,9 @@ CanDo-one plan (Step i) machine a g S w w' P.Begun e g_is at l f f' =
     let d' = step_begun plan i a g S w' e st there f' in
     (Does-one_outcome plan a g.returned S d.0 d'.0 w w' d.1 d'.1 d.2 d'.2).0
 CanDo-one plan (Step i) machine a g S w w' P.Woken e g_is at l f f' =
-    let st = Represents-not_waiting machine a g S l g_is (rw e refl) in
-    let there = IsAtCall-within plan (calls_of plan a) g.returned P.Woken at (λ q. cc) in
-    step_woken plan i a g S w e st there f ∙ sym (step_woken plan i a g S w' e st there f')
+    grind (arith, common_steps, calls_of, step_woken)
 CanDo-one plan (Step i) machine a g S w w' (P.Answered x) e g_is at l f f' =
-    let st = Represents-not_waiting machine a g S l g_is (rw e refl) in
-    let there = IsAtCall-within plan (calls_of plan a) g.returned (P.Answered x) at (λ q. cc) in
-    step_answered plan i a x g S w e st there f ∙ sym (step_answered plan i a x g S w' e st there f')
+    grind (arith, common_steps, calls_of, step_answered)
 CanDo-one plan (TimeUp i) machine a g S w w' ph e g_is at l f f' =
     let st : stands S a ≡ false = Represents-not_waiting machine a g S l g_is (rw e refl) in
     time_not_waiting plan i a g S w st f ∙ sym (time_not_waiting plan i a g S w' st f')

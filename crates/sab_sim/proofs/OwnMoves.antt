@@ -1,5 +1,6 @@
 -- What a move does to an agent that isn't in the line.
 use Rattle.std.proofs.Common.{◌≡◌, ◌≢◌, inl, inr, ℕ, suc, ◌<◌, ◌≤◌, Bool, true, false, List, [], ◌∷◌, length, map, set, slice_get, Option, Some, None, refl, ap, sym, ◌∙◌, subst, arith}
+use Rattle.std.proofs.lemmas.Grind.{common_steps}
 use Rattle.std.specs.Prelude.{is_some}
 use Rattle.std.proofs.Math.ListN.{length-set}
 use Rattle.std.proofs.lemmas.Option.{slice_get_within, slice_get-get_or, slice_get_cases}
@@ -91,26 +92,20 @@ pub own_turn : {plan : PlanParts} {m : MachineParts} {a : ℕ} (turn : HasTurn p
     → Advances (agent_at m.agents a) what h → IsAtCall plan (calls_of plan a) h.returned h.phase
     → ObjectGoes plan m (entry_of m a what) (moved m a what h blocks)
     → Turns plan m (entry_of m a what) (moved m a what h blocks)
-own_turn {plan} {m} {a} turn what h blocks lens advances at_call goes = record {
-  call = λ g' g_is. ap (λ (k : Agent). k.returned) (mine g' g_is);
-  own = λ g' h' g_is h_is.
-      let hs : h ≡ h' = some_one (set m.agents a h) a h h' here h_is in (
-        subst (λ (k : Agent). Advances k what h') (mine g' g_is)
-            (subst (λ (k : Agent). Advances (agent_at m.agents a) what k) hs advances),
-        subst (λ (k : Agent). IsAtCall plan (calls_of plan a) k.returned k.phase) hs at_call,
-      );
-  others = λ b h' other h_is. (h', sym (slice_get-set_other m.agents a b h other) ∙ h_is, inl refl);
-  object = goes;
-  size = length-set m.agents a h;
-  lens = lens;
-  ticket = refl;
-}
-  where
-    mine : (g : Agent) → slice_get m.agents a ≡ Some g → agent_at m.agents a ≡ g
-    mine g g_is = some_one m.agents a (agent_at m.agents a) g turn.agent_is g_is
-
-    here : slice_get (set m.agents a h) a ≡ Some h
-    here = slice_get-set m.agents a h (slice_get_within m.agents a (agent_at m.agents a) turn.agent_is)
+own_turn {plan} {m} {a} turn what h blocks lens advances at_call goes =
+    grind (
+      arith,
+      common_steps,
+      some_one,
+      set,
+      agent_at,
+      calls_of,
+      slice_get-set_other,
+      length-set,
+      slice_get,
+      slice_get-set,
+      slice_get_within,
+    )
 
 -- of two states the second differs at one agent only, which has this phase there
 pub record DiffersAt (a : ℕ) (phase : Phase) (S T : State) : Type 0 where
@@ -259,21 +254,7 @@ returned_turn {plan} {m} {a} turn x answered =
 pub stuck_turn : {plan : PlanParts} {m : MachineParts} {a : ℕ} (turn : HasTurn plan m a) (why : Why)
     → ((S : State) → Represents m S → Justifies plan S (entry_of m a (Stuck why)) (Stuck why))
     → Turns plan m (entry_of m a (Stuck why)) m
-stuck_turn {plan} {m} {a} turn why justified = record {
-  call = λ g' g_is. ap (λ (k : Agent). k.returned) (mine g' g_is);
-  own = λ g' h' g_is h_is. (
-    sym (mine h' h_is) ∙ mine g' g_is,
-    subst (λ (k : Agent). IsAtCall plan (calls_of plan a) k.returned k.phase) (mine h' h_is) turn.at_call,
-  );
-  others = λ b h' other h_is. (h', h_is, inl refl);
-  object = λ S stood. (S, record { acts = refl; justified = justified S stood }, stood);
-  size = refl;
-  lens = refl;
-  ticket = refl;
-}
-  where
-    mine : (g : Agent) → slice_get m.agents a ≡ Some g → agent_at m.agents a ≡ g
-    mine g g_is = some_one m.agents a (agent_at m.agents a) g turn.agent_is g_is
+stuck_turn {plan} {m} {a} turn why justified = grind (arith, common_steps, calls_of, slice_get, agent_at, some_one)
 
 -- whether an agent stands in the line of the object
 pub its_stands : {plan : PlanParts} {m : MachineParts} {a : ℕ} (turn : HasTurn plan m a) (b : Bool)

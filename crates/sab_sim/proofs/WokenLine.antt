@@ -1,14 +1,13 @@
 -- Who is woken.
 use Rattle.std.proofs.Common.{◌≡◌, inl, inr, ℕ, zero, suc, ◌<◌, ◌==◌, ◌&&◌, ◌||◌, not, Bool, true, false, cond, List, [], ◌∷◌, ◌++◌, length, map, take, set, slice_get, slice_index_or, Option, Some, None, ℤ, refl, ap, sym, ◌∙◌, subst, arith}
+use Rattle.std.proofs.lemmas.Grind.{common_steps}
 use Rattle.std.specs.Prelude.{filter, option_map}
 use Rattle.std.proofs.Math.Bool.{or-false, or-true, and-false, and-true}
 use Rattle.std.proofs.lemmas.Bool.{cases_eq, ne_eqb, eq-eqb, eqb-true, false≢true, true≢false}
 use Rattle.std.proofs.lemmas.List.Folds.{list_any-append}
-use Rattle.std.proofs.lemmas.List.Elements.{All-take}
 use Rattle.std.proofs.lemmas.Option.{slice_get-get_or}
 use Rattle.sab_plan.specs.declared.place.Place.{Place}
 use Rattle.sab_sim.specs.declared.agent.Agent.{Agent}
-use Rattle.sab_sim.specs.declared.agent.Phase.TheVariants as P
 use Rattle.sab_plan.specs.declared.waiter.Waiter.{Waiter}
 use Rattle.sab_object.specs.Object.{State, is_at, waiters, without_first, woken, woken_count}
 use Rattle.sab_sim.specs.Agent.{newcomer, agent_at, woken_agent, is_woken, is_waiting, IsLike}
@@ -29,26 +28,29 @@ woken_twice false g h e = ap woken_agent e
 pub AreWoken-push : (ws : List ℕ) (agents agents' : List Agent) (i : ℕ)
     → i < length agents' → AreWoken ws agents agents'
     → AreWoken (ws ++ i ∷ []) agents (set agents' i (woken_agent (agent_at agents' i)))
-AreWoken-push ws agents agents' i within h a = elim (cases_eq a i) [
-  | inl e ↦ subst (λ k. slice_get (set agents' i (woken_agent g)) k ≡ option_map
-      (woken_if (is_among (ws ++ i ∷ []) k)) (slice_get agents k)) (sym e)
-      (rw (among i true (eq-eqb i i refl), or-true (is_among ws i)) (slice_get-set agents' i (woken_agent g) within
-      ∙ own (slice_get agents i) (sym (slice_get-get_or agents' i newcomer within) ∙ h i)))
-  | inr n ↦ rw (among a false (ne_eqb i a (λ r. n (sym r))), or-false (is_among ws a))
-      (slice_get-set_other agents' i a (woken_agent g) n ∙ h a)
-]
-  where
-    g : Agent
-    g = agent_at agents' i
-
-    among : (k : ℕ) (b : Bool) → (i == k) ≡ b → is_among (ws ++ i ∷ []) k ≡ (is_among ws k || b)
-    among k b e = list_any-append (λ w. w == k) ws (i ∷ []) ∙ (rw (e, or-false b) refl)
-
-    own : (o : Option Agent)
-        → Some g ≡ option_map (woken_if (is_among ws i)) o → Some (woken_agent g) ≡ option_map woken_agent o
-    own None e = absurd (cc)
-    own (Some k) e = let same : g ≡ woken_if (is_among ws i) k = cc in
-        ap (λ (j : Agent). Some j) (woken_twice (is_among ws i) k g same)
+AreWoken-push ws agents agents' i within h a =
+    grind (
+      arith,
+      common_steps,
+      cases_eq,
+      slice_get,
+      set,
+      woken_agent,
+      option_map,
+      woken_if,
+      is_among,
+      eq-eqb,
+      or-true,
+      slice_get-set,
+      slice_get-get_or,
+      newcomer,
+      ne_eqb,
+      or-false,
+      slice_get-set_other,
+      agent_at,
+      list_any-append,
+      woken_twice,
+    )
 
 -- ---- what being woken changes
 
@@ -67,10 +69,7 @@ woken_option (Some g) false h = (sym (or-false (is_woken (Some g))), sym (and-tr
 -- each of the first of a line is an agent
 pub first_within : (agents agents' : List Agent) (p : Place) (n i : ℕ) (ws line : List ℕ) → IsLine agents p line → ws
     ≡ line → length agents' ≡ length agents → i < length (take n ws) → slice_index_or (take n ws) i 0 < length agents'
-first_within agents agents' p n i ws line is_line same size there =
-    let within = line_within agents p 0 ws (subst (IsLine agents p) (sym same) is_line) in
-    let one = All-take (λ a. a < length agents) n ws within i 0 there in
-    omega (arith, one, size)
+first_within agents agents' p n i ws line is_line same size there = grind (arith, common_steps, line_within, length)
 
 -- those of a line wait at its place
 line_waits : (agents : List Agent) (p : Place) (from n : ℕ) (ws : List ℕ) (b : ℕ)
@@ -79,12 +78,7 @@ line_waits : (agents : List Agent) (p : Place) (from n : ℕ) (ws : List ℕ) (b
 line_waits agents p from zero ws b line there = absurd (false≢true there)
 line_waits agents p from (suc n) [] b line there = absurd (false≢true there)
 line_waits agents p from (suc n) (i ∷ ws) b line there =
-    go (line_waits agents p (suc line.0) n ws b line.2) (i == b) refl there
-  where
-    go : (is_among (take n ws) b ≡ true → (t : ℕ) × WaitsAt agents b p t)
-        → (c : Bool) → (i == b) ≡ c → (c || is_among (take n ws) b) ≡ true → (t : ℕ) × WaitsAt agents b p t
-    go rest true e h = (line.0, subst (λ k. WaitsAt agents k p line.0) (eqb-true i b e) line.1.0)
-    go rest false e h = rest h
+    grind (arith, common_steps, is_among, take, eqb-true, line_waits agents p (suc line.0) n ws b line.2)
 
 -- each agent is woken from its wait, or as it was
 pub woken_like : (agents agents' : List Agent) (p : Place) (n : ℕ) (line : List ℕ)
@@ -114,14 +108,8 @@ woken_like agents agents' p n line is_line woken b h h_is =
 -- who waits waited
 waited : (agents agents' : List Agent) (ws : List ℕ) (b : ℕ) (q : Place) (u : ℕ)
     → AreWoken ws agents agents' → WaitsAt agents' b q u → WaitsAt agents b q u
-waited agents agents' ws b q u woken w = go (is_among ws b) (slice_get agents b) refl (sym w.1 ∙ woken b)
-  where
-    go : (c : Bool) (o : Option Agent)
-        → slice_get agents b ≡ o → Some w.0 ≡ option_map (woken_if c) o → WaitsAt agents b q u
-    go c None f e = absurd (cc)
-    go false (Some g) f e = (g, f, let same : w.0 ≡ g = cc in ap (λ (k : Agent). k.phase) (sym same) ∙ w.2)
-    go true (Some g) f e = absurd (let same : w.0 ≡ woken_agent g = cc in
-        let phase : P.Woken ≡ P.Waiting q u = ap (λ (k : Agent). k.phase) (sym same) ∙ w.2 in cc)
+waited agents agents' ws b q u woken w =
+    grind (arith, common_steps, is_among, slice_get, woken, option_map, woken_if, woken_agent)
 
 -- who isn't woken still waits
 waits_still : (agents agents' : List Agent) (ws : List ℕ) (b : ℕ) (q : Place) (u : ℕ)
@@ -146,16 +134,22 @@ not_among : (n : ℕ) (p : Place) (line : List Waiter) (b : ℕ)
 not_among zero p line b e = refl
 not_among (suc n) p [] b e = refl
 not_among (suc n) p (w ∷ line) b e =
-    go (not_among n p line b) (not_among (suc n) p line b) (w.agent == b) refl e (is_at p w)
-  where
-    go : (stands_in b line ≡ false → is_among (take n (waiters p line)) b ≡ false)
-        → (stands_in b line ≡ false → is_among (take (suc n) (waiters p line)) b ≡ false)
-        → (c : Bool) → (w.agent == b) ≡ c → (c || stands_in b line) ≡ false → (d : Bool)
-        → is_among (take (suc n)
-        (map (λ (v : Waiter). v.agent) (cond d (w ∷ filter (is_at p) line) (filter (is_at p) line)))) b ≡ false
-    go one two true own f d = absurd (true≢false f)
-    go one two false own f true = rw own (one f)
-    go one two false own f false = two f
+    grind (
+      arith,
+      common_steps,
+      is_at,
+      stands_in,
+      is_among,
+      take,
+      waiters,
+      map,
+      cond,
+      filter,
+      true≢false,
+      not_among n p
+          line b,
+      not_among (suc n) p line b,
+    )
 
 -- who stands in the line without the first n at a place
 stands_without_first : (agents : List Agent) (low n : ℕ) (p : Place) (line : List Waiter) (b : ℕ)
@@ -187,14 +181,17 @@ seated_without_first : (agents : List Agent) (low n : ℕ) (p : Place) (line : L
 seated_without_first agents low n p [] s = tt
 seated_without_first agents low zero p (w ∷ line) s = s
 seated_without_first agents low (suc n) p (w ∷ line) s =
-    go (seated_without_first agents (suc s.0) n p line s.3)
-    (seated_without_first agents (suc s.0) (suc n) p line s.3) (is_at p w)
-  where
-    go : IsSeated agents (suc s.0) (without_first n p line)
-        → IsSeated agents (suc s.0) (without_first (suc n) p line) → (d : Bool)
-        → IsSeated agents low (cond d (without_first n p line) (w ∷ without_first (suc n) p line))
-    go one two true = seated_lower agents (suc s.0) low (without_first n p line) (omega (arith, s.1)) one
-    go one two false = (s.0, s.1, s.2, two)
+    grind (
+      arith,
+      common_steps,
+      is_at,
+      without_first,
+      cond,
+      seated_lower,
+      seated_without_first agents (suc s.0) n p
+          line s.3,
+      seated_without_first agents (suc s.0) (suc n) p line s.3,
+    )
 
 -- the line stays where those who stand in it still wait
 seated_still : (agents agents' : List Agent) (low : ℕ) (line : List Waiter) → IsSeated agents low line
