@@ -63,6 +63,11 @@ export interface EverySchedule {
   /** How many different bytes there are at the end. */
   finalCount: number;
   found: FoundBySchedule[];
+  /**
+   * Whether no agent ever ends. That is no finding. Each real run is cut when one has made 100 calls, and `check` isn't
+   * called.
+   */
+  neverEnds: boolean;
   /** How many moments of an agent there are: calls, and reads that are acts of their own. */
   moments: number;
   /** How many steps were learned; each twice. */

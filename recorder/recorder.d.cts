@@ -46,8 +46,11 @@ export class Difference extends Error {
   judged?: string;
 }
 
-/** How a run ended; `race`: it finished, `check` found nothing, and it has unordered accesses. */
-export type Ending = "finished" | "deadlock" | "stuck" | "failed" | "check" | "race" | "limit";
+/**
+ * How a run ended. `race`: it finished, `check` found nothing, and it has unordered accesses. `cut`: an agent of a
+ * module in which none ever ends has made 100 calls; only runs that `everySchedule` makes end so.
+ */
+export type Ending = "finished" | "deadlock" | "stuck" | "failed" | "check" | "race" | "limit" | "cut";
 
 /** The outcome of a run. */
 export interface Outcome {

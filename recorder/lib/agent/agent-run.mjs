@@ -87,12 +87,13 @@ export class AgentRun {
   }
 
   /**
-   * Ends the run if the script couldn't have the call.
+   * Ends the run if the script couldn't have the call, or if the run is to be cut here.
    * @param {Call} call
    */
   stayWithin(call) {
     const { calls, views, text } = SCRIPT_LIMITS;
     const { board, lengths, mayLackScript } = this.context;
+    if (this.made === board.rules.cutAfter) this.end("cut", `agent ${this.agent} has made ${this.made} calls`);
     if (mayLackScript) {
       this.#stopSpinning();
       return;

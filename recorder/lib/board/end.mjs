@@ -8,7 +8,7 @@ const { load, store, compareExchange, wait, notify } = Atomics;
 const encode = uncurried(TextEncoder.prototype.encodeInto);
 const encoder = new TextEncoder();
 
-/** @typedef {"finished" | "deadlock" | "failed" | "limit" | "stuck"} BoardEnding how a run ends by itself */
+/** @typedef {"finished" | "deadlock" | "failed" | "limit" | "stuck" | "cut"} BoardEnding how a run ends by itself */
 
 /**
  * @typedef {object} Met who has met a limit
@@ -17,7 +17,7 @@ const encoder = new TextEncoder();
  */
 
 /** @type {readonly BoardEnding[]} */
-const ENDINGS = Object.freeze(["finished", "deadlock", "failed", "limit", "stuck"]);
+const ENDINGS = Object.freeze(["finished", "deadlock", "failed", "limit", "stuck", "cut"]);
 
 // The word ENDED.
 const GOES_ON = 0;

@@ -24,6 +24,7 @@ const { imul } = Math;
  * move; never: it isn't, even if nothing else can move
  * @property {number} maxMoves
  * @property {boolean} [inTurn] whether agents begin in turn under each seed
+ * @property {number} [cutAfter] a run is cut when an agent has made so many calls, and goes on
  * @property {number} [early] of a program: a time may be up early only if nothing that can move lags by more than so
  * many milliseconds then. In some seeds such times are up as easily as anything else moves
  * @property {number} [starts] how many agents begin by themselves; others start the rest. If it isn't given, all begin

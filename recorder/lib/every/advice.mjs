@@ -20,6 +20,9 @@ const INSTEAD = Object.freeze(/** @type {[RegExp, string][]} */ ([
 const insteadOf = (why) => INSTEAD.find(([words]) => words.test(why))?.[1]
   ?? `while an agent calls Atomics, keep numbers, texts, arrays, plain objects, Maps and Sets in place of this: ${why}`;
 
+/** What can be written in place of a loop without end. */
+export const LET_END = "write `while (again())` in place of a loop that never ends: a lost wake-up is a deadlock then";
+
 const ENDLESS = /makes no call of Atomics/;
 const OF_ENDLESS = "let the loop end, or call Atomics in each of its turns";
 const FEWER = "fewer agents, rounds and different values make fewer states";
@@ -36,7 +39,8 @@ const MANY_ANSWERS = 8;
 export function adviceOf(open, report) {
   if (report === undefined) return open !== undefined && ENDLESS.test(open) ? [OF_ENDLESS] : [];
   const kinds = [...new Set(report.hidden.map(({ why }) => insteadOf(why)))];
-  if (open === undefined) return kinds;
+  const hasDeadlock = report.findings.some(({ kind }) => kind === "deadlock");
+  if (open === undefined) return report.neverEnds && !hasDeadlock ? [LET_END, ...kinds] : kinds;
   if (report.isClosed) return [LONGER];
   const { answers, line } = report.widest;
   const isWide = line !== undefined && answers >= MANY_ANSWERS;

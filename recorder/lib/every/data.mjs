@@ -38,6 +38,7 @@ import { adviceOf } from "./advice.mjs";
  * hexadecimal digits, and as a summary has them
  * @property {number} finalCount of these
  * @property {FoundData[]} found
+ * @property {boolean} neverEnds whether no agent ever ends: each real run is cut when one has made 100 calls
  * @property {number} moments of an agent: calls, and reads that are acts of their own
  * @property {number} edges each was learned twice
  * @property {number} edgesByOne of these, both times by the same history
@@ -62,8 +63,8 @@ import { adviceOf } from "./advice.mjs";
 
 /** What stands where nothing could be learned. */
 const NOTHING = Object.freeze({
-  states: 0, acts: 0, depth: 0, finals: [], finalCount: 0, found: [], moments: 0, edges: 0, edgesByOne: 0, ways: 0,
-  waysTried: 0, hidden: [], widest: null,
+  states: 0, acts: 0, depth: 0, finals: [], finalCount: 0, found: [], neverEnds: false, moments: 0, edges: 0,
+  edgesByOne: 0, ways: 0, waysTried: 0, hidden: [], widest: null,
 });
 
 /** @param {EveryResult} tried @returns {EveryData} */
@@ -71,12 +72,12 @@ export function dataOf({ report, open, shown, onlyRuns, ...tried }) {
   const common = commonOf(open, tried);
   const advice = adviceOf(open, report);
   if (report === undefined) return { ...NOTHING, agents: 0, areAlike: false, advice, ...common };
-  const { counts, depth = null, findings, hasLikes, hidden, plan, result, ways, widest } = report;
+  const { counts, depth = null, findings, hasLikes, hidden, neverEnds, plan, result, ways, widest } = report;
   const found = findings.map((finding) => dataOfFinding(finding, shown.find((each) => each.finding === finding)));
   return {
     ...common, agents: plan.agents, areAlike: hasLikes, states: result.states, acts: result.acts, depth,
     finals: finalsOf(report), finalCount: result.final.count, found: [...found, ...onlyRuns.map(dataOfRuns)],
-    moments: counts.moments, edges: counts.edges,
+    neverEnds, moments: counts.moments, edges: counts.edges,
     edgesByOne: ways.edgesByOne, ways: ways.all, waysTried: ways.tried, hidden, advice,
     widest: { ...widest, line: widest.line ?? null },
   };

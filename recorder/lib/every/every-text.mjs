@@ -2,6 +2,7 @@
 
 import { countText, digits, listed } from "../run/words/summary-words.mjs";
 import { rangesText } from "../seeds/ranges.mjs";
+import { LET_END } from "./advice.mjs";
 
 /** @typedef {import("./data.mjs").EveryData} EveryData */
 /** @typedef {import("./data.mjs").FoundData} FoundData */
@@ -26,12 +27,14 @@ export function everyText(data) {
 
 /** @param {EveryData} data */
 function closedLines(data) {
-  const { acts, agents, found, states } = data;
+  const { acts, agents, found, neverEnds, states } = data;
   const title = `every schedule of ${countText(agents, "agent")} was tried`;
-  const none = "none deadlocks, throws, has a data race or fails check; from every state all agents can still end";
+  const none = "none deadlocks, throws, has a data race or fails check";
+  const canEnd = found.length === 0 ? "; from every state all agents can still end" : "";
   return [
-    `${title}: ${found.length === 0 ? none : foundText(found)}`,
+    `${title}: ${found.length === 0 ? none : foundText(found)}${neverEnds ? "; no agent ever ends" : canEnd}`,
     ...foundLines(data),
+    ...(neverEnds ? neverEndsLines(data) : []),
     indented(`${countText(states, "state")}, ${countText(acts, "act")}; ${finalText(data)}`),
     indented(learnedText(data)),
     ...(data.freshened ? [indented(FRESHENED)] : []),
@@ -72,6 +75,14 @@ function bySearch({ acts, changes, detail, states }) {
 
 /** @param {FoundData} found by real runs alone @param {number} made how many there were */
 const byRuns = ({ runs, seed }, made) => `in ${digits(runs)} of ${countText(made, "real run")}, seed ${seed} the first`;
+
+/** @param {EveryData} data of agents that never end @returns {string[]} */
+const neverEndsLines = ({ advice }) =>
+  ["each real run was cut when an agent had made 100 calls", ...advice.filter((each) => each === LET_END).map(toChange)]
+    .map(indented);
+
+/** @param {string} sentence @returns {string} */
+const toChange = (sentence) => `to change: ${sentence}`;
 
 /** @param {EveryData} data */
 function finalText({ finalCount, finals }) {
@@ -117,7 +128,7 @@ function openLines(data) {
   const some = found.length === 0 ? [] : [indented(`among those that were tried, ${foundText(found)}`)];
   const lines = [`not every schedule was tried: ${open}`, ...some, ...foundLines(data), ...alikeLines(data)];
   const large = widest === null ? [] : [widestText(widest)];
-  const changes = advice.map((sentence) => `to change: ${sentence}`);
+  const changes = advice.map(toChange);
   return [...lines, ...[...hiddenLines(hidden), ...large, ...changes].map(indented)];
 }
 

@@ -45,6 +45,9 @@ import { endOf, explained, firstNotShown, shownFindings } from "./showing.mjs";
 /** @typedef {Omit<EveryResult, "isFreshened" | "milliseconds">} TriedOnce */
 /** @typedef {Pick<EveryResult, "realRuns" | "made" | "notRun" | "onlyRuns">} RealRuns */
 
+/** A real run of agents that never end is cut when one has made so many calls. */
+export const CUT_AFTER = 100;
+
 /** What there is of a search that isn't closed. */
 const NOTHING = Object.freeze({
   realRuns: 0, made: 0, notRun: [], onlyRuns: [], isProved: false, notProved: undefined, isCut: false,
@@ -100,17 +103,12 @@ export class Every {
     this.options = { ...this.options, fresh: true };
     this.isFreshened = true;
     this.job = undefined;
-    this.outcomes = [];
     return await this.#tried();
   }
 
   /** @returns {Promise<TriedOnce>} */
   async #tried() {
-    const { job } = this;
-    const real = new Runs({ ...this.#ofRuns(), wanted: { needsTrace: true } }, { signal: this.#ending(), job });
-    const running = this.#take(real);
-    // If something else fails, nobody waits for the runs.
-    running.catch(() => {});
+    let real = this.#begun(this.job);
     const ending = new AbortController();
     // These load what they need while the agents are learned.
     this.threads = { again: beginAgain(), search: this.options.sabsim ? undefined : beginSearch() };
@@ -120,7 +118,9 @@ export class Every {
       this.keepsMore = report.renewals > 0;
       if (report.changesBuiltins) throw new NotAsLearned(CHANGES_BUILTINS);
       if (!report.isClosed) return await this.#open(report, openText(report));
+      if (report.neverEnds) real = await this.#cutAnew(real);
       const again = this.#learnAgain(report);
+      const { running } = real;
       // The second learning knows more about why a run differs.
       const agreeing = this.#agreeing(report, running).catch((problem) => again.then(() => Promise.reject(problem)));
       const [{ result = report.result, why }, ofRuns] = await Promise.all([
@@ -136,18 +136,18 @@ export class Every {
     } finally {
       ending.abort();
       const { again, search } = this.threads;
-      await Promise.all([real.close(), again.stop(), search?.stop()]);
+      await Promise.all([real.runs.close(), again.stop(), search?.stop()]);
     }
   }
 
   /** @param {LearningReport} report @param {AbortSignal} ending */
-  async #second({ file, findings, result }, ending) {
+  async #second({ file, findings, neverEnds, result }, ending) {
     const { sabsim } = this.options;
     const signal = AbortSignal.any([ending, this.#ending()]);
     const { search: thread } = this.threads ?? {};
     try {
       const second = await comparedBySecond(file, result, { program: sabsim || undefined, signal, thread });
-      if (second.result !== undefined) needFound(findings, second.result);
+      if (second.result !== undefined) needFound(findings, second.result, neverEnds);
       return second;
     } catch (problem) {
       if (!(problem instanceof TimeOver)) throw problem;
@@ -166,10 +166,38 @@ export class Every {
     return { ...this.options, inTurn: true, isBrief: false, trace: true, checkEvery: 1, sabsim };
   }
 
-  /** @param {Runs} runs that end when the time is over */
-  async #take(runs) {
+  /**
+   * Begins the real runs.
+   * @param {import("../seeds/runs.mjs").AnyJob} [job] the first one
+   * @param {{ cutAfter?: number }} [more] how they differ from those of agents that end
+   * @returns {{ runs: Runs, running: Promise<void> }} settled when they are made
+   */
+  #begun(job, more) {
+    const options = { ...this.#ofRuns(), ...more, wanted: { needsTrace: true } };
+    const runs = new Runs(options, { signal: this.#ending(), job });
+    this.outcomes = [];
+    const running = this.#take(runs, this.outcomes);
+    // If something else fails, nobody waits for the runs.
+    running.catch(() => {});
+    return { runs, running };
+  }
+
+  /**
+   * Makes the real runs of agents that never end, each up to some calls, in place of longer ones that were begun.
+   * @param {{ runs: Runs }} longer
+   */
+  async #cutAnew(longer) {
+    const [real] = await Promise.all([this.#begun(undefined, { cutAfter: CUT_AFTER }), longer.runs.close()]);
+    return real;
+  }
+
+  /**
+   * @param {Runs} runs that end when the time is over
+   * @param {import("../seeds/job.mjs").CheckedOutcome[]} outcomes gets theirs
+   */
+  async #take(runs, outcomes) {
     try {
-      for await (const outcome of runs.outcomes()) this.outcomes.push(outcome);
+      for await (const outcome of runs.outcomes()) outcomes.push(outcome);
     } catch (problem) {
       if (!(problem instanceof TimeOver)) throw problem;
     }

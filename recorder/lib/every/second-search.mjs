@@ -72,12 +72,13 @@ const countsOf = ({ timeouts, limit, closed, states, acts, expanded, depth, dead
  * What the summary says about each thing must be what the proved search has found.
  * @param {Finding[]} findings
  * @param {Result} result of the proved search
+ * @param {boolean} neverEnds whether no agent ever ends: it is no finding then that there is no way out
  * @throws {NotAsLearned}
  */
-export function needFound(findings, { deadlock, failed, conflicts, no_way_out: noWayOut }) {
+export function needFound(findings, { deadlock, failed, conflicts, no_way_out: noWayOut }, neverEnds = false) {
   const wanted = {
     deadlock: statesOf(deadlock), threw: failed.reduce((sum, { states }) => sum + states, 0),
-    "no way out": statesOf(noWayOut),
+    "no way out": neverEnds ? 0 : statesOf(noWayOut),
   };
   for (const kind of /** @type {(keyof typeof wanted)[]} */ (Object.keys(wanted))) {
     const own = findings.filter((one) => one.kind === kind).reduce((sum, { states }) => sum + states, 0);

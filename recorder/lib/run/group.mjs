@@ -37,6 +37,7 @@ import { TextMaker } from "./run-snapshot.mjs";
  * @property {string} [strategy] how it is drawn who moves next, as `waysOf` takes it
  * @property {boolean} [inTurn] whether agents begin in turn under each seed; else some seeds draw their order
  * @property {number} maxMoves
+ * @property {number} [cutAfter] after how many calls of an agent its run is cut, which is no failure; undefined: never
  * @property {number} seconds for how long an agent may make no call
  * @property {boolean} fresh
  * @property {boolean} [isBrief] whether outcomes of runs that pass have no bytes and answers
@@ -206,8 +207,8 @@ export class Group {
     const loaded = await this.#load(0);
     needsRightNames(loaded.names);
     this.plan = planOf(this.options, loaded.setup);
-    const { strategy, everywhere, inTurn = false, timeouts, maxMoves } = this.options;
-    this.rules = { agents: this.plan.agents, ways: waysOf(strategy, everywhere), inTurn, timeouts, maxMoves };
+    const { strategy, everywhere, inTurn = false, timeouts, maxMoves, cutAfter } = this.options;
+    this.rules = { agents: this.plan.agents, ways: waysOf(strategy, everywhere), inTurn, timeouts, maxMoves, cutAfter };
     const options = this.refereeOptions(loaded);
     if (options.init !== undefined && this.plan.agents === SCRIPT_LIMITS.agents) {
       throw new Refused(`with ${SCRIPT_LIMITS.agents} agents none is left for the stores of \`init\`: give one less`);

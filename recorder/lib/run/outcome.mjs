@@ -7,7 +7,7 @@
 /** @typedef {import("./windows/in-windows.mjs").NamedWindow} NamedWindow */
 /** @typedef {import("../../script/choices.mjs").AgentChoice} AgentChoice */
 
-/** @typedef {"finished" | "deadlock" | "stuck" | "failed" | "check" | "race" | "limit"} Ending */
+/** @typedef {"finished" | "deadlock" | "stuck" | "failed" | "check" | "race" | "limit" | "cut"} Ending */
 
 /**
  * @typedef {object} BriefOutcome what the outcome of each run has

@@ -63,7 +63,7 @@ export class RunReporter {
     const real = realIn(found.real ?? [], this.sourceNames.placeName);
     const isAllowed = (ending === "limit" && options.limits === "allow")
       || (ending === "stuck" && options.stuck === "allow");
-    const fails = ending !== "finished" && !isAllowed;
+    const fails = ending !== "finished" && ending !== "cut" && !isAllowed;
     const early = deadlines.early();
     const missed = maker.state.whyMissed;
     return {

@@ -81,7 +81,7 @@ export class Findings {
   #hasAny() {
     const { kinds, problems } = this;
     const named = kinds.failed.size + kinds.conflicts.size + problems.size;
-    return named > 0 || kinds.deadlock !== undefined || kinds.noWayOut !== undefined;
+    return named > 0 || kinds.deadlock !== undefined || (kinds.noWayOut !== undefined && !kinds.neverEnds);
   }
 
   /** Calls `check` once for each different list of bytes at the end. */
@@ -119,7 +119,8 @@ export class Findings {
     const problem = isFinal ? this.problems.get(world.memory) : undefined;
     if (problem !== undefined) here.push({ key: `check ${plain(problem)}`, kind: "check", text: problem });
     if (kinds.conflicts.size > 0) here.push(...this.#races());
-    if (kinds.hasNoWayOut(state)) here.push({ key: "no way out", kind: "no way out", text: "" });
+    // If no agent is to end, it is no fault that none does.
+    if (kinds.hasNoWayOut(state) && !kinds.neverEnds) here.push({ key: "no way out", kind: "no way out", text: "" });
     return here;
   }
 

@@ -41,6 +41,7 @@ export function learningReportOf(learned, search) {
   };
   return {
     isClosed: search.isClosed, bound: search.bound, isShared, plan, hasLikes: search.world.hasLikes,
+    neverEnds: kinds.neverEnds,
     /** All schedules up to so many acts were tried. */
     depth: search.isClosed ? undefined : search.depths.items[search.expanded],
     result: resultOf(search, kinds, named),

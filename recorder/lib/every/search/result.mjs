@@ -35,6 +35,8 @@ export class Kinds {
     /** @type {Map<string, FoundUnknown>} */
     this.unknown = new Map();
     this.finalStates = 0;
+    /** Whether some agent has ended in one of them, and hasn't thrown. */
+    this.hasEnd = false;
     /** @type {Uint8Array | undefined} of each state whether one without an act is reached, if that was looked for */
     this.leads = undefined;
   }
@@ -57,7 +59,8 @@ export class Kinds {
   /** @param {number} state that is loaded */
   #look(state) {
     const { world } = this.search;
-    const { texts, isFinal, isDeadlock } = endingHere(this.search);
+    const { texts, hasEnd, isFinal, isDeadlock } = endingHere(this.search);
+    this.hasEnd ||= hasEnd;
     for (const text of [...texts].sort(inBytes)) count(this.failed, text, state, { text });
     if (isDeadlock) this.deadlock = more(this.deadlock, state);
     if (isFinal) {
@@ -105,6 +108,11 @@ export class Kinds {
     }
   }
 
+  /** @returns {boolean} whether no agent ever ends, as far as all states are known */
+  get neverEnds() {
+    return this.search.isClosed && !this.hasEnd;
+  }
+
   /** @param {number} state @returns {boolean} whether it has no way out */
   hasNoWayOut(state) {
     return this.leads !== undefined && this.leads[state] === 0;
@@ -112,10 +120,10 @@ export class Kinds {
 }
 
 /**
- * What kinds the loaded state has besides: texts that were thrown, whether all have ended, and whether it is a
- * deadlock.
+ * What kinds the loaded state has besides: texts that were thrown, whether an agent has ended, whether all have, and
+ * whether it is a deadlock.
  * @param {Search} search
- * @returns {{ texts: Set<string>, isFinal: boolean, isDeadlock: boolean }}
+ * @returns {{ texts: Set<string>, hasEnd: boolean, isFinal: boolean, isDeadlock: boolean }}
  */
 export function endingHere({ world, timeouts }) {
   let ended = 0;
@@ -129,7 +137,7 @@ export function endingHere({ world, timeouts }) {
     if (world.canAct(agent) || (timeouts !== "never" && world.canTimeOut(agent))) acts += 1;
   }
   const isFinal = ended === world.count;
-  return { texts, isFinal, isDeadlock: !isFinal && texts.size === 0 && acts === 0 };
+  return { texts, hasEnd: ended > 0, isFinal, isDeadlock: !isFinal && texts.size === 0 && acts === 0 };
 }
 
 /** @param {Node} one @param {Node} other @returns {number} their order by automaton, then by position */
