@@ -69,7 +69,7 @@ for (const [name, deadlocks, wanted] of /** @type {const} */ ([
   });
 }
 
-test("a lost wake-up is found when the others have chosen to end; its run is kept with its choices", async (context) => {
+test("a lost wake-up is found when the others have chosen to end, and is kept with its choices", async (context) => {
   const out = temporaryFolder(context);
   const module = fileURLToPath(new URL("naive-mutex.mjs", ANY_ROUNDS));
   const done = await commandHere([module, "--all", "--seeds", "1..30", "--rounds", "3", "--out", out]);
@@ -139,7 +139,8 @@ test("what agents choose by can be named and handed on, and not changed", async 
 });
 
 describe("agreement", () => {
-  const ROUNDS = choosing("while (again()) if (choose(3) > 0) words[self] = 1 - words[self];\n  Atomics.load(words, 0);");
+  const ROUNDS = choosing(`while (again()) if (choose(3) > 0) words[self] = 1 - words[self];
+  Atomics.load(words, 0);`);
 
   test("a real run must choose as was learned, and go on as the automata do", async (context) => {
     const module = moduleOf(context, ROUNDS);
