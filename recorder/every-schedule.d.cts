@@ -68,8 +68,10 @@ export interface EverySchedule {
    * called.
    */
   neverEnds: boolean;
-  /** How many moments of an agent there are: calls, and reads that are acts of their own. */
+  /** How many moments of an agent there are: calls, choices, and reads that are acts of their own. */
   moments: number;
+  /** How many of these are choices. Each number was tried at each of them. */
+  choices: number;
   /** How many steps were learned; each twice. */
   edges: number;
   /** How many of these were learned both times by the same history. */

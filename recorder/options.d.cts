@@ -79,7 +79,10 @@ export interface OfModule {
   unrecorded?: "fail" | "allow";
   /** The time that clocks show agents: `run` (the run's own, which comes from the seed) or `real`. Else "run". */
   clock?: "run" | "real";
-  /** How often an agent's `again()` returns true in a run, at most. A whole number from 1 to 1,000; else 8. */
+  /**
+   * How often an agent's `again()` returns true in a run of a seed, at most. What `all` searches has any number of
+   * rounds. A whole number from 1 to 1,000; else 8.
+   */
   rounds?: number;
   /**
    * Fills the buffers before the run, and before each of its pilots, in place of the module's `init`. It is called in

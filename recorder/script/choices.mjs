@@ -14,6 +14,9 @@ export const MOST_NUMBERS = 1_000;
 /** How many choices an agent can make in a run. */
 export const MOST_CHOICES = 4_000;
 
+/** In place of the number that `choose` is asked with: `again` was asked, and returned 0 or 1. */
+export const AGAIN = 0;
+
 /** What such a file can't be: the message says why. */
 export class UnlikeChoices extends Error {}
 
@@ -21,6 +24,16 @@ const { isInteger } = Number;
 
 /** @param {unknown} count @returns {count is number} whether `choose` takes it */
 export const canChooseFrom = (count) => isInteger(count) && Number(count) >= 1 && Number(count) <= MOST_NUMBERS;
+
+/** @param {number} asked `AGAIN`, or the number of `choose` @param {number} returned @returns {AgentChoice} */
+export const choiceOf = (asked, returned) =>
+  (asked === AGAIN ? ["again", returned === 1] : ["choose", asked, returned]);
+
+/** @param {AgentChoice} choice @returns {number} what was asked, as `choiceOf` takes it */
+export const askedBy = ([does, asked]) => (does === "again" ? AGAIN : asked);
+
+/** @param {AgentChoice} choice @returns {number} what was returned: of `again` 0 or 1 */
+export const returnedBy = ([does, asked, number]) => Number(does === "again" ? asked : number);
 
 /** @param {AgentChoice} choice @returns {string} what was asked, as the code has it */
 export const askedText = ([does, count]) => (does === "again" ? "again()" : `choose(${count})`);

@@ -21,7 +21,7 @@ import { ownKeys, put } from "../primordials.mjs";
 import { onceMore } from "../processes/garbage.mjs";
 import { recordedAtomics } from "./atomics.mjs";
 import { Chooser } from "./chooser.mjs";
-import { choicesBy } from "./choosing.mjs";
+import { NO_CHOICE, choicesBy } from "./choosing.mjs";
 import { shareWithContexts } from "./contexts.mjs";
 import { described } from "./described.mjs";
 import { isCalledByAgents, sourceHere } from "./frames.mjs";
@@ -62,8 +62,6 @@ function printAtOnce() {
   }
 }
 
-const NO_CHOICE = "only an agent that runs can choose: `init`, `check` and a module that is loaded can't call `again` "
-  + "and `choose`";
 const NO_AGENT = "it has no function as its default export, as `export default function agent({ buffers }) { .. }`";
 
 /**

@@ -1,8 +1,7 @@
 // Makes an agent's choices in a run, in the agent's own thread. A choice is no move: nobody else moves, and no time
 // passes.
 
-import { MOST_CHOICES, askedText } from "../../script/choices.mjs";
-import { choiceOf } from "../memory/choice-list.mjs";
+import { MOST_CHOICES, askedText, choiceOf } from "../../script/choices.mjs";
 import { Choosing, NO_ROOM, NOT_GIVEN } from "./choosing.mjs";
 import { numberAbove, sourceAbove } from "./frames.mjs";
 
@@ -56,6 +55,7 @@ export class Chooser {
     const place = sourceAbove(called);
     part.enter();
     const many = `agent ${part.agent} has made ${MOST_CHOICES} choices, and goes on`;
+    if (part.context.board.rules.cutAfter !== undefined) part.end("cut", many);
     return part.endAtLimit(`${many}${whereText(place)}`, false);
   }
 }

@@ -1,13 +1,17 @@
 // What an agent's `again()` and `choose(n)` return: as the seed draws it, or as it is given.
 
-import { MOST_CHOICES, MOST_NUMBERS, canChooseFrom } from "../../script/choices.mjs";
-import { AGAIN, GIVEN } from "../memory/choice-list.mjs";
+import { AGAIN, MOST_CHOICES, MOST_NUMBERS, canChooseFrom } from "../../script/choices.mjs";
+import { GIVEN } from "../memory/choice-list.mjs";
 import { Random } from "../memory/random.mjs";
 
 const { Int32Array, RangeError: EngineRangeError, String: text } = globalThis;
 
 // `again` is true in all but one of so many cases.
 const ENDS_IN = 4;
+
+/** What is thrown if something else than an agent chooses. */
+export const NO_CHOICE = "only an agent that runs can choose: `init`, `check` and a module that is loaded can't call "
+  + "`again` and `choose`";
 
 /** What `answer` returns if the agent asks something else than is given. */
 export const NOT_GIVEN = -1;

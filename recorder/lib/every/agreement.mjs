@@ -1,10 +1,11 @@
 // Whether real runs are ways through the automata: call by call, answer by answer, with their ordinary accesses, their
 // ends and their bytes.
 
+import { askedBy, choiceText, returnedBy } from "../../script/choices.mjs";
 import { SCRIPT_KINDS, SIZES } from "../../script/kinds.mjs";
 import { OF_STORES } from "../../script/written.mjs";
 import { unseenLine } from "../run/script/trace.mjs";
-import { DOES, isCall, isEnd } from "./search/nodes.mjs";
+import { DOES, actsOf, isCall, isChoice, isEnd } from "./search/nodes.mjs";
 import { World } from "./search/world.mjs";
 import { nodeAnswerText, callData, nodeText, AutomatonViews } from "./search/node-texts.mjs";
 import { hexOf } from "./search/raw-elements.mjs";
@@ -12,6 +13,7 @@ import { NotAsLearned } from "./not-as-learned.mjs";
 
 /** @typedef {import("../run/outcome.mjs").Outcome} Outcome */
 /** @typedef {import("./search/nodes.mjs").Node} Node */
+/** @typedef {import("../../script/choices.mjs").AgentChoice} AgentChoice */
 
 /**
  * @typedef {{ agent: number, call: number, does: string, block: number, byte: number, size: number }} RealEvent of a
@@ -34,8 +36,6 @@ export class Agreement {
   constructor(program) {
     this.program = program;
     this.world = new World(program);
-    this.world.begin();
-    this.world.save();
     /** How many runs were compared. */
     this.compared = 0;
   }
@@ -46,11 +46,12 @@ export class Agreement {
    * @throws {NotAsLearned}
    */
   needs(outcome) {
-    const { answers, script, seed, trace } = outcome;
+    const { answers, choices, script, seed, trace } = outcome;
     if (answers === undefined || script === undefined || trace === undefined) return false;
     if (trace.startsWith(UNSEEN)) return false;
-    const way = new Way(this.world, callsOf(script), answers);
+    const way = new Way(this.world, callsOf(script), answers, choices);
     try {
+      way.begin();
       for (const line of trace.split("\n")) if (line !== "") way.step(JSON.parse(line));
       way.end(outcome);
     } catch (problem) {
@@ -80,14 +81,29 @@ function callsOf(text) {
 
 /** One run on its way. */
 class Way {
-  /** @param {World} world @param {RealCall[][]} calls @param {(string | null)[][]} answers */
-  constructor(world, calls, answers) {
-    world.load(0);
+  /**
+   * @param {World} world
+   * @param {RealCall[][]} calls
+   * @param {(string | null)[][]} answers
+   * @param {AgentChoice[][]} [choices] none: no agent has chosen
+   */
+  constructor(world, calls, answers, choices = []) {
     this.world = world;
     this.calls = calls;
     this.answers = answers;
-    /** Of each agent the bytes that it has read and written since its last act. */
+    this.choices = choices;
+    /** Of each agent how many of these were made. */
+    this.chosen = world.nodes.map(() => 0);
+    /** Of each agent the bytes that it has read and written since its last call. */
     this.touched = world.nodes.map(() => /** @type {Set<string>} */ (new Set()));
+    /** Of each agent those that its accesses by the automata have, as far as it went on without a call. */
+    this.passed = world.nodes.map(() => /** @type {Set<string>} */ (new Set()));
+  }
+
+  /** The agents begin in turn. */
+  begin() {
+    this.world.clear();
+    this.world.begin((agent) => this.#choose(agent));
   }
 
   /** @param {RealEvent} event */
@@ -105,7 +121,41 @@ class Way {
     if (does === "time-up") need(world.canTimeOut(agent), `the time of agent ${agent} can't be up`);
     const goesOn = does === "time-up" ? world.timeOut(agent) : world.canAct(agent) && world.act(agent);
     need(goesOn, `agent ${agent} can't do it: ${does} of ${nodeText(node)}`);
-    if (!world.waits(agent)) this.#needAnswer(event, node);
+    if (world.waits(agent)) return;
+    this.#needAnswer(event, node);
+    this.#choose(agent);
+  }
+
+  /**
+   * Makes the choices that come next: nobody else moves at a choice of a real run.
+   * @param {number} agent
+   */
+  #choose(agent) {
+    while (this.#choice(agent) !== undefined) this.#pass(agent);
+  }
+
+  /** @param {number} agent @returns {AgentChoice | undefined} the choice that it makes now, if it makes one */
+  #choice(agent) {
+    return isChoice(this.world.nodes[agent]) ? this.choices[agent]?.[this.chosen[agent]] : undefined;
+  }
+
+  /**
+   * Makes a choice, or a read that is an act of its own, and notes what it has touched.
+   * @param {number} agent
+   */
+  #pass(agent) {
+    const { world, passed: { [agent]: passed } } = this;
+    const node = world.nodes[agent];
+    const choice = this.#choice(agent);
+    for (const one of this.#recent(agent)) passed.add(one);
+    if (choice === undefined) add(passed, node);
+    else {
+      const isSame = actsOf({ ...node, limit: askedBy(choice) }) === actsOf(node);
+      need(isSame, `agent ${agent} made ${choiceText(choice)}, and ${nodeText(node)} was learned`);
+      this.chosen[agent] += 1;
+    }
+    const chosen = choice === undefined ? 0 : returnedBy(choice);
+    need(world.act(agent, chosen), `agent ${agent} goes on where nothing was learned`);
   }
 
   /** @param {RealEvent} event @param {Node} node */
@@ -127,19 +177,19 @@ class Way {
   }
 
   /**
-   * Makes the reads of an agent that are acts of their own, and compares what it has touched.
+   * Makes the reads of an agent that are acts of their own, with the choices behind them, and compares what it has
+   * touched.
    * @param {number} agent
    */
   #needAccesses(agent) {
     const { world, touched } = this;
     const real = touched[agent];
     touched[agent] = new Set();
-    const learned = this.#recent(agent);
-    for (let many = 0; world.nodes[agent].isAlone && many < MOST_ALONE; many += 1) {
-      add(learned, world.nodes[agent]);
-      need(world.act(agent), `agent ${agent} goes on where nothing was learned`);
-      for (const one of this.#recent(agent)) learned.add(one);
-    }
+    const goesOn = () => world.nodes[agent].isAlone || this.#choice(agent) !== undefined;
+    for (let many = 0; goesOn() && many < MOST_ALONE; many += 1) this.#pass(agent);
+    const learned = this.passed[agent];
+    this.passed[agent] = new Set();
+    for (const one of this.#recent(agent)) learned.add(one);
     // The accesses of a wait's beginning were compared when it began.
     if (world.waits(agent) || world.wasWoken(agent)) return;
     const missing = [...real].find((one) => !learned.has(one)) ?? [...learned].find((one) => !real.has(one));
@@ -163,6 +213,8 @@ class Way {
         this.#needAccesses(agent);
         const node = world.nodes[agent];
         need(node.does === DOES.FINISHED, `agent ${agent} ended, and ${nodeText(node)} was learned`);
+        const [many, { length = 0 }] = [this.chosen[agent], this.choices[agent] ?? []];
+        need(many === length, `agent ${agent} made ${length} choices, and by the automata it makes ${many}`);
       }
       this.#needBytes(bytes);
     } else if (ending === "deadlock") {

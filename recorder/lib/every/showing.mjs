@@ -1,6 +1,7 @@
 // Shows what a search has found by runs of the code as it is, in real workers: each goes by the schedule that leads
 // there.
 
+import { MOST_CHOICES } from "../../script/choices.mjs";
 import { SCRIPT_LIMITS } from "../../script/limits.mjs";
 import { TIME_OVER } from "../processes/time-over.mjs";
 import { countText, digits } from "../run/words/summary-words.mjs";
@@ -29,9 +30,11 @@ const SPINS = "a real run can't change agents in a loop of ordinary reads";
  * @param {{ maxMoves: number }} options of runs
  * @returns {string | undefined} why no run can go by its schedule
  */
-function whyNoRun({ calls, row }, { maxMoves }) {
+function whyNoRun({ calls, choices, row }, { maxMoves }) {
   const most = calls.reduce((one, other) => Math.max(one, other));
   if (most > SCRIPT_LIMITS.calls) return `it needs ${countText(most, "call")} of agent ${calls.indexOf(most)}`;
+  const chooser = choices.findIndex(({ length }) => length > MOST_CHOICES);
+  if (chooser >= 0) return `it needs ${countText(choices[chooser].length, "choice")} of agent ${chooser}`;
   if (row.length > maxMoves) return `it needs ${countText(row.length, "move")}, and ${digits(maxMoves)} are the most`;
   return undefined;
 }
@@ -60,8 +63,8 @@ export async function shownFindings(findings, options, over) {
  * @returns {Promise<CheckedOutcome[]>} of the runs by their schedules, as far as there is time for them
  */
 async function outcomesOf(findings, options, over) {
-  const wanted = findings.map(({ row, goesOn }, at) =>
-    ({ seed: at + 1, whole: true, needsTrace: true, wantsRow: true, row, isExact: !goesOn }));
+  const wanted = findings.map(({ choices, row, goesOn }, at) =>
+    ({ seed: at + 1, whole: true, needsTrace: true, wantsRow: true, row, choices, isExact: !goesOn }));
   const stopped = new Promise((done) => {
     over.addEventListener("abort", () => done(undefined));
   });

@@ -1,15 +1,12 @@
 // The choices of one agent in a run, in shared memory. The agent writes them as it makes them, and the referee reads
 // them at the run's end. If a run is to have certain choices, the referee gives them before.
 
-import { MOST_CHOICES } from "../../script/choices.mjs";
+import { MOST_CHOICES, askedBy, choiceOf, returnedBy } from "../../script/choices.mjs";
 
 /** @typedef {import("../../script/choices.mjs").AgentChoice} AgentChoice */
 
 // Agents may change what they find, so the engine's own functions are kept here, before.
 const { Int32Array, SharedArrayBuffer } = globalThis;
-
-/** In place of the number that `choose` is asked with: `again` was asked, and returned 0 or 1. */
-export const AGAIN = 0;
 
 /** Whether choices are given: none are; they are as far as they fit; or the run ends at one that doesn't. */
 export const GIVEN = Object.freeze({ NONE: 0, LENIENTLY: 1, EXACTLY: 2 });
@@ -30,10 +27,6 @@ const WORDS_EACH = 5;
 
 const FIRST_GIVEN = HEAD + MOST_CHOICES * WORDS_EACH;
 const GIVEN_EACH = 2;
-
-/** @param {number} asked @param {number} returned @returns {AgentChoice} */
-export const choiceOf = (asked, returned) =>
-  (asked === AGAIN ? ["again", returned === 1] : ["choose", asked, returned]);
 
 /**
  * @typedef {{ choice: AgentChoice, event: number, draws: number, source: number }} ChoiceMade with the number of its
@@ -61,10 +54,10 @@ export class Choices {
     words[MADE] = 0;
     words[HOW] = given === undefined ? GIVEN.NONE : isExact ? GIVEN.EXACTLY : GIVEN.LENIENTLY;
     words[LENGTH] = given?.length ?? 0;
-    given?.forEach(([does, asked, number], at) => {
+    given?.forEach((choice, at) => {
       const word = FIRST_GIVEN + at * GIVEN_EACH;
-      words[word + ASKED] = does === "again" ? AGAIN : asked;
-      words[word + RETURNED] = Number(does === "again" ? asked : number);
+      words[word + ASKED] = askedBy(choice);
+      words[word + RETURNED] = returnedBy(choice);
     });
   }
 

@@ -15,7 +15,7 @@ import { NoLongerTheSame } from "../../lib/shorter/differing.mjs";
 import { choicesText } from "../../script/choices.mjs";
 import { Views } from "../../page/elements.mjs";
 import { Stepper } from "../../page/steps.mjs";
-import { everySchedule, explore, record } from "../../recorder.mjs";
+import { explore, record } from "../../recorder.mjs";
 import { assertAgents } from "../../testing.mjs";
 import { commandHere } from "../helpers/command-here.mjs";
 import { commandThere, fileIn, moduleOf, refusedInALine, temporaryFolder } from "../helpers/common.mjs";
@@ -432,28 +432,6 @@ describe("options", () => {
     await assert.rejects(record({ program: module, rounds: 2 }), refusedInALine(/`rounds` doesn't go with `program`/));
     const { status, stderr } = await commandHere(["--program", module, "--rounds", "2"]);
     assert.deepEqual([status, stderr.startsWith("record: --rounds doesn't go with --program: ")], [2, true], stderr);
-  });
-
-  test("--all refuses a module that chooses, with its line, and takes one that doesn't", async (context) => {
-    const refused = async (code, ...words) => {
-      const { status, stdout, stderr } = await commandHere([moduleOf(context, code), "--all", ...words]);
-      assert.deepEqual([status, stdout], [2, ""]);
-      return stderr;
-    };
-    const refusal = (name) => `record: --all can't learn what the agents do: it uses \`${name}\`, and --all can't yet `
-      + "try choices, at agents.mjs:4:10\n";
-    assert.equal(await refused(LOCK), refusal("again"));
-    assert.equal(await refused(ADDS.replace("again()", "choose(2) > 0")), refusal("choose"));
-    assert.equal(await refused(LOCK, "--rounds", "2"),
-      "record: --rounds doesn't go with --all: it can't yet try choices\n");
-    const named = moduleOf(context, `${HEAD}
-export default function agent(run) {
-  const words = new Int32Array(run.buffers[0]);
-  for (let left = 3; left > 0; left -= 1) if (typeof run.again === "function") Atomics.add(words, 1, 1);
-  return run.choose.length;
-}`.replace("  return run.choose.length;\n", ""));
-    const { closed, found, states } = await everySchedule({ module: named });
-    assert.deepEqual([closed, found, states], [true, [], 10]);
   });
 });
 

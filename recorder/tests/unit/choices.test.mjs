@@ -4,11 +4,11 @@
 import assert from "node:assert/strict";
 import { test } from "node:test";
 import { Choosing, NO_ROOM, NOT_GIVEN, choicesBy } from "../../lib/agent/choosing.mjs";
-import { AGAIN, Choices } from "../../lib/memory/choice-list.mjs";
+import { Choices } from "../../lib/memory/choice-list.mjs";
 import {
   compareChoices, lowerable, mostRounds, withSmaller, withZeros, withoutRounds,
 } from "../../lib/shorter/fewer-choices.mjs";
-import { MOST_CHOICES, UnlikeChoices, choicesIn, choicesText } from "../../script/choices.mjs";
+import { AGAIN, MOST_CHOICES, UnlikeChoices, choicesIn, choicesText } from "../../script/choices.mjs";
 
 /** What an agent gets for its questions. */
 function asking({ agent = 0, rounds = 8, seed = 1, given = undefined, isExact = false } = {}) {

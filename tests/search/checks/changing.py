@@ -31,12 +31,14 @@ class Changing:
                     yield f"races {seed}", wrong
             seed += 1
         yield "files with data that agents share", None if 3 * self.whole["sharing"] > files else "they are too few"
+        yield "files with choices", None if 10 * self.whole["choosing"] > files else "they are too few"
 
     def tried(self, trial, seed):
         """Returns what is wrong about a file with all premises; None if nothing is."""
         has_ordinary, shares = trial.shares()
         kinds = trial.unordered(seed)
         self.whole.update(files=1, ordinary=int(has_ordinary), sharing=int(shares), unordered=int(bool(kinds)))
+        self.whole.update(choosing=int(trial.chooses()))
         return trial.wrong_answers() or trial.wrong_kinds(kinds)
 
     def contradicted(self, trial, seed, most):
@@ -55,7 +57,8 @@ class Changing:
         """Returns in words how many files there were."""
         whole = self.whole
         made = f"{whole['ordinary']} have ordinary accesses, {whole['sharing']} data that agents share"
-        yield f"{whole['files']} files have all premises: {made}, {whole['unordered']} an exchange that is unordered"
+        made += f", {whole['choosing']} choices, {whole['unordered']} an exchange that is unordered"
+        yield f"{whole['files']} files have all premises: {made}"
         for premise, counts in self.lacking.items():
             wrong = f"{counts['answers']} contradict the statement about answers, {counts['races']} that about races"
             yield f"{counts['files']} files lack '{premise}' alone: {wrong}"

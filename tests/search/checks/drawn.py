@@ -31,8 +31,8 @@ class Drawn(NamedTuple):
 
 
 def drawn(seed, only_calls=False, has_likes=False):
-    """Returns the file of a seed; if asked with calls alone, on zero bytes, and with timeouts at any time; or with
-    several agents of an automaton."""
+    """Returns the file of a seed; if asked without ordinary accesses, on zero bytes, and with timeouts at any time;
+    or with several agents of an automaton."""
     draw = random.Random(f"{seed} {only_calls}{' likes' * has_likes}")
     choice = "early" if only_calls else draw.choice(["early", "early", "last", "last", "never"])
     file = Writer(draw, only_calls, has_likes).file()
@@ -57,6 +57,8 @@ class Writer:
         # How often a node is an ordinary access, and of what its calls are.
         self.ordinary = 0 if only_calls else draw.choice([0, 0.2, 0.5])
         self.waiting, self.throwing = draw.choice([0.2, 0.6, 0.9]), draw.choice([0, 0, 0.1])
+        # How often a node is a choice.
+        self.choosing = draw.choice([0, 0, 0.2, 0.4])
 
     def view(self, number):
         # The first views can be waited on.
@@ -95,7 +97,7 @@ class Writer:
             call = self.notify(view, index) if number == 1 else self.wait(view, index, [first])
             nodes.append({"call": call, "edges": []})
         for _ in range(self.draw.randrange(2, 6)):
-            nodes.append(self.access() if self.draw.random() < self.ordinary else {"call": self.call(), "edges": []})
+            nodes.append(self.node())
         nodes.append({"finished": True})
         if self.draw.random() < 0.3:
             nodes.append({"threw": self.draw.choice(TEXTS)})
@@ -103,6 +105,14 @@ class Writer:
             if "write" in node:
                 node["edges"] = [["", target(self.draw, nodes, at)]]
         return nodes
+
+    def node(self):
+        """Returns an ordinary access, a choice or a call."""
+        if self.draw.random() < self.ordinary:
+            return self.access()
+        if self.draw.random() < self.choosing:
+            return {"choose": self.draw.choice([1, 2, 2, 2, 3]), "edges": []}
+        return {"call": self.call(), "edges": []}
 
     def access(self):
         block = self.draw.randrange(len(self.blocks))

@@ -70,7 +70,9 @@ class Writer:
     def section(self, number):
         draw = self.draw
         kinds = [self.published] if number == 0 and self.published in self.kinds[:1] else self.kinds
-        return (self.own(number) if draw.random() < 0.2 else []) + draw.choice(kinds)()
+        before = self.own(number) if draw.random() < 0.2 else []
+        before += self.chosen(NEXT, BEHIND, FINISHED) if draw.random() < 0.1 else []
+        return before + draw.choice(kinds)() + (self.chosen(BEHIND, AGAIN, FINISHED) if draw.random() < 0.2 else [])
 
     def called(self, *call, **targets):
         """Returns a call, and where its answers lead: `_0` is the answer 0, and `other` all others."""
@@ -98,6 +100,11 @@ class Writer:
         """Returns an access to a byte of the agent's own."""
         byte = OWN + number
         return [({"write": [0, byte, "01"]} if self.draw.random() < 0.5 else {"read": [0, byte, 1]}, {})]
+
+    def chosen(self, *places):
+        """Returns a choice between two places."""
+        first, second = self.draw.sample(places, 2)
+        return [({"choose": 2}, {"0": first, "1": second})]
 
     def store(self, value):
         return [self.called("store", self.word, 0, value)]
@@ -138,9 +145,12 @@ class Writer:
 
 
 def change(draw, nodes, leads):
-    """Changes one node of an automaton: where a call's other answers lead, or that an access is `alone`."""
+    """Changes one node of an automaton: where a call's other answers or the choice of 1 lead, or that an access is
+    `alone`."""
     at = draw.randrange(len(leads))
-    if "call" in nodes[at]:
+    if "choose" in nodes[at]:
+        leads[at]["1"] = draw.randrange(len(nodes) - 1)
+    elif "call" in nodes[at]:
         leads[at][None] = draw.randrange(len(nodes) - 1)
     else:
         nodes[at]["alone"] = True
@@ -158,8 +168,8 @@ def grow(draw, file, choice, leads, unknown):
         found.add(machine.described())
         if len(found) > MOST_STATES:
             return False
-        for number in machine.movers(choice):
-            after = with_edges(draw, file, lambda: machine.stepped(number)[1], leads, unknown, left)
+        for mover in machine.movers(choice):
+            after = with_edges(draw, file, lambda: machine.stepped(mover)[1], leads, unknown, left)
             open_ones += [after] if after else []
     return True
 

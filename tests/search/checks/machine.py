@@ -4,6 +4,7 @@ The model says what a state is, and this machine has one and changes it: bytes i
 So a mistake in one of them shows. A file must be one that isn't refused.
 """
 import struct
+from typing import NamedTuple, Optional
 
 CODES = {"Int8": "b", "Uint8": "B", "Int16": "h", "Uint16": "H", "Int32": "i", "Uint32": "I",
          "BigInt64": "q", "BigUint64": "Q", "Uint8Clamped": "B", "Float32": "I", "Float64": "Q"}  # fmt: skip
@@ -11,6 +12,18 @@ CODES = {"Int8": "b", "Uint8": "B", "Int16": "h", "Uint16": "H", "Int32": "i", "
 
 class Thrown(Exception):
     """A call throws the error of this name."""
+
+
+class Mover(NamedTuple):
+    """An agent that has an act, and the number that it chooses, if the act is a choice."""
+
+    agent: int
+    chosen: Optional[int] = None
+
+
+def mover_of(agent, did):
+    """Returns the mover of an act, by its agent and its words."""
+    return Mover(agent, int(did.split()[1]) if did.startswith("choose ") else None)
 
 
 class Agent:
@@ -93,7 +106,7 @@ class Machine:
         return ""
 
     def run_on(self, agent):
-        """Makes the ordinary accesses up to the next call, `alone` access or end."""
+        """Makes the ordinary accesses up to the next call, `alone` access, choice or end."""
         agent.recent = []
         while ("read" in agent.node or "write" in agent.node) and not agent.node.get("alone") and not self.lost:
             agent.recent.append(agent.at)
@@ -163,19 +176,22 @@ class Machine:
             count += 1
         return str(count)
 
-    def has_own(self, number):
-        """Returns whether an agent has an act that isn't the end of its time."""
+    def own(self, number):
+        """Returns an agent's movers of acts that aren't the end of its time: at a choice one for each number."""
         agent = self.agents[number]
-        return not self.thrown() and not agent.place and "edges" in agent.node
+        if self.thrown() or agent.place or "edges" not in agent.node:
+            return []
+        return [Mover(number, k) for k in range(agent.node["choose"])] if "choose" in agent.node else [Mover(number)]
 
     def has_time(self, number):
         """Returns whether an agent is in a timed wait."""
         agent = self.agents[number]
         return not self.thrown() and bool(agent.place) and len(agent.node["call"]) == 5
 
-    def step(self, number):
-        """Makes an agent's act, which it must have: its own one, or the end of its time. Returns what it did."""
-        agent = self.agents[number]
+    def step(self, mover):
+        """Makes a mover's act, which its agent must have: its own one, the end of its time, or the choice of a number.
+        Returns what it did."""
+        agent = self.agents[mover.agent]
         if agent.place:
             agent.ticket, agent.place = None, None
             did, answer = "leave timed-out", "timed-out"
@@ -187,6 +203,8 @@ class Machine:
             if answer is None:
                 return "wait"
             did = f"act {answer}"
+        elif "choose" in agent.node:
+            did, answer = f"choose {mover.chosen}", str(mover.chosen)
         else:
             answer = self.make(agent.node)
             did = f"read {answer}" if "read" in agent.node else "write"
@@ -194,24 +212,25 @@ class Machine:
         self.run_on(agent)
         return did
 
-    def stepped(self, number):
-        """Returns what an agent's act does, and the machine after it."""
+    def stepped(self, mover):
+        """Returns what a mover's act does, and the machine after it."""
         it = self.copy()
-        return it.step(number), it
+        return it.step(mover), it
 
     def movers(self, choice):
-        """Returns the agents that have an act, known or not."""
+        """Returns the movers of all acts, known or not, in the order of the agents and of the numbers that they
+        choose."""
         agents = range(len(self.agents))
-        own = [number for number in agents if self.has_own(number)]
-        timed = [number for number in agents if self.has_time(number)]
+        own = [mover for number in agents for mover in self.own(number)]
+        timed = [Mover(number) for number in agents if self.has_time(number)]
         if choice == "never":
             return own
         if choice == "last":
             before = self.described()
-            after = [self.stepped(number)[1] for number in own]
+            after = [self.stepped(mover)[1] for mover in own]
             if any(it.lost or it.described() != before for it in after):
                 return own
-        return sorted(own + timed)
+        return sorted(own + timed, key=lambda mover: mover.agent)
 
     def thrown(self):
         """Returns the texts of the ends that threw."""
@@ -231,7 +250,7 @@ class Machine:
             node = agent.nodes[at]
             if "call" in node:
                 found += self.called(agent, at, node["call"])
-            elif "edges" in node:
+            elif "read" in node or "write" in node:
                 block, byte, what = node.get("read") or node["write"]
                 size = what if "read" in node else len(what) // 2
                 found.append(((agent.automaton, at), block, byte, byte + size, "write" in node, False))

@@ -4,7 +4,8 @@ import subprocess
 
 from .machine import Machine
 
-# The moves of an act: a call begins, acts and returns; or begins and joins the line; or leaves it and returns.
+# The moves of an act: a call begins, acts and returns; or begins and joins the line; or leaves it and returns. A choice
+# has none, since a script has only calls.
 CALLS = {"act": 3, "wait": 2}
 
 
@@ -15,12 +16,12 @@ def random_run(draw, file, most):
         movers = machine.movers("early")
         if not movers:
             break
-        agent = draw.choice(movers)
-        at = machine.agents[agent].at
-        did, after = machine.stepped(agent)
+        mover = draw.choice(movers)
+        at = machine.agents[mover.agent].at
+        did, after = machine.stepped(mover)
         if after.lost:
             break
-        acts.append((agent, at, did))
+        acts.append((mover.agent, at, did))
         machine = after
     return acts, machine
 
@@ -32,6 +33,8 @@ def script_of(file, acts):
     schedule, lines = [], []
     for agent, at, did in acts:
         word = did.split()[0]
+        if word == "choose":
+            continue
         if word in CALLS:
             nodes = file["automata"][names.index(file["agents"][agent]["automaton"])]["nodes"]
             agents[agent]["calls"].append(nodes[at]["call"])

@@ -2,7 +2,7 @@
 import json
 import subprocess
 
-from .machine import Machine
+from .machine import Machine, mover_of
 from .replays import script_of
 
 NO_SCRIPT = (1, "", "sabsim: 3 TooMany\n")
@@ -36,7 +36,7 @@ def wanted(file, schedule):
     machine, acts = Machine(file), []
     for agent, did in schedule:
         at = machine.agents[agent].at
-        _did, machine = machine.stepped(agent)
+        _did, machine = machine.stepped(mover_of(agent, did))
         acts.append((agent, at, did))
     script, lines = script_of(file, acts)
     blocks = [f"block {n} {bytes(block).hex() or '-'}" for n, block in enumerate(machine.memory)]

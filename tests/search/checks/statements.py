@@ -22,7 +22,7 @@ class Trial:
         self.lacks = {"last"} if choice == "last" else set()
         self.lacks |= {"conflict"} if any(it.conflicts() for it in self.machines) else set()
         self.lacks |= {"failed"} if any(it.thrown() for it in self.machines) else set()
-        steps = (it.stepped(number)[1] for it in self.machines for number in it.movers(choice))
+        steps = (it.stepped(mover)[1] for it in self.machines for mover in it.movers(choice))
         self.lacks |= {"unknown"} if first.lost or any(it.lost for it in steps) else set()
 
     def wrong_answers(self):
@@ -43,6 +43,10 @@ class Trial:
         """Returns the kinds of unordered accesses that contradict the second statement, in words; None if none does."""
         races = sorted(kinds - {"compareExchange"})
         return f"unordered: {races}" if races else None
+
+    def chooses(self):
+        """Returns whether an agent is at a choice in some state."""
+        return any("choose" in agent.node for machine in self.machines for agent in machine.agents)
 
     def accesses(self, number):
         """Returns the events of an agent's ordinary accesses, over all states."""

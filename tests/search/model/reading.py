@@ -12,6 +12,7 @@ FAULTS = {
 }  # fmt: skip
 MOST_BYTES, MOST_OPEN, MOST_NODES, MOST_EDGES, MOST_AGENTS = 16_777_216, 127, 262_144, 65_536, 16
 MOST_BLOCKS, MOST_VIEWS, MOST_BLOCK_BYTES, SAFE, BIG = 4, 64, 65_536, 2**53 - 1, 2**127
+MOST_CHOICES = 1_000
 NAME, HEX, BIGINT = re.compile(r"[A-Za-z0-9_]{1,32}"), re.compile(r"([0-9a-f]{2})*"), re.compile(r"0|-?[1-9][0-9]*")
 
 
@@ -41,13 +42,20 @@ class AccessNode(NamedTuple):
     edges: Dict[str, int]
 
 
+class ChooseNode(NamedTuple):
+    """A node with the choice of a whole number below `count`."""
+
+    count: int
+    edges: Dict[str, int]
+
+
 class EndNode(NamedTuple):
     """An end: finished, or threw with a text."""
 
     threw: Optional[str]
 
 
-Node = Union[CallNode, AccessNode, EndNode]
+Node = Union[CallNode, AccessNode, ChooseNode, EndNode]
 
 
 class Agent(NamedTuple):
@@ -259,6 +267,8 @@ def node_of(found, blocks, views, place):
         return CallNode(call, edges_of(found["edges"], lambda answer: can_answer(call, answer), place))
     if "read" in found or "write" in found:
         return access_of(found, blocks, place)
+    if "choose" in found:
+        return choice_of(found, place)
     if "finished" in found:
         if members(found, ("finished",), (), place)["finished"] is not True:
             raise Refused(10, place)
@@ -283,6 +293,16 @@ def access_of(found, blocks, place):
     if written is not None and len(edges) != 1:
         raise Refused(22, place)
     return AccessNode(block, byte, size, written, flag(found.get("alone", False), place), edges)
+
+
+def choice_of(found, place):
+    """Returns a node with a choice."""
+    members(found, ("choose", "edges"), (), place)
+    count = whole(found["choose"], place)
+    if not 1 <= count <= MOST_CHOICES:
+        raise Refused(12, place)
+    answers = frozenset(map(str, range(count)))
+    return ChooseNode(count, edges_of(found["edges"], lambda answer: answer in answers, place))
 
 
 def edges_of(found, is_answer, place):

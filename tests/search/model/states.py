@@ -1,9 +1,9 @@
 """States of a run, and the acts that lead from one to another."""
-from typing import NamedTuple, Optional, Tuple, Union
+from typing import List, NamedTuple, Optional, Tuple, Union
 
 from .calls import Shared, act
 from .elements import Place, with_bytes
-from .reading import AccessNode, CallNode, EndNode, is_within_act
+from .reading import AccessNode, CallNode, ChooseNode, EndNode, is_within_act
 
 CHOICES = ("early", "last", "never")
 
@@ -121,6 +121,15 @@ def own_act(automata, state, agent) -> Optional[Act]:
     return Act(agent, f"act {answer}", led_on(automata, state, agent, answer, shared))
 
 
+def choices(automata, state, agent) -> List[Act]:
+    """Returns an agent's choices, by the number that it chooses; none if it isn't at a choice."""
+    node = automata.node(agent, state.nodes[agent])
+    if not isinstance(node, ChooseNode):
+        return []
+    numbers = map(str, range(node.count))
+    return [Act(agent, f"choose {it}", led_on(automata, state, agent, it, state.shared)) for it in numbers]
+
+
 def time_up(automata, state, agent) -> Optional[Act]:
     """Returns the end of an agent's timed wait; None if it isn't in one."""
     node = automata.node(agent, state.nodes[agent])
@@ -132,11 +141,12 @@ def time_up(automata, state, agent) -> Optional[Act]:
 
 
 def acts(automata, choice, state):
-    """Returns the acts of a state, in the order of the agents. An agent has at most one."""
+    """Returns the acts of a state, in the order of the agents. An agent has at most one, or its choices."""
     if texts_thrown(automata, state):
         return []
     agents = range(len(automata.agents))
     own = [it for it in (own_act(automata, state, agent) for agent in agents) if it]
+    own += [it for agent in agents for it in choices(automata, state, agent)]
     ended = [it for it in (time_up(automata, state, agent) for agent in agents) if it]
     has_timeouts = {"early": True, "never": False, "last": all(it.to == state for it in own)}[choice]
     return sorted(own + ended if has_timeouts else own, key=lambda it: it.agent)

@@ -43,6 +43,9 @@ export const askedAccess = (block, from, size, base, written) =>
     ...NOTHING, does: written === undefined ? DOES.READ : DOES.WRITE, block, byte: from, size, at: base + from, written,
   });
 
+/** @param {number} asked `AGAIN`, or the number that `choose` is given @returns {AskedNode} a choice */
+export const askedChoice = (asked) => ({ ...NOTHING, does: DOES.CHOOSE, limit: asked });
+
 /**
  * @param {Call} call
  * @param {object} view its array, as the engine knows it

@@ -3,7 +3,8 @@
 
 import { answerOfRead, bytesOfRead } from "../search/raw-elements.mjs";
 import { DOES, DONE } from "../search/nodes.mjs";
-import { CantLearn, askedAccess, askedCall, returned } from "./asked-nodes.mjs";
+import { NO_CHOICE } from "../../agent/choosing.mjs";
+import { CantLearn, askedAccess, askedCall, askedChoice, returned } from "./asked-nodes.mjs";
 import { hadOtherNext } from "./iterators.mjs";
 import { LeftPromises } from "./left-promises.mjs";
 import { PART } from "./learning-progress.mjs";
@@ -19,7 +20,7 @@ import { PART } from "./learning-progress.mjs";
  */
 
 // These are watched when the agents' code is there.
-const { DataView: EngineView, Uint8Array: EngineBytes } = globalThis;
+const { DataView: EngineView, Error: EngineError, Uint8Array: EngineBytes } = globalThis;
 
 /** What breaks an agent off. */
 const BROKEN = Object.freeze({ isBrokenOff: true });
@@ -227,6 +228,18 @@ export class Asker {
     if (thrown !== undefined) throw thrown;
     if (answer === "TypeError") throw new TypeError("Atomics.wait cannot be called in this context");
     return returned(call, view, answer, this.views[call.block]);
+  }
+
+  /**
+   * Makes a choice.
+   * @param {number} asked `AGAIN`, or the number that `choose` is given
+   * @returns {number} what is chosen
+   */
+  choose(asked) {
+    if (this.run === undefined) throw new EngineError(NO_CHOICE);
+    this.#enter();
+    this.#endWrite();
+    return /** @type {number} */ (this.#ask(askedChoice(asked)));
   }
 
   /**

@@ -1,15 +1,20 @@
 // What is found in the states of agents, and how each is shown: by the schedule with the fewest changes of agents.
 // Things that have the same message, without its numbers, are one finding.
 
-import { DOES } from "../search/nodes.mjs";
+import { choiceOf } from "../../../script/choices.mjs";
+import { actorOf, chosenIn } from "../search/chosen-acts.mjs";
+import { DOES, isChoice } from "../search/nodes.mjs";
 import { endingHere } from "../search/result.mjs";
 import { shortestTo } from "../search/shortest.mjs";
+import { lastChoices } from "./last-choices.mjs";
 import { PART } from "./learning-progress.mjs";
 import { problemOf } from "./thrown.mjs";
 
 /** @typedef {import("../search/nodes.mjs").Node} Node */
 /** @typedef {import("../search/search.mjs").Search} Search */
 /** @typedef {import("../search/result.mjs").Kinds} Kinds */
+
+/** @typedef {import("../../../script/choices.mjs").AgentChoice} AgentChoice */
 
 /** @typedef {"deadlock" | "threw" | "check" | "race" | "no way out"} FindingKind */
 
@@ -20,6 +25,7 @@ import { problemOf } from "./thrown.mjs";
  * @property {number} states how many have it
  * @property {number[]} row the agents in the order in which they move, as a run goes by it
  * @property {number[]} calls of each agent how many it makes on the way
+ * @property {AgentChoice[][]} choices of each agent what it chooses, also behind the row if it is at a choice there
  * @property {number} changes of agents
  * @property {number} acts
  * @property {boolean} isEarly whether a timed wait ends while something else can move
@@ -151,33 +157,41 @@ export class Findings {
    * @param {import("../search/shortest.mjs").Schedule} way
    * @returns {Finding}
    */
-  #finding({ key, kind, text, states }, { state, agents, names, changes, isEarly }) {
-    const { calls, row, spins } = this.#wayOf(agents);
+  #finding({ key, kind, text, states }, { state, way, names, changes, isEarly }) {
+    const { calls, choices, row, spins } = this.#wayOf(way);
     const next = (this.#at(state).find((one) => one.key === key)?.next ?? []).map((agent) => names[agent]);
     const goesOn = kind === "race" || kind === "no way out";
-    const moves = { row: [...row, ...next], calls, changes, acts: agents.length };
+    const moves = { row: [...row, ...next], calls, choices, changes, acts: way.length };
     return { kind, text, states, ...moves, isEarly, goesOn, spins };
   }
 
   /**
-   * @param {number[]} agents in the order of their acts
-   * @returns {{ row: number[], calls: number[], spins: boolean }} those of acts that are calls; of each agent how many
-   * calls it makes; whether one stands in a loop of reads
+   * @param {number[]} way the acts in their order
+   * @returns {Pick<Finding, "row" | "calls" | "choices" | "spins">} whose acts those are that are calls; of each agent
+   * how many calls it makes, and what it chooses; whether one stands in a loop of reads
    */
-  #wayOf(agents) {
+  #wayOf(way) {
     const { world } = this.search;
     world.restart();
     const stands = () => world.nodes.some(({ isAlone }) => isAlone);
     let spins = stands();
     const calls = world.nodes.map(() => 0);
-    const row = agents.filter((agent) => {
-      const isOfCall = world.nodes[agent].does < DOES.READ;
+    const choices = world.nodes.map(() => /** @type {AgentChoice[]} */ ([]));
+    /** @param {Node} node @param {number} chosen @returns {AgentChoice} */
+    const choiceAt = ({ limit }, chosen) => choiceOf(/** @type {number} */ (limit), chosen);
+    const row = way.filter((act) => {
+      const agent = actorOf(act);
+      const node = world.nodes[agent];
+      const isOfCall = node.does < DOES.READ;
       // An agent that waits has made its call before.
       if (isOfCall && !world.waits(agent)) calls[agent] += 1;
-      world.step(agent);
+      if (isChoice(node)) choices[agent].push(choiceAt(node, chosenIn(act)));
+      world.step(agent, chosenIn(act));
       spins ||= stands();
       return isOfCall;
-    });
-    return { row, calls, spins };
+    }).map(actorOf);
+    choices.forEach((made, agent) =>
+      made.push(...lastChoices(world, agent).map(([node, chosen]) => choiceAt(node, chosen))));
+    return { row, calls, choices, spins };
   }
 }

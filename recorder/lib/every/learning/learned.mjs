@@ -65,8 +65,9 @@ export class Learned {
       hasChanged: () => code.hasChanged(),
     };
     const learner = new Learner(asker, agents, own);
-    // Each automaton has its own, so it need not be gone through.
+    // Each automaton has its own, so they need not be gone through.
     code.builtins.names.set(learner.number, "number").set(learner.changesNumber, "changesNumber");
+    code.builtins.names.set(learner.choices.again, "again").set(learner.choices.choose, "choose");
     return learner;
   }
 

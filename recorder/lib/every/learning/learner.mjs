@@ -2,14 +2,14 @@
 // that leads to its node. Two histories are one node only if all that the agent keeps is the same.
 
 import { leftOpen } from "../../agent/answer.mjs";
+import { choicesBy } from "../../agent/choosing.mjs";
 import { CantShow } from "../state/object-kinds.mjs";
-import { DONE, DOES, isCall, nodeOf } from "../search/nodes.mjs";
+import { DONE, DOES, isCall, isChoice, isOwnAct, nodeOf } from "../search/nodes.mjs";
 import { nodeText } from "../search/node-texts.mjs";
 import { CantLearn, askedEnd, isSame, keyOf } from "./asked-nodes.mjs";
 import { accessed, cantText } from "./asking.mjs";
 import { putNumber } from "./given-number.mjs";
 import { PART } from "./learning-progress.mjs";
-import { noChoices } from "./no-choices.mjs";
 import { namesRewritten, thrownText } from "./thrown.mjs";
 
 /** @typedef {import("../search/nodes.mjs").Node} Node */
@@ -58,7 +58,7 @@ export class Learner {
   constructor(asker, agents, code) {
     const { agentNow, line, place = () => -1, lineOfError = line, key, hasChanged = () => false } = code;
     this.asker = asker;
-    this.choices = noChoices((why) => asker.refuse(why));
+    this.choices = choicesBy((asked) => asker.choose(asked));
     this.agents = agents;
     this.agentNow = agentNow;
     this.line = line;
@@ -265,7 +265,7 @@ class Growing {
     /** @type {Set<Node>} accesses that this call has shown */
     this.made = new Set();
     /** Whether what comes next is the first behind a call. */
-    this.isHead = origin === undefined || isCall(origin.node) || origin.node.isAlone;
+    this.isHead = origin === undefined || isOwnAct(origin.node);
     /** @type {string | undefined} what it did that it hadn't done before */
     this.differs = undefined;
   }
@@ -283,17 +283,18 @@ class Growing {
   /** @param {AskedNode} asked */
   #grow(asked) {
     const isOfCall = isCall(/** @type {Node} */ (asked));
-    this.accesses = isOfCall ? 0 : this.accesses + 1;
+    const stops = isOfCall || isChoice(asked);
+    this.accesses = stops ? 0 : this.accesses + 1;
     if (this.accesses > MOST_ACCESSES) throw this.#cant("it makes 100,000 ordinary accesses without a call of Atomics");
-    const isLong = !isOfCall && this.accesses > READS_BEFORE_COMPARING;
-    const isCompared = isOfCall || (asked.does === DOES.READ && (this.isHead || isLong));
+    const isLong = !stops && this.accesses > READS_BEFORE_COMPARING;
+    const isCompared = stops || (asked.does === DOES.READ && (this.isHead || isLong));
     const key = isCompared ? this.#usefulKey(asked, isLong && !this.isHead) : undefined;
     const { node, isNew } = this.learner.node(this.automaton, asked, key, this.origin);
     if (isNew && isCompared) this.learner.places[node.id] = this.learner.place();
     this.link(node);
     // A loop of reads that has come back to itself stops there.
     if (!isNew && this.made.has(node)) node.isAlone = true;
-    if (isNew && !isOfCall) this.made.add(node);
+    if (isNew && !stops) this.made.add(node);
     this.isHead = false;
     const goesOn = isNew && !(isCompared && this.learner.hasChanged());
     return goesOn ? this.#further(node, isOfCall) : undefined;
@@ -323,7 +324,7 @@ class Growing {
       this.bytes = undefined;
       this.isHead = true;
       answer = DONE;
-    } else if (!isOfCall && this.bytes !== undefined) answer = accessed(node, this.bytes);
+    } else if (!isOwnAct(node) && this.bytes !== undefined) answer = accessed(node, this.bytes);
     else if (node.does === DOES.WRITE) answer = DONE;
     if (answer !== undefined) this.origin = { node, answer };
     return answer;

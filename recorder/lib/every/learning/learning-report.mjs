@@ -1,7 +1,7 @@
 // What the thread that learns and searches hands on.
 
 import { Positions, fileOf } from "../search/file.mjs";
-import { isCall } from "../search/nodes.mjs";
+import { isChoice, isOwnAct } from "../search/nodes.mjs";
 import { Kinds, blocksIn, resultOf } from "../search/result.mjs";
 import { Findings } from "./findings.mjs";
 import { NodeWays } from "./node-ways.mjs";
@@ -62,7 +62,7 @@ export function learningReportOf(learned, search) {
 function countsOf({ nodes }) {
   const all = nodes.flat();
   return {
-    moments: all.filter((node) => isCall(node) || node.isAlone).length,
+    moments: all.filter(isOwnAct).length, choices: all.filter(isChoice).length,
     nodes: nodes.map(({ length }) => length),
     edges: all.reduce((sum, { edges }) => sum + edges.size, 0),
   };

@@ -2,7 +2,7 @@
 
 import { CALL_NUMBERS, CALLS, SCRIPT_KINDS, SIZES, isBigKind } from "../../../script/kinds.mjs";
 import { hexOf, rawAt, rawOf } from "./raw-elements.mjs";
-import { DONE, DOES, NOT_EQUAL, OK, TIMED_OUT, isCall, nodeOf } from "./nodes.mjs";
+import { DONE, DOES, NOT_EQUAL, OK, TIMED_OUT, actsOf, isCall, isChoice, nodeOf } from "./nodes.mjs";
 import { AutomatonViews, nodeAnswerText, callData } from "./node-texts.mjs";
 
 /** @typedef {import("./nodes.mjs").Node} Node */
@@ -90,6 +90,7 @@ function nodeData(node, views, positions) {
   if (node.does === DOES.THREW) return { threw: node.text };
   const edges = [...node.edges].map(([answer, next]) => [nodeAnswerText(node, answer), positions.of(next)[1]]);
   if (isCall(node)) return { call: callData(node, views), edges };
+  if (isChoice(node)) return { choose: actsOf(node), edges };
   const { block, byte, size, written, isAlone } = node;
   const isRead = written === undefined;
   const range = isRead ? { read: [block, byte, size] } : { write: [block, byte, hexOf(written, 0, size)] };
@@ -139,6 +140,7 @@ function readNode(data, views, bases, lengths) {
   if (data.finished) return {};
   if (data.threw !== undefined) return { does: DOES.THREW, text: data.threw };
   if (data.call !== undefined) return readCall(data.call, views, bases, lengths);
+  if (data.choose !== undefined) return { does: DOES.CHOOSE, limit: data.choose };
   const [block, byte, last] = data.read ?? data.write;
   const written = data.write === undefined ? undefined : Uint8Array.from(Buffer.from(last, "hex"));
   return {
@@ -198,7 +200,7 @@ function answerOf(node, text) {
   }
   if (/Error$/.test(text)) return text;
   if (node.does === DOES.WAIT) return /** @type {number} */ (WORDS.get(text));
-  if (node.does === DOES.NOTIFY) return Number(text);
+  if (node.does === DOES.NOTIFY || isChoice(node)) return Number(text);
   if (node.does === DOES.STORE) return DONE;
   return rawOf(node.size, text.endsWith("n") ? BigInt(text.slice(0, -1)) : Number(text));
 }

@@ -1,8 +1,9 @@
 // How nodes and answers are spelled in a file of automata (docs/FORMATS.md).
 
+import { askedText, choiceOf } from "../../../script/choices.mjs";
 import { CALLS, SCRIPT_KINDS, SIZES } from "../../../script/kinds.mjs";
 import { hexOf } from "./raw-elements.mjs";
-import { DOES, NOT_EQUAL, OK, TIMED_OUT, isCall } from "./nodes.mjs";
+import { DOES, NOT_EQUAL, OK, TIMED_OUT, isCall, isChoice } from "./nodes.mjs";
 
 /** @typedef {import("./nodes.mjs").Node} Node */
 /** @typedef {import("./nodes.mjs").Answer} Answer */
@@ -15,7 +16,7 @@ export function nodeAnswerText(node, answer) {
   if (node.does === DOES.READ) return typeof answer === "string" ? answer : hexOfNumber(Number(answer), node.size);
   if (typeof answer === "string") return answer;
   if (node.does === DOES.WAIT) return /** @type {string} */ (WORDS.get(Number(answer)));
-  if (node.does === DOES.NOTIFY) return `${answer}`;
+  if (node.does === DOES.NOTIFY || isChoice(node)) return `${answer}`;
   if (node.does === DOES.STORE) return operandText(node.operands[0]);
   return operandText(elementOf(node.kind, answer));
 }
@@ -80,6 +81,7 @@ export function nodeText(node) {
   if (node.does === DOES.FINISHED) return "ends";
   if (node.does === DOES.THREW) return `throws ${node.text}`;
   if (isCall(node)) return JSON.stringify(callData(node, new AutomatonViews()));
+  if (isChoice(node)) return askedText(choiceOf(/** @type {number} */ (node.limit), 0));
   const { block, byte, size, written } = node;
   const bytes = `${size} bytes of block ${block} from byte ${byte} on`;
   return written === undefined ? `reads ${bytes}` : `writes ${hexOf(written, 0, size)} to ${bytes}`;

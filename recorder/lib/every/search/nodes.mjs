@@ -1,6 +1,7 @@
-// The nodes of automata. A node is what an agent asks for next: a call of Atomics, an ordinary read or write, or its
-// end. Edges lead on by what it is answered.
+// The nodes of automata. A node is what an agent asks for next: a call of Atomics, an ordinary read or write, a choice,
+// or its end. Edges lead on by what it is answered.
 
+import { AGAIN } from "../../../script/choices.mjs";
 import { CALLS, CALL_NUMBERS } from "../../../script/kinds.mjs";
 
 const { load: LOAD, store: STORE, wait: WAIT, notify: NOTIFY, compareExchange: COMPARE_EXCHANGE } = CALL_NUMBERS;
@@ -9,7 +10,8 @@ const { load: LOAD, store: STORE, wait: WAIT, notify: NOTIFY, compareExchange: C
 export const DOES = Object.freeze({
   LOAD, STORE, COMPARE_EXCHANGE, WAIT, NOTIFY, ADD: CALL_NUMBERS.add, SUB: CALL_NUMBERS.sub, AND: CALL_NUMBERS.and,
   OR: CALL_NUMBERS.or, XOR: CALL_NUMBERS.xor, EXCHANGE: CALL_NUMBERS.exchange,
-  READ: CALLS.length, WRITE: CALLS.length + 1, FINISHED: CALLS.length + 2, THREW: CALLS.length + 3,
+  READ: CALLS.length, WRITE: CALLS.length + 1, CHOOSE: CALLS.length + 2, FINISHED: CALLS.length + 3,
+  THREW: CALLS.length + 4,
 });
 
 /** The answers of a wait, as edges have them. */
@@ -23,7 +25,8 @@ export const DONE = 0;
 /**
  * What an edge goes by. Of a call that reads an element: its bytes as a Number without a sign, or as a BigInt if there
  * are eight; of a read of 1, 2 or 4 bytes the same; of another read its bytes in hexadecimal digits; of a notify its
- * count; of a wait one of the numbers above; of a call that throws the error's name.
+ * count; of a wait one of the numbers above; of a choice the number that is chosen; of a call that throws the error's
+ * name.
  * @typedef {number | bigint | string} Answer
  */
 
@@ -39,7 +42,8 @@ export const DONE = 0;
  * @property {number} at its first byte in the bytes of all blocks
  * @property {(number | bigint)[]} operands as the code gave them
  * @property {(number | bigint)[]} raw the same as elements, without a sign
- * @property {number | undefined} limit the timeout of a wait in milliseconds, or the count of a notify
+ * @property {number | undefined} limit the timeout of a wait in milliseconds, the count of a notify, or what a choice
+ * asks: `AGAIN`, or the number that `choose` is given
  * @property {string | undefined} error what the call throws wherever it is made
  * @property {{ offset: number, length: number, index: number } | undefined} outside of a call that is at no element of
  * its array: what its array is, and the index
@@ -57,6 +61,16 @@ export const nodeOf = (given) => ({
 
 /** @param {Node} node @returns {boolean} whether it is a call of Atomics */
 export const isCall = ({ does }) => does < DOES.READ;
+
+/** @param {Pick<Node, "does">} node @returns {boolean} whether it is a choice */
+export const isChoice = ({ does }) => does === DOES.CHOOSE;
+
+/** @param {Node} node @returns {boolean} whether agents stop there: a call, a choice, or a read by itself */
+export const isOwnAct = (node) => isCall(node) || isChoice(node) || node.isAlone;
+
+/** @param {Node} node @returns {number} how many acts it can be: of a choice as many as there are numbers */
+export const actsOf = ({ does, limit }) =>
+  (does !== DOES.CHOOSE ? 1 : limit === AGAIN ? 2 : /** @type {number} */ (limit));
 
 /** @param {Node} node @returns {boolean} whether it is an end */
 export const isEnd = ({ does }) => does >= DOES.FINISHED;

@@ -2,8 +2,9 @@
 
 import { Conflicts } from "./conflicts.mjs";
 import { hexOf } from "./raw-elements.mjs";
-import { DOES } from "./nodes.mjs";
+import { DOES, isChoice } from "./nodes.mjs";
 import { nodeAnswerText } from "./node-texts.mjs";
+import { actorOf, chosenIn } from "./chosen-acts.mjs";
 
 /** @typedef {import("./search.mjs").Search} Search */
 /** @typedef {import("./nodes.mjs").Node} Node */
@@ -202,15 +203,16 @@ function leadsOut({ count: states, targets, starts }) {
 /**
  * What an agent does in the loaded state, in words; the world goes on.
  * @param {import("./world.mjs").World} world
- * @param {number} agent
+ * @param {number} act
  * @returns {string}
  */
-export function didText(world, agent) {
+function didText(world, act) {
+  const agent = actorOf(act);
   const node = world.nodes[agent];
   const wasWaiting = world.waits(agent);
   const wasWoken = world.wasWoken(agent);
   if (wasWaiting) world.timeOut(agent);
-  else if (!world.act(agent)) return "";
+  else if (!world.act(agent, chosenIn(act))) return "";
   if (wasWaiting) return "leave timed-out";
   if (wasWoken) return "leave ok";
   if (world.waits(agent)) return "wait";
@@ -220,24 +222,25 @@ export function didText(world, agent) {
 /** @param {Node} node @param {import("./nodes.mjs").Answer} answer */
 function doneText(node, answer) {
   if (node.does === DOES.WRITE) return "write";
+  if (isChoice(node)) return `choose ${nodeAnswerText(node, answer)}`;
   return `${node.does === DOES.READ ? "read" : "act"} ${nodeAnswerText(node, answer)}`;
 }
 
-/** @param {Search} search @param {number} state @returns {number[]} the agents of a run whose acts lead there */
-function agentsTo(search, state) {
+/** @param {Search} search @param {number} state @returns {number[]} the acts of a run that lead there */
+function wayTo(search, state) {
   const { parents, by } = search;
   /** @type {number[]} */
-  const actors = [];
-  for (let at = state; parents.items[at] >= 0; at = parents.items[at]) actors.unshift(by.items[at]);
-  return search.named(actors).agents;
+  const way = [];
+  for (let at = state; parents.items[at] >= 0; at = parents.items[at]) way.unshift(by.items[at]);
+  return search.named(way).way;
 }
 
 /** @param {Search} search @param {number} state @returns {ActData[]} the acts that lead there */
 export function scheduleTo(search, state) {
   const { world } = search;
-  const agents = agentsTo(search, state);
+  const way = wayTo(search, state);
   world.restart();
-  return agents.map((agent) => [agent, didText(world, agent)]);
+  return way.map((act) => [actorOf(act), didText(world, act)]);
 }
 
 const MOST_CONFLICTS = 100;

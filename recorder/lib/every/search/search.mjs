@@ -4,6 +4,7 @@
 import { sortAgents } from "./likes.mjs";
 import { DOES } from "./nodes.mjs";
 import { NumberList } from "./state-rows.mjs";
+import { actOf, actorOf, chosenIn } from "./chosen-acts.mjs";
 import { World } from "./world.mjs";
 
 /** @typedef {"early" | "last" | "never"} Choice when a wait's time may be over */
@@ -26,13 +27,13 @@ export class Search {
     this.isLate = isLate;
     /** Of each state the number of the one from which it was found. */
     this.parents = new NumberList();
-    /** Of each state by whose act, as that state has the agents. */
+    /** Of each state by which act, as `actOf` has it and that state has the agents. */
     this.by = new NumberList();
     this.depths = new NumberList();
     /** Of the states before `expanded`, one after another: to which state each act leads. */
     this.targets = new NumberList();
-    /** By whose act. */
-    this.actors = new NumberList();
+    /** By which act. */
+    this.taken = new NumberList();
     /** Where the agent that acts is in the state to which it leads. */
     this.ends = new NumberList();
     /** Of each agent of the first state which one of a run it is. */
@@ -90,11 +91,13 @@ export class Search {
     if (hasThrownAt(world)) return true;
     const times = this.#hasTimes(state);
     for (let agent = 0; agent < world.count; agent += 1) {
-      if (world.canAct(agent)) {
-        if (!this.#take(state, agent, world.act(agent))) return false;
+      const acts = world.canAct(agent) ? world.acts(agent) : 0;
+      for (let chosen = 0; chosen < acts; chosen += 1) {
+        if (!this.#take(state, actOf(agent, chosen), world.act(agent, chosen))) return false;
         world.load(state);
-      } else if (times && world.canTimeOut(agent)) {
-        if (!this.#take(state, agent, world.timeOut(agent))) return false;
+      }
+      if (acts === 0 && times && world.canTimeOut(agent)) {
+        if (!this.#take(state, actOf(agent, 0), world.timeOut(agent))) return false;
         world.load(state);
       }
     }
@@ -118,10 +121,11 @@ export class Search {
     /** @type {import("./world.mjs").Unknown[]} */
     const found = [];
     for (let agent = 0; agent < world.count; agent += 1) {
-      const canAct = world.canAct(agent);
-      const leads = canAct ? world.act(agent) : !(times && world.canTimeOut(agent)) || world.timeOut(agent);
-      if (!leads) found.push(/** @type {import("./world.mjs").Unknown} */ (world.unknown));
-      world.load(state);
+      const acts = world.canAct(agent) ? world.acts(agent) : Number(times && world.canTimeOut(agent));
+      for (let chosen = 0; chosen < acts; chosen += 1) {
+        if (!world.step(agent, chosen)) found.push(/** @type {import("./world.mjs").Unknown} */ (world.unknown));
+        world.load(state);
+      }
     }
     return found;
   }
@@ -130,10 +134,12 @@ export class Search {
   #isStill(state) {
     const { world } = this;
     for (let agent = 0; agent < world.count; agent += 1) {
-      if (!world.canAct(agent)) continue;
-      const isSame = world.act(agent) && world.isAt(state);
-      world.load(state);
-      if (!isSame) return false;
+      const acts = world.canAct(agent) ? world.acts(agent) : 0;
+      for (let chosen = 0; chosen < acts; chosen += 1) {
+        const isSame = world.act(agent, chosen) && world.isAt(state);
+        world.load(state);
+        if (!isSame) return false;
+      }
     }
     return true;
   }
@@ -141,23 +147,23 @@ export class Search {
   /**
    * Notes where an act has led.
    * @param {number} state
-   * @param {number} agent
+   * @param {number} act
    * @param {boolean} leads
    * @returns {boolean} whether there is room for it
    */
-  #take(state, agent, leads) {
+  #take(state, act, leads) {
     const { world } = this;
     if (!leads) return true;
     const before = world.states.count;
-    const end = this.#sorted(agent);
+    const end = this.#sorted(actorOf(act));
     const next = world.save(this.limit);
     if (next < 0) {
       this.bound = "states";
       return false;
     }
-    if (next === before) this.#found(state, agent, this.depths.items[state] + 1);
+    if (next === before) this.#found(state, act, this.depths.items[state] + 1);
     this.targets.push(next);
-    this.actors.push(agent);
+    this.taken.push(act);
     this.ends.push(end);
     return true;
   }
@@ -177,27 +183,29 @@ export class Search {
 
   /**
    * Goes a way from the first state.
-   * @param {number[]} actors by whose acts, as each state has the agents
-   * @returns {{ agents: number[], names: number[] }} who they are in a run; who the agents of the last state are in it
+   * @param {number[]} way by which acts, as each state has the agents
+   * @returns {{ way: number[], names: number[] }} the same as a run has the agents; who those of the last state are
+   * in it
    */
-  named(actors) {
+  named(way) {
     const { world } = this;
     const names = [...this.names];
-    if (!world.hasLikes) return { agents: actors, names };
+    if (!world.hasLikes) return { way, names };
     world.load(0);
-    const agents = actors.map((actor) => {
+    const ofRun = way.map((act) => {
+      const [actor, chosen] = [actorOf(act), chosenIn(act)];
       const agent = names[actor];
-      world.step(actor);
+      world.step(actor, chosen);
       sortAgents(world, names);
-      return agent;
+      return actOf(agent, chosen);
     });
-    return { agents, names };
+    return { way: ofRun, names };
   }
 
-  /** @param {number} parent @param {number} agent @param {number} depth */
-  #found(parent, agent, depth) {
+  /** @param {number} parent @param {number} act @param {number} depth */
+  #found(parent, act, depth) {
     this.parents.push(parent);
-    this.by.push(agent);
+    this.by.push(act);
     this.depths.push(depth);
   }
 }

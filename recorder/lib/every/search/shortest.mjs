@@ -1,12 +1,14 @@
 // Of each kind of state the schedule to it with the fewest changes of agents, then with the fewest acts; one in which
 // no timed wait ends while something else can move comes before all others.
 
+import { actorOf } from "./chosen-acts.mjs";
+
 /** @typedef {import("./search.mjs").Search} Search */
 
 /**
  * @typedef {object} Schedule
  * @property {number} state to which it leads
- * @property {number[]} agents who act, in their order, as a run has the agents
+ * @property {number[]} way the acts in their order, as `actOf` has them and a run has the agents
  * @property {number[]} names which agents of the run those of the state are
  * @property {boolean} isEarly whether a timed wait ends while something else can move
  * @property {number} changes of agents
@@ -74,8 +76,8 @@ class Ways {
     this.costs = new Float64Array(size).fill(Infinity);
     /** Where that way comes from. */
     this.from = new Int32Array(size).fill(-1);
-    /** By whose act, as the state before has the agents. */
-    this.by = new Uint8Array(size);
+    /** By which act, as the state before has the agents. */
+    this.by = new Uint16Array(size);
     this.done = new Uint8Array(size);
     this.queue = new Queue();
   }
@@ -108,11 +110,12 @@ class Ways {
 
   /** @param {number} place @param {number} state @param {number} last */
   #leave(place, state, last) {
-    const { actors, ends, starts, targets, world } = this.search;
+    const { ends, starts, taken, targets, world } = this.search;
     world.load(state);
     const others = this.#othersCan();
     for (let at = starts.items[state]; at < starts.items[state + 1]; at += 1) {
-      const agent = actors.items[at];
+      const act = taken.items[at];
+      const agent = actorOf(act);
       const isEarly = others && world.waits(agent);
       const isChange = last !== agent && last !== this.agents;
       const cost = this.costs[place] + 1 + (isChange ? CHANGE : 0) + (isEarly ? EARLY : 0);
@@ -120,7 +123,7 @@ class Ways {
       if (cost >= this.costs[next]) continue;
       this.costs[next] = cost;
       this.from[next] = place;
-      this.by[next] = agent;
+      this.by[next] = act;
       this.queue.push(cost, next);
     }
   }
@@ -138,8 +141,8 @@ class Ways {
     /** @type {number[]} */
     const actors = [];
     for (let at = place; this.from[at] >= 0; at = this.from[at]) actors.push(this.by[at]);
-    const { agents, names } = this.search.named(actors.reverse());
-    return { state, agents, names, isEarly: cost >= EARLY, changes: Math.floor((cost % EARLY) / CHANGE) };
+    const { way, names } = this.search.named(actors.reverse());
+    return { state, way, names, isEarly: cost >= EARLY, changes: Math.floor((cost % EARLY) / CHANGE) };
   }
 }
 

@@ -1,7 +1,9 @@
 // A state to work on, and the acts that lead from it to others (docs/MODEL.md has the definitions).
 
 import { answerOfRead, changed, putRaw, rawAt } from "./raw-elements.mjs";
-import { DONE, DOES, NOT_EQUAL, OK, TIMED_OUT, isCall, isEnd, isTimed, isWithinAct } from "./nodes.mjs";
+import {
+  DONE, DOES, NOT_EQUAL, OK, TIMED_OUT, actsOf, isCall, isChoice, isEnd, isTimed, isWithinAct,
+} from "./nodes.mjs";
 import { likesOf } from "./likes.mjs";
 import { Lists, StateRows } from "./state-rows.mjs";
 
@@ -69,16 +71,33 @@ export class World {
     this.begun = { bytes: initial, nodes: this.nodes, recent: this.recent };
   }
 
-  /** Begins: each agent in turn makes its accesses before its first call. @returns {boolean} whether all could */
-  begin() {
-    for (let agent = 0; agent < this.count; agent += 1) if (!this.#segment(agent, this.nodes[agent])) return false;
+  /**
+   * Begins: each agent in turn makes its accesses before its first call or choice.
+   * @param {(agent: number) => void} [then] is called for each one behind them
+   * @returns {boolean} whether all could
+   */
+  begin(then = () => {}) {
+    for (let agent = 0; agent < this.count; agent += 1) {
+      if (!this.#segment(agent, this.nodes[agent])) return false;
+      then(agent);
+    }
     this.begun = { bytes: this.bytes.slice(), nodes: [...this.nodes], recent: [...this.recent] };
     return true;
   }
 
   /** Goes back to where `begin` has led. */
   restart() {
-    const { bytes, nodes, recent } = this.begun;
+    this.#put(this.begun);
+  }
+
+  /** Goes back to before `begin`. */
+  clear() {
+    const { agents, initial } = this.program;
+    this.#put({ bytes: initial, nodes: agents.map(({ root }) => root), recent: agents.map(() => 0) });
+  }
+
+  /** @param {{ bytes: Uint8Array, nodes: Node[], recent: number[] }} of a state in which nobody waits or was woken */
+  #put({ bytes, nodes, recent }) {
     this.bytes.set(bytes);
     this.hasWritten = true;
     this.nodes = [...nodes];
@@ -90,10 +109,11 @@ export class World {
   /**
    * An agent makes the act that it has: what it does next, or if it waits, the end of its time.
    * @param {number} agent
+   * @param {number} chosen as `act` has it
    * @returns {boolean} as `act`
    */
-  step(agent) {
-    return this.waits(agent) ? this.timeOut(agent) : this.act(agent);
+  step(agent, chosen) {
+    return this.waits(agent) ? this.timeOut(agent) : this.act(agent, chosen);
   }
 
   /** @param {number} [most] states @returns {number} the state's number, or -1 if it is new and there is no room */
@@ -158,6 +178,11 @@ export class World {
     return !isEnd(this.nodes[agent]) && !this.waits(agent);
   }
 
+  /** @param {number} agent that can act @returns {number} how many acts it has: one for each number of a choice */
+  acts(agent) {
+    return actsOf(this.nodes[agent]);
+  }
+
   /** @param {number} agent @returns {boolean} whether a time can end its wait */
   canTimeOut(agent) {
     return isTimed(this.nodes[agent]) && this.waits(agent);
@@ -166,14 +191,16 @@ export class World {
   /**
    * An agent that can act does.
    * @param {number} agent
+   * @param {number} [chosen] what it chooses, if it is at a choice
    * @returns {boolean} whether it leads to a state; else `unknown` is why not
    */
-  act(agent) {
+  act(agent, chosen = 0) {
     const node = this.nodes[agent];
     if (this.wasWoken(agent)) {
       this.woken &= ~(1 << agent);
       return this.#goOn(agent, OK);
     }
+    if (isChoice(node)) return this.#goOn(agent, chosen);
     if (!isCall(node)) return this.#goOn(agent, this.#accessed(node));
     const { error } = node;
     if (error !== undefined) return this.#goOn(agent, error);
@@ -181,7 +208,7 @@ export class World {
     if (node.does === DOES.WAIT) return this.#wait(agent, node);
     const old = rawAt(this.bytes, node.at, node.size);
     const value = changed(node, old);
-    if (value !== old) this.#put(node, value);
+    if (value !== old) this.#putElement(node, value);
     return this.#goOn(agent, node.does === DOES.STORE ? DONE : old);
   }
 
@@ -222,7 +249,7 @@ export class World {
   }
 
   /** @param {Node} node @param {number | bigint} value */
-  #put({ at, size }, value) {
+  #putElement({ at, size }, value) {
     putRaw(this.bytes, at, size, value);
     this.hasWritten = true;
   }

@@ -19,6 +19,7 @@ const CONVERSIONS = /^get (?:valueOf|toString|\[Symbol\.toPrimitive\])$/;
 const LIBRARY = new URL("../../", import.meta.url).href;
 const ELEMENTS = new URL("../../agent/ordinary/watched-elements.mjs", import.meta.url).href;
 const ATOMICS = new URL("../../agent/atomics.mjs", import.meta.url).href;
+const CHOOSING = new URL("../../agent/choosing.mjs", import.meta.url).href;
 const LEARNING = new URL("../learning/", import.meta.url).href;
 const PRELUDE = new URL("./prelude.mjs", import.meta.url).href;
 const STATE = new URL("./", import.meta.url).href;
@@ -83,15 +84,13 @@ export class Capture {
     let first = 0;
     while (first < frames.length && !this.texts.has(frames[first].getFileName() ?? "")) first += 1;
     this.#notePlace(frames.find((site) => this.#isOfAgents(fileOf(site))));
-    const isStep = needsDirect(frames.slice(0, first));
+    let called = needsDirect(frames.slice(0, first));
     for (const one of readingIterators()) {
       walk.put("|next");
       walk.value(one);
     }
     const { stack } = this.runtime;
     const count = stack.length;
-    /** @type {Called | undefined} */
-    let called = isStep ? OF_ITERATORS : undefined;
     for (let at = 0; at < count; at += 1) {
       called = this.#putFrame(walk, frames[first + at], stack[count - 1 - at], called);
     }
@@ -205,6 +204,9 @@ export class Capture {
 /** @type {Called} the step of a loop that is shown, or its `next` */
 const OF_ITERATORS = Object.freeze({ name: "next", id: -1, isAccessor: false });
 
+/** @type {Called} what agents choose by, which is no accessor of theirs */
+const OF_CHOICES = Object.freeze({ name: "a function that chooses", id: -2, isAccessor: false });
+
 /**
  * A step that is shown must be that of a loop which gives a name the value, or a call of `next`.
  * @param {import("../rewriting/call-sites.mjs").CallSite} place
@@ -217,19 +219,20 @@ function needsStep({ isAccess, step }) {
 const fileOf = (site) => site?.getFileName() ?? "";
 
 /**
- * Above the agents' own functions may only be what a call of Atomics, or the read of an element, begins with, and a
- * step of a loop that is shown: others of the recorder's functions have more to do.
+ * Above the agents' own functions may only be what a call of Atomics, a choice, or the read of an element begins with,
+ * and a step of a loop that is shown: others of the recorder's functions have more to do.
  * @param {NodeJS.CallSite[]} frames
- * @returns {boolean} whether it is such a step
+ * @returns {Called | undefined} such a step, or what chooses, if the agents have called one of these
  */
 function needsDirect(frames) {
   const isOfRecorder = (/** @type {string} */ file) => file.startsWith(LEARNING) || file.startsWith(STATE);
   const at = frames.findIndex((site) => !isOfRecorder(fileOf(site)));
   const rest = frames.slice(at + 1);
   const isCall = fileOf(frames[at]) === ATOMICS && rest.length === 0;
+  if (fileOf(frames[at]) === CHOOSING && rest.length === 0) return OF_CHOICES;
   const isElement = fileOf(frames[at]) === ELEMENTS && /\bget$/.test(frames[at].getFunctionName() ?? "");
   const isStep = rest.every((site) => fileOf(site) === ITERATORS);
-  if (isCall || (isElement && isStep)) return rest.length > 0;
+  if (isCall || (isElement && isStep)) return rest.length > 0 ? OF_ITERATORS : undefined;
   const first = isElement ? rest.find((site) => fileOf(site) !== ITERATORS) : frames[at];
   const name = first?.getFunctionName() ?? "a function";
   throw new CantShow(`${name} of ${fileOf(first).replace(LIBRARY, "")}, which may have more to do`);
