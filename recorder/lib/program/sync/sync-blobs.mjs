@@ -3,6 +3,7 @@
 
 import { apply } from "../../primordials.mjs";
 import { isBlob, kHandle } from "../node/internals.mjs";
+import { OF_ENGINE } from "../loop/tasks.mjs";
 import { promiseLater, replaceCall } from "./sync-calls.mjs";
 
 /** @typedef {import("./sync-calls.mjs").SyncVersionContext} SyncVersionContext */
@@ -39,7 +40,7 @@ function streamOf(given, parts) {
   let at = 0;
   return new EngineStream({
     type: "bytes",
-    pull: (/** @type {any} */ controller) => promiseLater(given, "Blob.stream", () => {}).then(() => {
+    pull: (/** @type {any} */ controller) => promiseLater(given, "Blob.stream", () => {}, { order: OF_ENGINE }).then(() => {
       if (at < parts.length) controller.enqueue(parts[at]);
       at += 1;
       if (at < parts.length) return;
