@@ -137,10 +137,7 @@ export class NodePlatform {
     }, engine));
     replaceEach(EventEmitter.prototype, WRITES_SELF, checksSelf);
     replaceEach(EventEmitter, ["init"], checksSelf);
-    // Classes of the agents' inherit them.
-    for (const name of ["captureRejections", "defaultMaxListeners"]) {
-      closeSetter(EventEmitter, name, () => refuse(`it sets \`EventEmitter.${name}\``));
-    }
+    closeSetter(EventEmitter, "defaultMaxListeners", () => refuse("it sets `EventEmitter.defaultMaxListeners`"));
     const { Buffer: bytes } = realm;
     // Else each has a place of its own in memory that they share.
     bytes.poolSize = 0;
@@ -175,7 +172,15 @@ export class NodePlatform {
 
   #process() {
     const real = nodeProcess;
-    const silent = { write: () => true };
+    const silent = {
+      /** @param {unknown} chunk */
+      write: (chunk) => {
+        // Its bytes are read.
+        if (chunk instanceof Uint8Array) realm.Buffer.from(chunk);
+        else if (typeof chunk !== "string") this.refuse("it writes something else than a text or bytes");
+        return true;
+      },
+    };
     const stream = (/** @type {string} */ name) => this.standIns.object(/** @type {any} */ (real)[name],
       `process.${name}`, new Set(), silent);
     const given = { argv: [...real.argv], env: { ...real.env }, stderr: stream("stderr"), stdout: stream("stdout") };
@@ -234,17 +239,17 @@ export class NodePlatform {
 }
 
 /** @param {unknown[]} words with a label first, of which a text is made @returns {unknown[]} */
-const withLabel = ([label, ...words]) => [`${label}`, ...words];
+const labelOf = ([label]) => [`${label}`];
 
 /** @type {Record<string, (words: unknown[]) => unknown[]>} what functions of a console show, if that isn't all */
 const SHOWN_WORDS = {
   assert: ([isRight, ...words]) => (isRight ? [] : words),
-  count: ([label]) => withLabel([label]),
-  countReset: ([label]) => withLabel([label]),
+  count: labelOf,
+  countReset: labelOf,
   dir: ([object, options]) => [util.inspect(object, { customInspect: false, .../** @type {object} */ (options) })],
-  time: ([label]) => withLabel([label]),
-  timeEnd: ([label]) => withLabel([label]),
-  timeLog: withLabel,
+  time: labelOf,
+  timeEnd: labelOf,
+  timeLog: labelOf,
   timeStamp: () => [],
 };
 

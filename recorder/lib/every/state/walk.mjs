@@ -206,6 +206,7 @@ export class Walk {
     const template = templateNumber(object);
     if (template !== undefined) {
       this.out.push(`T${template}`);
+      this.#private(object);
       return;
     }
     if (object === UNKNOWN_VALUE) throw new CantShow("how a `try` was left, or how far a loop is");
