@@ -92,6 +92,19 @@ export const check = ([buffer]) => new Int32Array(buffer)[0] === 1;
   assert.deepEqual({ closed, found, realRuns }, { closed: true, found: [], realRuns: 2 });
 });
 
+test("a class that derives from an imported one looks like a class", async (context) => {
+  const module = moduleOf(context, `import { inspect } from "node:util";
+import { Base } from "./base.mjs";
+export const setup = { agents: 1, buffers: [8] };
+class Derived extends Base {}
+export default ({ buffers: [buffer] }) => void Atomics.store(new Int32Array(buffer), 0, inspect(Derived).length);
+`);
+  writeFileSync(join(dirname(module), "base.mjs"), "export class Base {}\n");
+  const { closed, finals, realRuns } = await everySchedule({ ...FEW_WORKERS, module, seeds: 2 });
+  assert.deepEqual({ closed, realRuns }, { closed: true, realRuns: 2 });
+  assert.deepEqual(finals.map(({ blocks }) => blocks), [["1c00000000000000"]]);
+});
+
 test("a file that node takes as CommonJS is refused by name", async (context) => {
   for (const [text, isTaken] of /** @type {[string, boolean][]} */ ([
     ["globalThis.more = 1;\n", false], ["exports.more = 1;\n", false], ["export const more = 1;\n", true],
