@@ -2,12 +2,13 @@
 
 import assert from "node:assert/strict";
 import { test } from "node:test";
-import { OF_ENGINE, ONE_TRIP, Tasks } from "../../lib/program/loop/tasks.mjs";
+import { Tasks } from "../../lib/program/loop/tasks.mjs";
+import { OF_ENGINE, ONE_TRIP } from "../../lib/program/sync/trips.mjs";
 
 const SEEDS = 400;
 
 /**
- * @param {[string, import("../../lib/program/loop/tasks.mjs").Order | undefined][]} begun in this order
+ * @param {[string, import("../../lib/program/sync/trips.mjs").Order | undefined][]} begun in this order
  * @param {boolean} [isPilot]
  * @returns {Map<string, number>} how often each order came
  */
@@ -24,7 +25,7 @@ function ordersOf(begun, isPilot = false) {
   return found;
 }
 
-/** @param {[string, import("../../lib/program/loop/tasks.mjs").Order | undefined][]} begun */
+/** @param {[string, import("../../lib/program/sync/trips.mjs").Order | undefined][]} begun */
 const namesOf = (begun) => [...ordersOf(begun).keys()].sort();
 
 test("half of the seeds keep the order, and in the others each of two results is as likely", () => {
@@ -61,7 +62,7 @@ test("a file is closed behind all that was begun with it, also behind what takes
     ["d", { trips: 1, of: {} }],
   ]);
   assert.ok(found.length > 4);
-  for (const order of found) assert.ok(order.indexOf("c") > order.indexOf("a") && order.indexOf("c") > order.indexOf("b"));
+  for (const order of found) assert.ok(order.indexOf("c") > Math.max(order.indexOf("a"), order.indexOf("b")), order);
 });
 
 test("four requests are under way at once: the sixth result can't come before two others", () => {

@@ -54,7 +54,8 @@ export function askedCall(call, view, base) {
   const size = SIZES[kind];
   const byte = byteOf(call);
   const own = operands.slice(0, CALLS[does].operands);
-  const asked = { ...NOTHING, does, kind, block, byte, size, at: base + byte, operands: own, limit, returns: call.returns };
+  const { returns } = call;
+  const asked = { ...NOTHING, does, kind, block, byte, size, at: base + byte, operands: own, limit, returns };
   try {
     // The bytes are only scratch.
     engineCall(call, view);

@@ -85,7 +85,7 @@ export class Loop {
    * @param {string} text what a task does
    * @param {() => void} act
    * @param {string} [place]
-   * @param {import("./tasks.mjs").Order} [order] if it has a result
+   * @param {import("../sync/trips.mjs").Order} [order] if it has a result
    */
   later(text, act, place, order) {
     this.#tasks.push({ text, act, place: this.#notes ? this.served.here() ?? place : undefined, order });

@@ -10,23 +10,10 @@ const RESULTS = 128;
 /** Node's pool has so many threads: so many requests are under way at once. */
 const POOL = 4;
 
-/**
- * @typedef {object} Order where a result may come among others. Without it a task is the thread's own: these keep their
- * order.
- * @property {number} trips how many requests to node's pool it takes, one behind the other; 0: another thread of the
- * engine brings it
- * @property {object} [of] what it belongs to
- * @property {boolean} [isLast] whether it comes behind all that began before it and belongs to the same
- */
-
-/** The order of a result that one request to the pool brings. */
-export const ONE_TRIP = Object.freeze({ trips: 1 });
-
-/** The order of a result that another thread of the engine brings. */
-export const OF_ENGINE = Object.freeze({ trips: 0 });
+/** @typedef {import("../sync/trips.mjs").Order} Order */
 
 /**
- * @typedef {object} Task
+ * @typedef {object} BegunTask
  * @property {string} text what it does, in words
  * @property {string | undefined} place where the program has begun it, if that is noted
  * @property {() => void} act
@@ -36,7 +23,7 @@ export const OF_ENGINE = Object.freeze({ trips: 0 });
  */
 
 export class Tasks {
-  /** @type {Task[]} in the order of what begins next in the pool */
+  /** @type {BegunTask[]} in the order of what begins next in the pool */
   #all = [];
 
   /** Whether they come in the order in which they were begun. */
@@ -64,13 +51,13 @@ export class Tasks {
     this.#areInOrder = isPilot || this.#random.below(2) === 0;
   }
 
-  /** @param {Omit<Task, "number" | "left">} task that is begun */
+  /** @param {Omit<BegunTask, "number" | "left">} task that is begun */
   push(task) {
     this.#all.push({ ...task, number: this.#begun, left: task.order?.trips ?? 0 });
     this.#begun += 1;
   }
 
-  /** @returns {Task} the one that comes next: it is taken away */
+  /** @returns {BegunTask} the one that comes next: it is taken away */
   take() {
     for (;;) {
       const at = this.#next();
@@ -104,7 +91,7 @@ export class Tasks {
     });
   }
 
-  /** @param {Task} task @returns {boolean} whether it comes behind another one that is there */
+  /** @param {BegunTask} task @returns {boolean} whether it comes behind another one that is there */
   #isHeld({ number, order }) {
     if (order?.isLast !== true) return false;
     return this.#all.some((other) => other.number < number && other.order?.of === order.of);

@@ -6,7 +6,7 @@ import zlib from "node:zlib";
 import { copying } from "../../agent/ordinary/guards.mjs";
 import { doesOtherwise } from "../../processes/node-versions.mjs";
 import { apply, weakGet, weakSet } from "../../primordials.mjs";
-import { ONE_TRIP } from "../loop/tasks.mjs";
+import { ONE_TRIP } from "./trips.mjs";
 import { packers, streamOf } from "../node/internals.mjs";
 import { replaceCall } from "./sync-calls.mjs";
 

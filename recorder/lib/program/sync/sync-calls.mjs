@@ -12,7 +12,7 @@ import { orderOf } from "./trips.mjs";
  * @property {() => string | undefined} [here] where the program's code is
  * @property {() => boolean} [isPlaying] whether the program runs; until then all is node's own
  */
-/** @typedef {import("../loop/tasks.mjs").Order} Order */
+/** @typedef {import("./trips.mjs").Order} Order */
 /** @typedef {{ value?: any, problem?: any }} CallOutcome */
 /** @typedef {(...given: any[]) => any} AnyFunction */
 

@@ -2,7 +2,7 @@
 // later.
 
 import { apply } from "../../primordials.mjs";
-import { ONE_TRIP } from "../loop/tasks.mjs";
+import { ONE_TRIP } from "./trips.mjs";
 import { subtleOver } from "../node/internals.mjs";
 import { replaceCall } from "./sync-calls.mjs";
 

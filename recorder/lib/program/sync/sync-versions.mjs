@@ -3,7 +3,7 @@
 // `crypto` has when `putSyncVersions` is called.
 
 import crypto from "node:crypto";
-import { OF_ENGINE } from "../loop/tasks.mjs";
+import { OF_ENGINE } from "./trips.mjs";
 import { putFiles } from "./sync-files.mjs";
 import { putFolders } from "./sync-folders.mjs";
 import { promiseLater, putSyncVersion, replaceCall } from "./sync-calls.mjs";

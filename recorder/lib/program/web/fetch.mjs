@@ -4,7 +4,7 @@
 import fs from "node:fs";
 import { fileURLToPath } from "node:url";
 import { likeEngine, put } from "../../primordials.mjs";
-import { OF_ENGINE } from "../loop/tasks.mjs";
+import { OF_ENGINE } from "../sync/trips.mjs";
 
 /** @type {any} */
 const scope = globalThis;
