@@ -97,6 +97,21 @@ export function positionIn(list, item) {
   return at;
 }
 
+/** @type {WeakMap<object, object>} functions of the engine and of node, by what stands for them */
+const stoodFor = new WeakMap();
+
+/** @param {object} stand @param {object} engine the function for which it stands */
+export function standFor(stand, engine) {
+  weakSet(stoodFor, stand, engine);
+}
+
+/** @param {any} value @returns {any} the function for which it stands, if it does; else the value */
+export function engineOf(value) {
+  let found = value;
+  for (let next = weakGet(stoodFor, found); next !== undefined; next = weakGet(stoodFor, found)) found = next;
+  return found;
+}
+
 const { Proxy: EngineProxy } = globalThis;
 const standIns = new WeakSet();
 const noteStandIn = uncurried(WeakSet.prototype.add);
@@ -115,6 +130,7 @@ export function proxyOf(target, traps) {
   setPrototypeOf(traps, null);
   const standIn = new EngineProxy(target, traps);
   noteStandIn(standIns, standIn);
+  if (typeof target === "function") standFor(standIn, target);
   return standIn;
 }
 
@@ -149,5 +165,6 @@ export function copyProperty(to, from, name) {
 export function likeEngine(stand, engine) {
   const names = ["name", "length"];
   for (let at = 0; at < names.length; at += 1) copyProperty(stand, engine, names[at]);
+  standFor(stand, engine);
   return stand;
 }

@@ -43,6 +43,19 @@ import { callText, changesText, entryText, handOverText, standingText, valueText
  * @property {boolean} [isReworded] whether its sentence isn't the report's: a message, or a wait that is handed over
  */
 
+/** What has the result of what the program has begun before. */
+const RESULT = /^has (?:the|a) result of /;
+
+/**
+ * @param {Pick<Step, "place" | "text" | "what">} step
+ * @param {string[]} places of the run's data
+ * @returns {string} where it is, to be added to its sentence; of a result where that was begun; empty: it isn't known
+ */
+export function placeText({ place, text, what }, places) {
+  if (place < 0) return "";
+  return `, ${what === "task" && RESULT.test(text) ? "begun " : ""}at ${places[place]}`;
+}
+
 /** A message has a word of its own. */
 const WORD_BYTES = 4;
 

@@ -28,6 +28,7 @@ import { isCalledByAgents, sourceHere } from "./frames.mjs";
 import { PendingWork } from "./pending-work.mjs";
 import { Messages } from "./messages.mjs";
 import { blockNumber } from "./ordinary/context.mjs";
+import { showEngineTexts } from "./ordinary/patch.mjs";
 import { watchOrdinary, watchWaysOut } from "./ordinary/watch.mjs";
 import { isWatchable, watchMaking } from "./other-memory.mjs";
 import { Player } from "./player.mjs";
@@ -180,6 +181,7 @@ function installReplacements() {
   const messages = new Messages(unseen, { isPlaying: isRecording, end: endUnseen }, threads);
   globalThis.Atomics = recordedAtomics(Atomics, asking);
   if (ordinary !== "watch") shareWithContexts({ Atomics, SharedArrayBuffer, WebAssembly });
+  showEngineTexts();
   syncBuiltinESMExports();
   return { later: new PendingWork(), messages };
 }

@@ -2,7 +2,7 @@
 // the script, which has no choices.
 
 import { Views } from "../../page/elements.mjs";
-import { Stepper } from "../../page/steps.mjs";
+import { Stepper, placeText } from "../../page/steps.mjs";
 import { runDataOf } from "./kept-page.mjs";
 
 /** @typedef {import("../../page/steps.mjs").Step} Step */
@@ -25,12 +25,12 @@ export function withChoices(explained, facts, outcome, module) {
   const steps = new Stepper(data, new Views(data)).all();
   /** @type {Map<number, string[]>} by the move before which they come; Infinity: no move comes behind them */
   const lines = new Map();
-  steps.forEach(({ what, agent, sentence, place }, at) => {
-    if (what !== "task") return;
+  steps.forEach((step, at) => {
+    if (step.what !== "task") return;
     const next = steps.find(({ entry }, other) => other > at && entry !== undefined);
     const before = next === undefined ? Infinity : firstMove(next);
-    const where = place < 0 ? "" : `, at ${data.places[place]}`;
-    lines.set(before, [...lines.get(before) ?? [], `agent ${agent} ${sentence}${where}`]);
+    const line = `agent ${step.agent} ${step.sentence}${placeText(step, data.places)}`;
+    lines.set(before, [...lines.get(before) ?? [], line]);
   });
   return withLines(explained, lines);
 }

@@ -3,7 +3,7 @@
 
 import { Views } from "../../page/elements.mjs";
 import { endingText } from "../../page/endings.mjs";
-import { Stepper } from "../../page/steps.mjs";
+import { Stepper, placeText } from "../../page/steps.mjs";
 import { runDataOf } from "./kept-page.mjs";
 
 /** In place of the number of a move, if a step isn't in the script. */
@@ -20,10 +20,8 @@ export function wordsText(facts, outcome, module) {
   const { seed, ending, detail, threads = [], windows = [], places } = data;
   const names = threads.map((name, agent) => `agent ${agent}: ${name === "" ? data.module : name}`);
   const steps = new Stepper(data, new Views(data)).all();
-  const lines = steps.filter(({ agent }) => agent !== undefined).map(({ entry, agent, sentence, place }) => {
-    const where = place < 0 ? "" : `, at ${places[place]}`;
-    return `${entry ?? NO_MOVE} ${agent} ${sentence}${where}`;
-  });
+  const lines = steps.filter(({ agent }) => agent !== undefined).map((step) =>
+    `${step.entry ?? NO_MOVE} ${step.agent} ${step.sentence}${placeText(step, places)}`);
   const memory = windows.map(({ where, what }) => `${where}: ${what}`);
   const head = `seed ${seed} of ${data.module}: ${endingText(ending, detail)}`;
   return [head, ...names, ...memory, "", ...lines, "", ...detail.split("\n"), ""].join("\n");

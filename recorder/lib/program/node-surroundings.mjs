@@ -3,7 +3,7 @@
 
 import process from "node:process";
 import threads from "node:worker_threads";
-import { member } from "../agent/ordinary/patch.mjs";
+import { member, showEngineTexts } from "../agent/ordinary/patch.mjs";
 import { defineProperty } from "../primordials.mjs";
 import { HERE } from "../processes/platform.cjs";
 import { broadcastClass } from "./ports/broadcast.mjs";
@@ -28,6 +28,7 @@ const { NODE_TEST_CONTEXT: _, ...firstEnv } = process.env;
 /** @param {ThreadServices} parts of a thread @param {ProgramModules} graph */
 function install({ locks, ends }, graph) {
   graph.tests.onFailed = (failed) => ends.testFailed(failed);
+  showEngineTexts();
   // Later versions of node have locks between threads.
   if (!("locks" in threads)) return;
   const { manager } = lockManager(locks);

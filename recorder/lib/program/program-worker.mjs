@@ -202,7 +202,7 @@ function partsOf(player, blocks, control) {
   const all = new Threads(agent, board, table, moves);
   /** @type {import("./thread/unwinding.mjs").DeferredServices} */
   const late = {};
-  const later = /** @type {ThreadServices["later"]} */ ((name, act, place) => late.loop?.later(name, act, place));
+  const later = /** @type {ThreadServices["later"]} */ ((...given) => late.loop?.later(...given));
   const notes = new TaskNotes(shared.tasks);
   /** @type {import("./workers/ends.mjs").Leaving["note"]} */
   const note = (text, place) => late.loop?.note(text, place);

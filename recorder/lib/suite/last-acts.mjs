@@ -2,7 +2,7 @@
 // nothing orders are marked.
 
 import { Views } from "../../page/elements.mjs";
-import { Stepper } from "../../page/steps.mjs";
+import { Stepper, placeText } from "../../page/steps.mjs";
 import { runDataOf } from "../keeping/kept-page.mjs";
 
 /** @typedef {import("../library/record-runs.mjs").RecordedOutcome} RecordedOutcome */
@@ -72,16 +72,15 @@ function actsOf(lines, data) {
   const returned = Array(data.agents).fill(0);
   const steps = new Stepper(data, new Views(data)).all();
   return steps.filter(({ agent }) => agent !== undefined).map((step, at) => {
-    const { agent = 0, entry, event, place, sentence, what, accesses: [access], isReworded } = step;
+    const { agent = 0, entry, event, sentence, what, accesses: [access], isReworded } = step;
     const line = explained.get(entry ?? -1) ?? `${NO_MOVE} ${agent} ${returned[agent]}`;
     const [move, , count] = line.split(" ");
     if (entry !== undefined) returned[agent] = Number(count) + (what === "wait" ? 0 : 1);
     const isOrdinary = what === "ordinary" || what === "store";
     const does = `${move} ${agent} ${count} ${access?.writes ? "write" : "read"} `.padEnd(width);
-    const where = place < 0 ? "" : `, at ${data.places[place]}`;
     const isOther = isReworded || what === "task";
     const words = isOther ? `${line.slice(0, width).padEnd(what === "task" ? width : 0)}${sentence}` : line;
-    const text = `${shortened(isOrdinary ? `${does}${sentence}` : words)}${where}`;
+    const text = `${shortened(isOrdinary ? `${does}${sentence}` : words)}${placeText(step, data.places)}`;
     return { at, text, isMarked: event !== undefined && racing.has(event) };
   });
 }

@@ -79,7 +79,10 @@ test("tasks are in the words, on the page and beside the trace, but in no script
   assert.doesNotMatch(trace + script, /timer|interval|readFile|immediate|task/);
   const { output } = simulated(["replay", "--format", "json"], script);
   const lines = wordsText(output, outcome, "file:///main.mjs").split("\n");
-  for (const text of texts) assert.equal(lines.filter((line) => line === `- ${text}`).length, 1, text);
+  for (const text of texts) {
+    const said = `- ${text.replace("readFile, at", "readFile, begun at")}`;
+    assert.equal(lines.filter((line) => line === said).length, 1, said);
+  }
   const timer = lines.indexOf("- 1 runs a timer of 4 ms, at worker.mjs:2:1");
   const adds = lines.flatMap((line, at) => (/ 1 add\(/.test(line) ? [at] : []));
   assert.deepEqual([adds.length, adds[0] < timer && timer < adds[1]], [2, true]);

@@ -65,7 +65,7 @@ const REACHES = [
   "String(Array.prototype.push)", "setTimeout(() => {}, 0)", "setInterval(() => {}, 0)", "setImmediate(() => {})",
   "queueMicrotask(() => {})", "setTimeout.name", "new WeakRef({})", "process.nextTick(() => {})", "process.exit()",
   "process.on('exit', () => {})", "process.memoryUsage()", "process.pid", "process.hrtime()", "process.hrtime.bigint()",
-  "process.uptime()", "process.binding('fs')", "process.stdout.end()", "fetch('')", "crypto.subtle",
+  "process.uptime()", "process.title", "process.binding('fs')", "process.stdout.end()", "fetch('')", "crypto.subtle",
   "new MessageChannel()", "WebAssembly.Module()", "AbortSignal.timeout(1)", "new Event('a').timeStamp",
   "new Intl.DateTimeFormat().format()", "new Intl.DateTimeFormat().formatToParts()", "performance.now()",
   "performance.mark('a')", "Date.now()", "new Date()", "Math.random()", "Buffer.allocUnsafe(1)",
@@ -140,6 +140,14 @@ const ALLOWED = {
   "(class More extends Array {}).from([1, 2]).constructor.name": "'More'",
   "Array.of.call(function made(n) { this.n = n; }, 4, 5).n": "2",
   "util.debuglog('a')('%s', 1) ?? util.debug('b').enabled": "false",
+  "let n = 0; console.count({ toString() { n += 1; return ''; } }); return n": "1",
+  "let n = 0; console.timeLog({ toString() { n += 1; return ''; } }); return n": "1",
+  "let n = 0; console.assert(true, { [util.inspect.custom]: () => (n += 1) }); return n": "0",
+  "let n = 0; console.assert(false, { [util.inspect.custom]: () => `${n += 1}` }); return n": "1",
+  "let n = 0; console.dir({ [util.inspect.custom]: () => (n += 1) }); return n": "0",
+  "let n = 0; console.timeStamp({ [util.inspect.custom]: () => (n += 1) }); return n": "0",
+  "Object.keys(paths)[0]": "'_makeLong'",
+  "paths[Symbol.toStringTag]": "'Module'",
   "util.deprecate((n) => n + 1, 'a')(1)": "2",
 };
 
@@ -156,7 +164,7 @@ import { createHash, randomBytes } from "node:crypto";
 import { EventEmitter } from "events";
 import fs from "node:fs";
 import os from "node:os";
-import path from "node:path";
+import path, * as paths from "node:path";
 import hooks from "node:perf_hooks";
 import timers from "node:timers";
 import util from "node:util";

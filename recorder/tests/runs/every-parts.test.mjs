@@ -1,6 +1,8 @@
 // Parts of a module of agents besides the agents' function, and what never comes back, as --all takes them.
 
 import assert from "node:assert/strict";
+import { writeFileSync } from "node:fs";
+import { dirname, join } from "node:path";
 import { test } from "node:test";
 import { pathToFileURL } from "node:url";
 import { learnAgain, learnApart } from "../../lib/every/learning/apart.mjs";
@@ -88,6 +90,31 @@ export const check = ([buffer]) => new Int32Array(buffer)[0] === 1;
 `);
   const { closed, found, realRuns } = await everySchedule({ ...FEW_WORKERS, module, seeds: 2 });
   assert.deepEqual({ closed, found, realRuns }, { closed: true, found: [], realRuns: 2 });
+});
+
+test("a class that derives from an imported one looks like a class", async (context) => {
+  const module = moduleOf(context, `import { inspect } from "node:util";
+import { Base } from "./base.mjs";
+export const setup = { agents: 1, buffers: [8] };
+class Derived extends Base {}
+export default ({ buffers: [buffer] }) => void Atomics.store(new Int32Array(buffer), 0, inspect(Derived).length);
+`);
+  writeFileSync(join(dirname(module), "base.mjs"), "export class Base {}\n");
+  const { closed, finals, realRuns } = await everySchedule({ ...FEW_WORKERS, module, seeds: 2 });
+  assert.deepEqual({ closed, realRuns }, { closed: true, realRuns: 2 });
+  assert.deepEqual(finals.map(({ blocks }) => blocks), [["1c00000000000000"]]);
+});
+
+test("a file that node takes as CommonJS is refused by name", async (context) => {
+  for (const [text, isTaken] of /** @type {[string, boolean][]} */ ([
+    ["globalThis.more = 1;\n", false], ["exports.more = 1;\n", false], ["export const more = 1;\n", true],
+  ])) {
+    const module = moduleOf(context, `import "./side.js";\n${COUNTS}`);
+    writeFileSync(join(dirname(module), "side.js"), text);
+    const options = { ...FEW_WORKERS, module, seeds: 1 };
+    if (isTaken) assert.equal((await everySchedule(options)).closed, true);
+    else await assert.rejects(everySchedule(options), { message: /can't read side\.js: node takes it as CommonJS/ });
+  }
 });
 
 test("what `check` finds is the same in a real run, except for numbers", async (context) => {

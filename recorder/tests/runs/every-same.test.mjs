@@ -121,6 +121,24 @@ const BODIES = {
     let x = () => 0, y; y = function () {}; var z = async () => 1; const g = function* () {}, c = class {};
     let q; q ??= () => 0; let r; r ||= (() => 1); const o = {}; o.m = () => 0; x = (0, () => 0);
     say(x.name, y.name, z.name, g.name, c.name, q.name, r.name, o.m.name, [() => 0][0].name);`,
+  "names in parentheses, which give none": `
+    let x, y, z; (x) = function () {}; (y) ??= () => 0; [(z) = class {}] = [];
+    say([x.name, y.name, z.name].join("|"));`,
+  "an object that gets the fields of classes twice": `
+    let one; class Base { constructor() { return one ??= this; } }
+    const k = "kk", f = () => 1;
+    class A extends Base { n = f() }
+    class B extends Base { n
+      [k] = f()
+      g = function () {}
+      h = () => {} }
+    class C extends Base { [k]
+      /* ] */ }
+    class D extends Base { a = (f(), 2); static s = f() }
+    class P extends Base { #a = f(); }
+    class M extends Base { #m() {} }
+    for (const cls of [A, A, B, B, C, C, D, P, P, M, M]) try { new cls(); } catch (error) { say(error.message); }
+    say(one.g.name, one.h.name, one.a, Object.keys(one).join());`,
   "names of functions in objects": `
     const k = "kk", s = Symbol("sy"), f = () => 1;
     const o = { a: () => 0, b: function () {}, "c d": () => 1, [k]: () => 2, [s]: () => 3, 7: () => 4, h: class {},

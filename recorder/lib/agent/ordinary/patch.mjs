@@ -1,7 +1,8 @@
 // Puts functions and other members in the place of the engine's own, and of node's. Nothing else does.
 
 import {
-  apply, construct, copyProperty, defineProperty, getOwnPropertyDescriptor, is, likeEngine, ownKeys, proxyOf, put,
+  apply, construct, copyProperty, defineProperty, engineOf, getOwnPropertyDescriptor, is, likeEngine, ownKeys,
+  proxyOf, put, standFor, uncurried,
 } from "../../primordials.mjs";
 import { watchedOf } from "./watched.mjs";
 
@@ -32,6 +33,7 @@ function dressed(stand, engine) {
     const key = keys[at];
     if (key !== "prototype" && !isAlike(stand, engine, key)) copyProperty(stand, engine, key);
   }
+  standFor(stand, engine);
   return stand;
 }
 
@@ -109,13 +111,32 @@ export function replaceClass(owner, name, make) {
 }
 
 /**
+ * A class, or a function, stands for another one, and so do its members for those of the same names.
+ * @param {any} stand
+ * @param {any} engine
+ */
+function standForAll(stand, engine) {
+  likeEngine(stand, engine);
+  for (const [mine, theirs] of [[stand, engine], [stand.prototype ?? stand, engine.prototype ?? engine]]) {
+    for (const key of ownKeys(theirs)) {
+      const [own, other] = [getOwnPropertyDescriptor(mine, key), getOwnPropertyDescriptor(theirs, key)];
+      for (const part of /** @type {const} */ (["value", "get", "set"])) {
+        const [one, instead] = [own?.[part], other?.[part]];
+        if (typeof one === "function" && typeof instead === "function" && one !== instead) standFor(one, instead);
+      }
+    }
+  }
+}
+
+/**
  * Gives an owner another member. It is listed as before; a new one is listed, as node's are.
  * @param {object} owner
  * @param {string | symbol} name
  * @param {unknown} value
  */
 export function member(owner, name, value) {
-  const enumerable = getOwnPropertyDescriptor(owner, name)?.enumerable ?? true;
+  const { enumerable = true, value: engine } = getOwnPropertyDescriptor(owner, name) ?? {};
+  if (typeof value === "function" && typeof engine === "function") standForAll(value, engine);
   defineProperty(owner, name, { value, writable: true, enumerable, configurable: true });
 }
 
@@ -132,6 +153,23 @@ export function listingOf(owners) {
       if (found !== undefined && !found.enumerable) defineProperty(owner, name, { ...found, enumerable: true });
     }
   });
+}
+
+const endsWith = uncurried(String.prototype.endsWith);
+
+/** What the texts of the engine's own functions end with. */
+const NATIVE = "{ [native code] }";
+
+/**
+ * Shows of each function that stands for another one that one's text.
+ * @param {(fn: unknown) => boolean} [isNative] whether a function is shown as one of the engine's own, though node has
+ *   made it
+ */
+export function showEngineTexts(isNative = () => false) {
+  replace(Function.prototype, "toString", (engine) => methodOf((self, given) => {
+    const text = apply(engine, engineOf(self), given);
+    return isNative(self) && !endsWith(text, NATIVE) ? `function ${self.name}() ${NATIVE}` : text;
+  }, engine));
 }
 
 /** @typedef {(engine: Function) => Function} StandInMaker what stands for a function of the engine */

@@ -31,11 +31,12 @@ export const WRITING = {
     const { length, real } = watched;
     const half = (length - (length % 2)) / 2;
     // The one in the middle stays where it is.
-    report(watched, 0, half, false);
-    report(watched, length - half, length, false);
+    const low = reverseElements(copiedElements(watched, 0, half));
+    const high = reverseElements(copiedElements(watched, length - half, length));
     report(watched, 0, half, true);
+    setElements(real, high, 0);
     report(watched, length - half, length, true);
-    reverseElements(real);
+    setElements(real, low, length - half);
     return self;
   },
   copyWithin(watched, self, target, begin, end) {

@@ -30,6 +30,16 @@ const { next } = Object.getPrototypeOf(Object.getPrototypeOf((function* none() {
 /** @param {string} source */
 const parsed = (source) => parseScript(source, { ecmaVersion: "latest", sourceType: "module" });
 
+/** @param {string} source @returns {boolean} whether it is no module: it has none of a module's words */
+function isScript(source) {
+  try {
+    parseScript(source, { ecmaVersion: "latest", sourceType: "script", allowReturnOutsideFunction: true });
+    return true;
+  } catch {
+    return false;
+  }
+}
+
 export class AgentModules {
   /**
    * @param {import("./node-platform.mjs").NodePlatform} platform
@@ -55,12 +65,16 @@ export class AgentModules {
    * Takes a module, with all that it imports.
    * @param {string} url
    * @param {boolean} [isEntry] whether it is the agents' own
+   * @param {string | null} [format] as what node takes it
    */
-  take(url, isEntry = false) {
+  take(url, isEntry = false, format = "module") {
     if (this.texts.has(url)) return;
     const name = basename(fileURLToPath(url));
     if (!/\.m?js$/.test(url)) throw new Refused(`--all can't read ${name}: it takes modules in .mjs or .js files`);
     const source = readFileSync(fileURLToPath(url), "utf8").replace(/^\uFEFF/, "");
+    if (format === "commonjs" || (format !== "module" && isScript(source))) {
+      throw new Refused(`--all can't read ${name}: node takes it as CommonJS, and not as a module`);
+    }
     const written = new ModuleText(name, source, parsed);
     const how = { url, isPlain: this.isPlain };
     if (isEntry) this.entry = url;
@@ -78,10 +92,10 @@ export class AgentModules {
 
   /** @param {string} specifier @param {string} parent @returns {string | object} */
   #imported(specifier, parent) {
-    const url = resolveModule(specifier, parent);
+    const { url, format } = resolveModule(specifier, parent);
     if (url === this.entry) this.isEntryImported = true;
     if (!url.startsWith("node:")) {
-      this.take(url);
+      this.take(url, false, format ?? null);
       return url;
     }
     this.nodes[url] ??= this.platform.module(url);

@@ -24,7 +24,7 @@ export class CantLearn extends Error {
 /** @type {AskedNode} */
 const NOTHING = {
   does: DOES.FINISHED, kind: 0, block: 0, byte: 0, size: 0, at: 0, operands: [], raw: [], limit: undefined,
-  error: undefined, outside: undefined, written: undefined, isAlone: false, text: undefined,
+  error: undefined, outside: undefined, returns: undefined, written: undefined, isAlone: false, text: undefined,
 };
 
 /** @param {string} [text] that it threw @returns {AskedNode} the agent's end */
@@ -57,7 +57,8 @@ export function askedCall(call, view, base) {
   const size = SIZES[kind];
   const byte = byteOf(call);
   const own = operands.slice(0, CALLS[does].operands);
-  const asked = { ...NOTHING, does, kind, block, byte, size, at: base + byte, operands: own, limit };
+  const { returns } = call;
+  const asked = { ...NOTHING, does, kind, block, byte, size, at: base + byte, operands: own, limit, returns };
   try {
     // The bytes are only scratch.
     engineCall(call, view);
@@ -101,7 +102,8 @@ function putElement(view, byte, size, raw) {
 export function isSame(one, other) {
   return one.does === other.does && one.at === other.at && one.block === other.block && one.size === other.size
     && one.kind === other.kind && one.limit === other.limit && one.error === other.error && one.text === other.text
-    && one.outside?.index === other.outside?.index && isSameList(one.operands, other.operands)
+    && one.outside?.index === other.outside?.index && one.returns === other.returns
+    && isSameList(one.operands, other.operands)
     && isSameList(one.written ?? [], other.written ?? []);
 }
 
@@ -113,6 +115,6 @@ function isSameList(one, other) {
 }
 
 /** @param {AskedNode} asked @returns {string} the same only for what `isSame` says */
-export const keyOf = ({ does, kind, block, byte, size, operands, limit, error, outside, written, text }) =>
-  [does, kind, block, byte, size, operands.map((value) => `${value}`).join("_"), limit, error, outside?.index,
+export const keyOf = ({ does, kind, block, byte, size, operands, limit, error, outside, returns, written, text }) =>
+  [does, kind, block, byte, size, operands.map((value) => `${value}`).join("_"), limit, error, outside?.index, returns,
     written?.join("_"), text === undefined ? "" : JSON.stringify(text)].join(".");

@@ -244,12 +244,12 @@ export class Asker {
 
   /**
    * An ordinary access is about to be made.
-   * @param {number} block
+   * @param {{ block: number, kind: number }} place
    * @param {number} from
    * @param {number} to
    * @param {boolean} writes
    */
-  seen(block, from, to, writes) {
+  seen({ block, kind }, from, to, writes) {
     this.#enter();
     this.#endWrite();
     if (from >= to) return;
@@ -257,7 +257,8 @@ export class Asker {
       this.writing = { block, from, to, line: this.notesLines ? this.lineHere() : undefined };
       return;
     }
-    const answer = this.#ask(askedAccess(block, from, to - from, this.bases[block]));
+    // What the bytes are as an element goes by the kind of the array, which nothing else may keep any more.
+    const answer = this.#ask({ ...askedAccess(block, from, to - from, this.bases[block]), kind });
     this.bytes[block].set(bytesOfRead(/** @type {number | string} */ (answer), to - from), from);
   }
 }

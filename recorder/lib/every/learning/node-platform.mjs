@@ -159,10 +159,11 @@ export class NodePlatform {
       if (typeof real[name] !== "function") continue;
       /** @type {(...words: unknown[]) => void} */
       const said = (...words) => {
+        const shown = shownWords(name, words);
         let isShown = false;
-        for (let at = 0; at < words.length; at += 1) isShown ||= isObject(words[at]);
+        for (let at = 0; at < shown.length; at += 1) isShown ||= isObject(shown[at]);
         // What shows them may be the agents' own code.
-        if (isShown) util.formatWithOptions({}, ...words);
+        if (isShown) util.formatWithOptions({}, ...shown);
       };
       given[name] = likeEngine(said, real[name]);
     }
@@ -171,7 +172,15 @@ export class NodePlatform {
 
   #process() {
     const real = nodeProcess;
-    const silent = { write: () => true };
+    const silent = {
+      /** @param {unknown} chunk */
+      write: (chunk) => {
+        // Its bytes are read.
+        if (chunk instanceof Uint8Array) realm.Buffer.from(chunk);
+        else if (typeof chunk !== "string") this.refuse("it writes something else than a text or bytes");
+        return true;
+      },
+    };
     const stream = (/** @type {string} */ name) => this.standIns.object(/** @type {any} */ (real)[name],
       `process.${name}`, new Set(), silent);
     const given = { argv: [...real.argv], env: { ...real.env }, stderr: stream("stderr"), stdout: stream("stdout") };
@@ -229,6 +238,24 @@ export class NodePlatform {
   }
 }
 
+/** @param {unknown[]} words with a label first, of which a text is made @returns {unknown[]} */
+const labelOf = ([label]) => [`${label}`];
+
+/** @type {Record<string, (words: unknown[]) => unknown[]>} what functions of a console show, if that isn't all */
+const SHOWN_WORDS = {
+  assert: ([isRight, ...words]) => (isRight ? [] : words),
+  count: labelOf,
+  countReset: labelOf,
+  dir: ([object, options]) => [util.inspect(object, { customInspect: false, .../** @type {object} */ (options) })],
+  time: labelOf,
+  timeEnd: labelOf,
+  timeLog: labelOf,
+  timeStamp: () => [],
+};
+
+/** @param {string} name of a function of a console @param {unknown[]} words @returns {unknown[]} those that it shows */
+const shownWords = (name, words) => SHOWN_WORDS[name]?.(words) ?? words;
+
 /** @param {any} owner @param {string} key of an accessor @param {() => never} refuse in place of its setter */
 function closeSetter(owner, key, refuse) {
   const found = getOwnPropertyDescriptor(owner, key);
@@ -237,13 +264,15 @@ function closeSetter(owner, key, refuse) {
 
 const OF_FUNCTIONS = ["length", "name", "prototype"];
 
-/** @param {any} exported of a module @returns {object} what an import of it has */
+/** @param {any} exported of a module @returns {object} what an import of it has, with its names in order */
 function namespaceOf(exported) {
   const made = Object.create(null);
-  for (const key of ownKeys(exported)) {
-    if (typeof key === "symbol" || (typeof exported === "function" && OF_FUNCTIONS.includes(key))) continue;
-    defineProperty(made, key, /** @type {PropertyDescriptor} */ (getOwnPropertyDescriptor(exported, key)));
+  const names = ownKeys(exported).filter((key) =>
+    typeof key === "string" && !(typeof exported === "function" && OF_FUNCTIONS.includes(key)));
+  for (const name of [...new Set([...names, "default"])].sort()) {
+    const found = name === "default" ? { value: exported, enumerable: true } : getOwnPropertyDescriptor(exported, name);
+    defineProperty(made, name, /** @type {PropertyDescriptor} */ (found));
   }
-  defineProperty(made, "default", { value: exported, enumerable: true });
+  defineProperty(made, Symbol.toStringTag, { value: "Module" });
   return made;
 }

@@ -35,7 +35,7 @@ export function installRealm(asker) {
   watchOrdinary({
     blockOf: (buffer) => asker.buffers.indexOf(/** @type {any} */ (buffer)),
     seen: (place, from, to, writes) => {
-      if (isRecording()) asker.seen(place.block, from, to, writes);
+      if (isRecording()) asker.seen(place, from, to, writes);
     },
     isUnrecorded: () => false,
     seenUnrecorded: () => {},

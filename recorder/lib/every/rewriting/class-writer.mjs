@@ -5,7 +5,7 @@ import { EXPRESSIONS } from "./expressions.mjs";
 import { NAME_OF_KEY } from "./function-names.mjs";
 import { newId } from "./scopes.mjs";
 import { isClass, isMethod } from "./tree.mjs";
-import { STAMP_CHECK, stampsObjects } from "./write-guards.mjs";
+import { STAMPED, STAMP_CHECK, stampsObjects } from "./write-guards.mjs";
 
 /** @typedef {import("./tree.mjs").Tree} Tree */
 /** @typedef {import("./scopes.mjs").Info} Info */
@@ -15,6 +15,7 @@ import { STAMP_CHECK, stampsObjects } from "./write-guards.mjs";
 export function writeClass(writer, tree, info) {
   const { body: { body, start }, superClass } = tree;
   const own = writer.infoOf(tree);
+  if (stampsObjects(tree)) writeStampCheck(writer, tree.body);
   writer.write(superClass, info);
   const isDerived = superClass && body.every((/** @type {Tree} */ { kind }) => kind !== "constructor");
   if (isDerived) own.superOf = tree;
@@ -25,8 +26,24 @@ export function writeClass(writer, tree, info) {
   const more = `{ keys: [${keys.join(", ")}], isHidden: ${own.isOpaque} }`;
   const made = home === undefined ? "this" : `${home} = this`;
   const constructs = own.makes ? constructorOf(own.id, writer.cells(own)) : "";
-  if (stampsObjects(tree)) writer.edits.before(start + 1, STAMP_CHECK);
   writer.edits.before(start + 1, `static { $R.cls(${newId()}, ${made}, ${shown}, ${more}); }${constructs}`);
+}
+
+/**
+ * The check comes before an object gets its first field, or, in a class of private methods alone, behind these.
+ * @param {CodeWriter} writer
+ * @param {Tree} classBody
+ */
+function writeStampCheck({ edits, source }, { body, start }) {
+  const field = body.find((/** @type {Tree} */ one) => one.type === "PropertyDefinition" && !one.static);
+  if (field === undefined) edits.before(start + 1, STAMP_CHECK);
+  else if (field.value === null) {
+    const end = field.computed ? positionOutsideComments(source, "]", field.key.end) + 1 : field.key.end;
+    edits.after(end, ` = ${STAMPED};`);
+  } else {
+    edits.before(field.value.start, `(${STAMPED}, `);
+    edits.after(field.value.end, ")");
+  }
 }
 
 /** @param {number} id @param {string} cells @returns {string} the constructor that a derived class has by itself */

@@ -17,6 +17,9 @@ const isNameless = (tree) => Boolean(tree) && (isFunction(tree) || isClass(tree)
 /** @param {Tree} target @returns {FunctionName | undefined} */
 const ofTarget = ({ type, name }) => (type === "Identifier" ? name : undefined);
 
+/** @param {Tree} tree an assignment, or a pattern with a default @returns {FunctionName | undefined} */
+const ofLeft = ({ left, start }) => (left.start === start ? ofTarget(left) : undefined);
+
 /** @param {Tree} member of a class or an object @returns {FunctionName} */
 function ofMember({ computed, key }) {
   if (computed) return NAME_OF_KEY;
@@ -27,8 +30,9 @@ function ofMember({ computed, key }) {
 /** @type {Record<string, (tree: Tree) => [Tree | null | undefined, FunctionName | undefined]>} by the types of trees */
 const NAMED = {
   VariableDeclarator: ({ id, init }) => [init, ofTarget(id)],
-  AssignmentExpression: ({ left, operator, right }) => [right, NAMING.has(operator) ? ofTarget(left) : undefined],
-  AssignmentPattern: ({ left, right }) => [right, ofTarget(left)],
+  // What stands in parentheses gives no name.
+  AssignmentExpression: (tree) => [tree.right, NAMING.has(tree.operator) ? ofLeft(tree) : undefined],
+  AssignmentPattern: (tree) => [tree.right, ofLeft(tree)],
   Property: (tree) => {
     const isPrototype = !tree.computed && !tree.shorthand && (tree.key.name ?? tree.key.value) === "__proto__";
     return [tree.value, isMethod(tree) || isPrototype ? undefined : ofMember(tree)];

@@ -2,7 +2,7 @@
 
 import { positionOutsideComments } from "./comments.mjs";
 import { keyOfShorthand } from "./naming.mjs";
-import { namesIn } from "./tree.mjs";
+import { childrenOf, isClass, namesIn } from "./tree.mjs";
 
 /** @typedef {import("./tree.mjs").Tree} Tree */
 /** @typedef {import("./analysis.mjs").Analysis} Analysis */
@@ -115,12 +115,27 @@ class Linker {
   /** Puts what stands for names that are imported in their places. */
   linkReferences() {
     const { analysis, edits, imported, left } = this;
+    const parents = parentsOfClasses(analysis.tree);
     for (const { binding, start, end } of new Set(analysis.byPlace.values())) {
       if (binding?.kind !== "import" || left.some(([from, to]) => from <= start && start < to)) continue;
       if (analysis.shorthand.has(start)) edits.before(start, `${keyOfShorthand(binding.name)}: `);
-      edits.replace(start, end - start, `(0, ${imported.get(binding.name)})`);
+      const reads = imported.get(binding.name);
+      edits.replace(start, end - start, parents.has(start) ? String(reads) : `(0, ${reads})`);
     }
   }
+}
+
+/** @param {Tree} tree @returns {Set<number>} where names begin from which classes derive: node looks at such a text */
+function parentsOfClasses(tree) {
+  /** @type {Set<number>} */
+  const found = new Set();
+  /** @param {Tree} one */
+  const take = (one) => {
+    if (isClass(one) && one.superClass?.type === "Identifier") found.add(one.superClass.start);
+    childrenOf(one).forEach(take);
+  };
+  take(tree);
+  return found;
 }
 
 /**

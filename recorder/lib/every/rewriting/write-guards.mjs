@@ -43,8 +43,11 @@ const isOwn = ({ key, static: isStatic, type }) =>
 /** @param {Tree} tree a class @returns {boolean} whether its objects, which may be any, get members of their own */
 export const stampsObjects = ({ body: { body }, superClass }) => superClass !== null && body.some(isOwn);
 
-/** What stands first in such a class. */
-export const STAMP_CHECK = "#$o = $R.stamped(this); ";
+/** What is done before such an object gets them. */
+export const STAMPED = "$R.stamped(this)";
+
+/** The same as a field of its own. */
+export const STAMP_CHECK = `#$o = ${STAMPED}; `;
 
 export class WriteGuards {
   /** @param {import("./analysis.mjs").Analysis} analysis @param {import("./source-edits.mjs").Edits} edits */

@@ -35,7 +35,7 @@ export const DONE = 0;
  * @property {number} id its number among the nodes of all automata
  * @property {number} automaton the position of its automaton
  * @property {number} does one of `DOES`, or another number of `CALLS`
- * @property {number} kind the number of the kind of its array; of what is no call 0
+ * @property {number} kind the number of the kind of its array; of a read as `WatchedPlace` has it; of all else 0
  * @property {number} block
  * @property {number} byte its first byte in that block
  * @property {number} size how many bytes it touches
@@ -47,6 +47,7 @@ export const DONE = 0;
  * @property {string | undefined} error what the call throws wherever it is made
  * @property {{ offset: number, length: number, index: number } | undefined} outside of a call that is at no element of
  * its array: what its array is, and the index
+ * @property {number | bigint | undefined} returns what a store returns, if no script can have its operand
  * @property {Uint8Array | undefined} written by a write
  * @property {boolean} isAlone whether it is a read that is an act of its own
  * @property {string | undefined} text that it threw
@@ -56,7 +57,8 @@ export const DONE = 0;
 /** @param {Partial<Node> & Pick<Node, "id" | "automaton" | "does">} given @returns {Node} with what isn't given */
 export const nodeOf = (given) => ({
   kind: 0, block: 0, byte: 0, size: 0, at: 0, operands: [], raw: [], limit: undefined, error: undefined,
-  outside: undefined, written: undefined, isAlone: false, text: undefined, edges: new Map(), ...given,
+  outside: undefined, returns: undefined, written: undefined, isAlone: false, text: undefined, edges: new Map(),
+  ...given,
 });
 
 /** @param {Node} node @returns {boolean} whether it is a call of Atomics */

@@ -6,7 +6,7 @@ import nodeUtil from "node:util";
 import { methodOf, replace } from "../../agent/ordinary/patch.mjs";
 import { boundOf } from "./bound-functions.mjs";
 import {
-  apply, defineProperty, getOwnPropertyDescriptor, getPrototypeOf, isObject, uncurried,
+  apply, defineProperty, getOwnPropertyDescriptor, getPrototypeOf, isObject, ownKeys, uncurried,
 } from "../../primordials.mjs";
 
 /** @typedef {import("./named-builtins.mjs").NamedBuiltins} NamedBuiltins */
@@ -31,12 +31,25 @@ export function knowFirstPrototypes(builtins) {
 /** @param {object} object @returns {boolean} whether it may keep more than its prototype says */
 export const hadOtherPrototype = (object) => isAny || has(noted, object);
 
+/** What the texts of functions end with that nobody's JavaScript has made. */
+const NATIVE = "{ [native code] }";
+const textOf = uncurried(functions.toString);
+const endsWith = uncurried(String.prototype.endsWith);
+
+/** @param {object} owner @returns {boolean} whether it has a native function that isn't known: node's own code does */
+function isOfNative(owner) {
+  return ownKeys(owner).some((key) => {
+    const value = getOwnPropertyDescriptor(owner, key)?.value;
+    return typeof value === "function" && known?.nameOf(value) === undefined && endsWith(textOf(value), NATIVE);
+  });
+}
+
 /** @param {object} object @returns {boolean} whether by its prototypes it may keep something out of sight */
 function mayKeepMore(object) {
   for (let owner = getPrototypeOf(object); owner !== null; owner = getPrototypeOf(owner)) {
     if (isProxy(owner) || has(noted, owner)) return true;
     if (known?.plain.has(owner)) return false;
-    if (known?.nameOf(owner) !== undefined) return true;
+    if (known?.nameOf(owner) !== undefined || isOfNative(owner)) return true;
   }
   return false;
 }

@@ -6,6 +6,9 @@ import { apply, getPrototypeOf, isObject } from "../../primordials.mjs";
 import { numberOf } from "./installed.mjs";
 import { shownIteratorOf } from "./shown-iterators.mjs";
 
+// What is put in its place takes no watched array for one.
+const { isProxy } = types;
+
 /** What a loop goes through. */
 export class LoopSteps {
   [Symbol.iterator]() {
@@ -113,7 +116,7 @@ function* keysFrom(object) {
 
 /** @param {unknown} object @returns {boolean} whether it is a proxy, or inherits from one */
 function hasProxy(object) {
-  for (let at = object; isObject(at); at = getPrototypeOf(at)) if (types.isProxy(at)) return true;
+  for (let at = object; isObject(at); at = getPrototypeOf(at)) if (isProxy(at)) return true;
   return false;
 }
 

@@ -1,5 +1,6 @@
 // What node keeps, and agents can set by setters that can't be replaced: it has to be as it was at first.
 
+import { EventEmitter } from "node:events";
 import util from "node:util";
 import { is, ownKeys } from "../../primordials.mjs";
 
@@ -11,7 +12,7 @@ function settingsNow() {
   const { defaultOptions: options } = inspect;
   const keys = ownKeys(options);
   /** @type {unknown[]} */
-  const values = [process.exitCode];
+  const values = [process.exitCode, EventEmitter.captureRejections, EventEmitter.defaultMaxListeners];
   for (let at = 0; at < keys.length; at += 1) values[values.length] = options[keys[at]];
   return values;
 }

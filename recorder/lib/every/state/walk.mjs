@@ -206,6 +206,7 @@ export class Walk {
     const template = templateNumber(object);
     if (template !== undefined) {
       this.out.push(`T${template}`);
+      this.#private(object);
       return;
     }
     if (object === UNKNOWN_VALUE) throw new CantShow("how a `try` was left, or how far a loop is");
@@ -216,7 +217,7 @@ export class Walk {
     }
     const watched = anyWatchedOf(object);
     const isMemory = watched === undefined && (types.isAnyArrayBuffer(object) || ArrayBuffer.isView(object));
-    if (watched !== undefined) this.#watched(watched);
+    if (watched !== undefined) this.#watched(object, watched);
     else if (isProxy(object)) throw new CantShow("a proxy");
     else if (typeof object === "function") this.#function(object);
     else if (isMemory) this.#memory(object);
@@ -228,11 +229,12 @@ export class Walk {
     if (watched === undefined && !isMemory && typeof object !== "function") this.#properties(object);
   }
 
-  /** @param {import("../../agent/ordinary/watched.mjs").Watched} watched */
-  #watched({ real, buffer, place: { block, kind, offset, length } }) {
+  /** @param {object} object as agents have it @param {import("../../agent/ordinary/watched.mjs").Watched} watched */
+  #watched(object, { real, buffer, place: { block, kind, offset, length } }) {
     this.out.push("view", block, kind, offset, length);
     this.value(buffer);
-    this.#others(real, types.isTypedArray(real) ? length : 0);
+    if (types.isTypedArray(real)) this.#others(real, length);
+    else this.#others(object, 0);
   }
 
   /** @param {object} object with elements @param {number} length how many they are */

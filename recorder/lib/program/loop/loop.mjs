@@ -5,6 +5,7 @@
 import { Random } from "../../memory/random.mjs";
 import { runTicks, underWay } from "../node/internals.mjs";
 import { KeptAlive } from "./kept-alive.mjs";
+import { Tasks } from "./tasks.mjs";
 import { never, turnLater } from "../real/real-loop.mjs";
 import { FILE_REQUESTS, isForeign, pendingOf } from "../real/real-work.mjs";
 
@@ -40,8 +41,7 @@ const HELD = Object.freeze({ isSome: true, byThemselves: false, texts: ["an answ
  */
 
 export class Loop {
-  /** @type {{ text: string, place: string | undefined, act: () => void }[]} */
-  #tasks = [];
+  #tasks = new Tasks();
 
   /** Whether the loop has just turned: then timers come first. */
   #isTurning;
@@ -75,15 +75,20 @@ export class Loop {
   /** @param {Served} served */
   constructor(served) {
     this.served = served;
-    this.kept = new KeptAlive(served, () => this.#tasks.length > 0);
+    this.kept = new KeptAlive(served, () => this.#tasks.count > 0);
     this.#isTurning = served.hasPhases;
     // A row of its own: so a thread does the same if only others are drawn in another order.
     this.random = new Random(new Int32Array(4));
   }
 
-  /** @param {string} text what a task of the thread's own does @param {() => void} act @param {string} [place] */
-  later(text, act, place) {
-    this.#tasks.push({ text, act, place: this.#notes ? this.served.here() ?? place : undefined });
+  /**
+   * @param {string} text what a task does
+   * @param {() => void} act
+   * @param {string} [place]
+   * @param {import("../sync/trips.mjs").Order} [order] if it has a result
+   */
+  later(text, act, place, order) {
+    this.#tasks.push({ text, act, place: this.#notes ? this.served.here() ?? place : undefined, order });
   }
 
   /** Whether it is noted what the loop begins. */
@@ -105,7 +110,7 @@ export class Loop {
   /** Nothing of an earlier run is left. */
   clear() {
     this.served.locks.clear();
-    this.#tasks = [];
+    this.#tasks.clear();
     this.#isTurning = this.served.hasPhases;
     this.#looks = false;
     this.#mayPoll = true;
@@ -124,6 +129,7 @@ export class Loop {
     this.#evaluate = evaluate;
     this.random.seed(board.clock.seed());
     this.random.branch(TASKS + agent);
+    this.#tasks.begin(board.clock.seed(), agent, board.mode.isPilot);
     this.#next = turnLater(this.#begins);
   }
 
@@ -280,13 +286,13 @@ export class Loop {
   /** Whether there is something to do besides promises of waitAsync: node doesn't look at those after `beforeExit`. */
   #hasOwnTask() {
     const { ports, timers: { deadline, immediates } } = this.served;
-    return this.#tasks.length > 0 || immediates > 0 || deadline <= this.#now() || ports.ready().length > 0;
+    return this.#tasks.count > 0 || immediates > 0 || deadline <= this.#now() || ports.ready().length > 0;
   }
 
   /** @returns {boolean} whether only unref'ed immediates are left, besides what the machine may bring */
   #isLeft() {
     const { ports, timers: { areLeft }, waits } = this.served;
-    if (!areLeft || !this.#looks || !this.#isTurning || this.#tasks.length > 0) return false;
+    if (!areLeft || !this.#looks || !this.#isTurning || this.#tasks.count > 0) return false;
     if (waits.isWoken || this.#deadline() <= this.#now()) return false;
     return ports.ready().length === 0 && !this.kept.isSome();
   }
@@ -347,19 +353,18 @@ export class Loop {
       this.#before.set(port, (this.#before.get(port) ?? 0) - 1);
       ports.deliver(port);
     });
-    const task = this.#tasks[0];
-    if (task !== undefined) {
-      acts.push(() => {
-        this.#tasks.shift();
-        this.note(task.text, task.place);
-        task.act();
-      });
-    }
+    if (this.#tasks.count > 0) acts.push(() => this.#runTask());
     if (waits.isWoken) acts.push(() => waits.settle());
     else if (armed.immediates > 0) {
       if (!isFirst) acts.push(() => this.#runImmediate());
     } else if (isDue) acts.push(this.#runDue);
     return acts;
+  }
+
+  #runTask() {
+    const { text, place, act } = this.#tasks.take();
+    this.note(text, place);
+    act();
   }
 
   /** @param {any[]} ready the ports that have messages @returns {boolean} whether some come before the immediates */

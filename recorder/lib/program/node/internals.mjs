@@ -302,9 +302,10 @@ withHidden("ModuleWrap.prototype", ModuleWrap?.prototype ?? {}, ["evaluate"]);
 /**
  * @param {string} specifier
  * @param {string} parentURL of the module that imports it
- * @returns {string} the URL of what it stands for
+ * @returns {{ url: string, format: string | null | undefined }} the URL of what it stands for, and as what node takes
+ * that; null or undefined: its text says
  */
-export const resolveModule = (specifier, parentURL) => defaultResolve(specifier, { parentURL }).url;
+export const resolveModule = (specifier, parentURL) => defaultResolve(specifier, { parentURL });
 
 /** Compiles a module of node's own once more. */
 const { compileFunction } = below("builtins", { compileFunction: "function" });

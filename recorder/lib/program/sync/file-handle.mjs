@@ -26,6 +26,9 @@ export function takeWatching() {
 
 export const BUFFER_SIZE = 16_384;
 
+/** How many requests read a file that is open: its size, and then its bytes. */
+const READS_WHOLE = 2;
+
 /** @param {any} options @returns {string | null | undefined} */
 const encodingOf = (options) => (typeof options === "string" ? options : options?.encoding);
 
@@ -58,14 +61,14 @@ export class FileHandle extends Emitter {
   /**
    * @param {string} name
    * @param {(fd: number) => any} act
-   * @param {AbortSignal} [signal]
+   * @param {{ signal?: AbortSignal, trips?: number }} [how]
    * @returns {Promise<any>}
    */
-  #do(name, act, signal) {
+  #do(name, act, { signal, trips = 1 } = {}) {
     return promiseLater(this.#given, name, () => {
       if (this.#fd === -1) throw nodeError("EBADF", "file closed", { syscall: name });
       return act(this.#fd);
-    }, signal);
+    }, { signal, order: { trips, of: this } });
   }
 
   /** @param {any} data @param {any} [options] */
@@ -87,7 +90,9 @@ export class FileHandle extends Emitter {
     if (this.#fd === -1) return this.#closing ?? Promise.resolve();
     const fd = this.#fd;
     this.#fd = -1;
-    this.#closing = promiseLater(this.#given, "close", () => engine.closeSync(fd));
+    // Node closes it when all that was begun is done.
+    const order = { trips: 1, of: this, isLast: true };
+    this.#closing = promiseLater(this.#given, "close", () => engine.closeSync(fd), { order });
     this.emit("close");
     return this.#closing;
   }
@@ -117,7 +122,8 @@ export class FileHandle extends Emitter {
 
   /** @param {any} [options] */
   readFile(options) {
-    return this.#do("read", (fd) => engine.readFileSync(fd, encodingOf(options)), options?.signal);
+    const how = { signal: options?.signal, trips: READS_WHOLE };
+    return this.#do("read", (fd) => engine.readFileSync(fd, encodingOf(options)), how);
   }
 
   /** @param {any} [options] */
@@ -157,7 +163,7 @@ export class FileHandle extends Emitter {
   /** @param {any} data @param {any} [options] */
   async writeFile(data, options) {
     const write = (/** @type {any} */ piece) =>
-      this.#do("write", (fd) => engine.appendFileSync(fd, piece, encodingOf(options)), options?.signal);
+      this.#do("write", (fd) => engine.appendFileSync(fd, piece, encodingOf(options)), { signal: options?.signal });
     if (!isInPieces(data)) return write(data);
     for await (const piece of data) await write(piece);
     return undefined;

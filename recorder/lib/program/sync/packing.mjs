@@ -6,6 +6,7 @@ import zlib from "node:zlib";
 import { copying } from "../../agent/ordinary/guards.mjs";
 import { doesOtherwise } from "../../processes/node-versions.mjs";
 import { apply, weakGet, weakSet } from "../../primordials.mjs";
+import { ONE_TRIP } from "./trips.mjs";
 import { packers, streamOf } from "../node/internals.mjs";
 import { replaceCall } from "./sync-calls.mjs";
 
@@ -35,7 +36,7 @@ function putOne({ later, isPlaying = () => true, here = () => undefined }, proto
       // A stream that was closed meanwhile has no packer any more.
       if (stream._handle === this) apply(writeSync, this, given);
       if (stream.errored === errored) apply(about.done, this, []);
-    }, about.where);
+    }, about.where, ONE_TRIP);
   };
   /** @this {any} */
   prototype.reset = function () {

@@ -3,6 +3,7 @@
 
 import { apply } from "../../primordials.mjs";
 import { isBlob, kHandle } from "../node/internals.mjs";
+import { OF_ENGINE } from "./trips.mjs";
 import { promiseLater, replaceCall } from "./sync-calls.mjs";
 
 /** @typedef {import("./sync-calls.mjs").SyncVersionContext} SyncVersionContext */
@@ -12,6 +13,8 @@ const engine = globalThis;
 const { Blob: EngineBlob, ReadableStream: EngineStream, TextDecoderStream: EngineDecoder } = engine;
 const { Uint8Array: EngineBytes } = globalThis;
 const { concat } = Buffer;
+
+const READ = Object.freeze({ order: OF_ENGINE });
 
 /** What the bytes of a blob are followed by, as node's reader has it. */
 const END = 0;
@@ -39,7 +42,7 @@ function streamOf(given, parts) {
   let at = 0;
   return new EngineStream({
     type: "bytes",
-    pull: (/** @type {any} */ controller) => promiseLater(given, "Blob.stream", () => {}).then(() => {
+    pull: (/** @type {any} */ controller) => promiseLater(given, "Blob.stream", () => {}, READ).then(() => {
       if (at < parts.length) controller.enqueue(parts[at]);
       at += 1;
       if (at < parts.length) return;

@@ -3,14 +3,16 @@
 import { AsyncResource } from "node:async_hooks";
 import { replaceNeeded } from "../../agent/ordinary/patch.mjs";
 import { apply, construct } from "../../primordials.mjs";
+import { orderOf } from "./trips.mjs";
 
 /**
  * @typedef {object} SyncVersionContext
- * @property {(name: string, act: () => void, place?: string) => void} later lets the thread's loop run a task; `place`
- *   is where the program has begun it, if its code doesn't run now
+ * @property {(name: string, act: () => void, place?: string, order?: Order) => void} later lets the thread's loop run a
+ *   task; `place` is where the program has begun it, if its code doesn't run now, and `order` where its result may come
  * @property {() => string | undefined} [here] where the program's code is
  * @property {() => boolean} [isPlaying] whether the program runs; until then all is node's own
  */
+/** @typedef {import("./trips.mjs").Order} Order */
 /** @typedef {{ value?: any, problem?: any }} CallOutcome */
 /** @typedef {(...given: any[]) => any} AnyFunction */
 
@@ -46,10 +48,11 @@ const resultOf = (name) => `has the result of ${name}`;
  * @param {string} name
  * @param {Function} done
  * @param {unknown[]} values
+ * @param {Order} [order]
  */
-export function callLater({ later }, name, done, values) {
+export function callLater({ later }, name, done, values, order = orderOf(name)) {
   const resource = construct(/** @type {any} */ (AsyncResource), ["FSREQCALLBACK"]);
-  later(resultOf(name), () => resource.runInAsyncScope(done, undefined, ...values));
+  later(resultOf(name), () => resource.runInAsyncScope(done, undefined, ...values), undefined, order);
 }
 
 /**
@@ -57,17 +60,17 @@ export function callLater({ later }, name, done, values) {
  * @param {SyncVersionContext} given
  * @param {string} name
  * @param {() => any} act done now
- * @param {AbortSignal} [signal]
+ * @param {{ signal?: AbortSignal, order?: Order }} [how]
  * @returns {Promise<any>}
  */
-export function promiseLater({ later }, name, act, signal) {
+export function promiseLater({ later }, name, act, { signal, order = orderOf(name) } = {}) {
   const { value, problem } = outcomeOf(act);
   return new Promise((resolve, reject) => {
     later(resultOf(name), () => {
       if (signal?.aborted) reject(abortError(signal));
       else if (problem === undefined) resolve(value);
       else reject(problem);
-    });
+    }, undefined, order);
   });
 }
 

@@ -99,7 +99,7 @@ function putPromises(given) {
   const put = (name, sync) => replaceCall(promises, name, (/** @type {any[]} */ ...all) => {
     const signal = all.at(-1)?.signal;
     if (!isPlaying() || signal?.aborted) return enginePromises[name](...all);
-    return promiseLater(given, name, () => sync(...all), signal);
+    return promiseLater(given, name, () => sync(...all), { signal });
   });
   const hasSyncVersion = (/** @type {string} */ name) =>
     typeof promises[name] === "function" && typeof engine[`${name}Sync`] === "function";

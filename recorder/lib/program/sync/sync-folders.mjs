@@ -22,15 +22,17 @@ function putMethod(given, name) {
   replaceCall(prototype, name, /** @this {any} */ function (/** @type {any} */ done) {
     if (!isPlaying() || (done !== undefined && typeof done !== "function")) return apply(engine, this, [done]);
     const { value, problem = null } = outcomeOf(() => apply(sync, this, []));
+    // What is asked of one folder comes in its order.
+    const order = { trips: 1, of: this, isLast: true };
     // Node says so at once, or by a promise, as its version has it.
     if (problem?.code === CLOSED) return apply(engine, this, [done]);
     if (done === undefined) {
       return promiseLater(given, name, () => {
         if (problem !== null) throw problem;
         return value;
-      });
+      }, { order });
     }
-    return callLater(given, name, done, problem === null && name === "read" ? [null, value] : [problem]);
+    return callLater(given, name, done, problem === null && name === "read" ? [null, value] : [problem], order);
   });
 }
 

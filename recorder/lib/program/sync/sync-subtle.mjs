@@ -2,6 +2,7 @@
 // later.
 
 import { apply } from "../../primordials.mjs";
+import { ONE_TRIP } from "./trips.mjs";
 import { subtleOver } from "../node/internals.mjs";
 import { replaceCall } from "./sync-calls.mjs";
 
@@ -23,7 +24,7 @@ export function putSubtle(given) {
     const engine = prototype[name];
     replaceCall(prototype, name, /** @this {any} */ function (/** @type {any[]} */ ...all) {
       if (!isPlaying() || this !== subtle) return apply(engine, this, all);
-      made ??= subtleOver((act) => later("has a result of crypto.subtle", act));
+      made ??= subtleOver((act) => later("has a result of crypto.subtle", act, undefined, ONE_TRIP));
       return made[name](...all);
     });
   }

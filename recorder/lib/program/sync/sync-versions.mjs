@@ -3,6 +3,7 @@
 // `crypto` has when `putSyncVersions` is called.
 
 import crypto from "node:crypto";
+import { OF_ENGINE } from "./trips.mjs";
 import { putFiles } from "./sync-files.mjs";
 import { putFolders } from "./sync-folders.mjs";
 import { promiseLater, putSyncVersion, replaceCall } from "./sync-calls.mjs";
@@ -62,9 +63,10 @@ function putWebAssembly(given) {
   const owner = /** @type {any} */ (globalThis).WebAssembly;
   const { Module, Instance, compile, instantiate } = owner;
   const { isPlaying = () => true } = given;
+  const how = { order: OF_ENGINE };
   replaceCall(owner, "compile", (/** @type {any} */ bytes) => {
     if (!isPlaying()) return compile(bytes);
-    return promiseLater(given, "WebAssembly.compile", () => named(() => new Module(bytes), "compile"));
+    return promiseLater(given, "WebAssembly.compile", () => named(() => new Module(bytes), "compile"), how);
   });
   replaceCall(owner, "instantiate", (/** @type {any} */ source, /** @type {any} */ imports) => {
     if (!isPlaying()) return instantiate(source, imports);
@@ -72,7 +74,7 @@ function putWebAssembly(given) {
       if (source instanceof Module) return new Instance(source, imports);
       const module = new Module(source);
       return { module, instance: new Instance(module, imports) };
-    }, "instantiate"));
+    }, "instantiate"), how);
   });
 }
 

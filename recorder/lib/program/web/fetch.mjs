@@ -4,6 +4,7 @@
 import fs from "node:fs";
 import { fileURLToPath } from "node:url";
 import { likeEngine, put } from "../../primordials.mjs";
+import { OF_ENGINE } from "../sync/trips.mjs";
 
 /** @type {any} */
 const scope = globalThis;
@@ -17,7 +18,7 @@ const NOT_FOUND = Object.freeze({ status: 404, statusText: "Not Found" });
 
 /**
  * @typedef {object} Fetching what `fetch` needs of its thread
- * @property {(name: string, act: () => void) => void} later does something as a task of its own
+ * @property {import("../sync/sync-calls.mjs").SyncVersionContext["later"]} later does something as a task of its own
  * @property {(why: string) => never} refuse ends the run
  * @property {import("./blobs.mjs").Blobs} blobs
  */
@@ -85,7 +86,7 @@ export function fetchOf({ later, refuse, blobs }) {
     if (bytes === undefined && url.startsWith("blob:")) throw new EngineTypeError("Failed to fetch");
     return await new Promise((resolve, reject) => {
       signal.addEventListener("abort", () => reject(signal.reason));
-      later("has the result of fetch", () => resolve(responseOf(url, bytes)));
+      later("has the result of fetch", () => resolve(responseOf(url, bytes)), undefined, OF_ENGINE);
     });
   };
   return likeEngine(fetch, scope.fetch);

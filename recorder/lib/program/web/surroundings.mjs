@@ -2,12 +2,13 @@
 // is a dedicated worker.
 
 import { apply } from "../../primordials.mjs";
-import { member } from "../../agent/ordinary/patch.mjs";
+import { member, showEngineTexts } from "../../agent/ordinary/patch.mjs";
 import { KIND, channelClass } from "../ports/ports.mjs";
 import { Blobs } from "./blobs.mjs";
 import { WebEnds } from "./web-ends.mjs";
 import { fetchOf } from "./fetch.mjs";
 import { beginGlobals, installGlobals } from "./globals.mjs";
+import { NativeFunctions } from "./native-texts.mjs";
 import { WebModuleGraph } from "./web-graph.mjs";
 import { WebPorts, eventOfMessage, serveWebPorts, webBroadcastClass } from "./web-ports.mjs";
 import { serveWorkers, webWorkerClass } from "./worker-object.mjs";
@@ -16,7 +17,7 @@ const { TypeError: EngineTypeError } = globalThis;
 const { wait: engineWait } = Atomics;
 
 /** @typedef {import("./worker-object.mjs").WebStart} WebStart */
-/** @typedef {{ ends: WebEnds, ports: WebPorts, blobs: Blobs }} WebServices */
+/** @typedef {{ ends: WebEnds, ports: WebPorts, blobs: Blobs, natives: NativeFunctions }} WebServices */
 /** @typedef {import("../thread/thread-services.mjs").ThreadServices & WebServices} WebParts */
 
 /** @param {number} agent @returns {typeof Atomics} the engine's own; in a page `wait` throws, as the engine's does */
@@ -42,6 +43,9 @@ function install(parts, graph) {
   installGlobals(parts, targets, (url) => graph.script(url)());
   member(globalThis, "fetch", fetchOf(parts));
   serveWorkers(targets);
+  const natives = new NativeFunctions();
+  Object.assign(parts, { natives });
+  showEngineTexts((fn) => natives.has(fn));
 }
 
 /**
@@ -59,10 +63,12 @@ function begin(parts, start, parentPort) {
     };
   }
   const casting = { ports, moves, control, buffers };
-  beginGlobals(start, {
+  const classes = {
     Worker: webWorkerClass({ ...parts, targets, base: start.url }), MessageChannel: channelClass(ports),
     BroadcastChannel: webBroadcastClass(casting, targets),
-  });
+  };
+  Object.values(classes).forEach((each) => parts.natives.add(each));
+  beginGlobals(start, classes);
 }
 
 /**
