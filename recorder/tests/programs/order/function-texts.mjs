@@ -37,7 +37,8 @@ for (const name of ["fips", "prng", "pseudoRandomBytes", "rng", "getDiffieHellma
 for (const [name, owner] of Object.entries({ buffer, ofCrypto, fs, threads, zlib })) walk(name, owner, 1);
 console.log(texts.size > 700);
 // The texts of node's own functions are long.
-const shortOf = (text) => (text.length < 100 ? text : `${text.slice(0, 60)} .. ${text.length}`).replace(/\s+/g, " ");
+const sumOf = (text) => crypto.createHash("sha1").update(text).digest("hex").slice(0, 12);
+const shortOf = (text) => (text.includes("[native code]") ? text : `${text.length} characters: ${sumOf(text)}`);
 for (const name of [...texts.keys()].sort()) console.log(name, shortOf(texts.get(name)));
 console.log(`${class { a = 1; }}`);
 try {
