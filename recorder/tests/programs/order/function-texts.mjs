@@ -30,10 +30,9 @@ const LANGUAGE = [
 ];
 for (const name of LANGUAGE) walk(name, globalThis[name], 3);
 // Of these node has getters, which are gone once something is put in their place.
-const ofCrypto = Object.defineProperties({}, Object.getOwnPropertyDescriptors(crypto));
-for (const name of ["fips", "prng", "pseudoRandomBytes", "rng", "getDiffieHellman", "createDiffieHellmanGroup"]) {
-  delete ofCrypto[name];
-}
+const GETTERS = ["fips", "prng", "pseudoRandomBytes", "rng", "getDiffieHellman", "createDiffieHellmanGroup"];
+const rest = Object.entries(Object.getOwnPropertyDescriptors(crypto)).filter(([name]) => !GETTERS.includes(name));
+const ofCrypto = Object.defineProperties({}, Object.fromEntries(rest));
 for (const [name, owner] of Object.entries({ buffer, ofCrypto, fs, threads, zlib })) walk(name, owner, 1);
 console.log(texts.size > 700);
 // The texts of node's own functions are long.
