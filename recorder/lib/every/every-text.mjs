@@ -76,14 +76,6 @@ function bySearch({ acts, changes, detail, states }) {
 /** @param {FoundData} found by real runs alone @param {number} made how many there were */
 const byRuns = ({ runs, seed }, made) => `in ${digits(runs)} of ${countText(made, "real run")}, seed ${seed} the first`;
 
-/** @param {EveryData} data of agents that never end @returns {string[]} */
-const neverEndsLines = ({ advice }) =>
-  ["each real run was cut when an agent had made 100 calls", ...advice.filter((each) => each === LET_END).map(toChange)]
-    .map(indented);
-
-/** @param {string} sentence @returns {string} */
-const toChange = (sentence) => `to change: ${sentence}`;
-
 /** @param {EveryData} data */
 function untriedText({ choices }) {
   if (choices === 0) return "other numbers of agents, rounds or arguments weren't tried";
