@@ -23,8 +23,12 @@ function whole(thrown) {
   }
 }
 
+/** @param {unknown} thrown @returns {boolean} whether its message may quote code: that of a clone has a function's text */
+const mayQuote = (thrown) =>
+  thrown instanceof TypeError || (thrown instanceof DOMException && thrown.name === "DataCloneError");
+
 /** @param {unknown} thrown @param {string} title of it @returns {boolean} whether that names rewritten code */
-export const namesRewritten = (thrown, title) => thrown instanceof TypeError && OWN_NAMES.test(title);
+export const namesRewritten = (thrown, title) => mayQuote(thrown) && OWN_NAMES.test(title);
 
 /**
  * What goes wrong in `init` or `check`.

@@ -101,8 +101,10 @@ function writeObject(writer, tree, info) {
     if (one.type === "SpreadElement") return [one];
     return [...(one.computed ? [one.key] : []), ...(isMethod(one) ? [] : [one.value])];
   });
-  const last = values.map(runsCode).lastIndexOf(true);
   const keys = new Set(properties.flatMap((/** @type {Tree} */ one) => (one.computed ? [one.key] : [])));
+  // Code may run when a key is made a text.
+  const runs = (/** @type {Tree} */ one) => (keys.has(one) ? !isConstant(one) : runsCode(one));
+  const last = values.map(runs).lastIndexOf(true);
   /** @type {Set<Tree>} */
   const shorthand = new Set(properties.flatMap((/** @type {Tree} */ one) => (one.shorthand ? [one.value] : [])));
   values.forEach((/** @type {Tree} */ one, /** @type {number} */ at) => {

@@ -36,8 +36,12 @@ const RUNS = /^(?:Call|New|TaggedTemplate|Member|Chain|Import|Yield|Await|Class|
  */
 export function runsCode(tree) {
   if (tree === null || tree === undefined || isFunction(tree)) return false;
-  return RUNS.test(tree.type) || childrenOf(tree).some(runsCode);
+  return RUNS.test(tree.type) || makesMemberKey(tree) || childrenOf(tree).some(runsCode);
 }
+
+/** @param {Tree} tree @returns {boolean} whether it is a member of an object or a class whose key is made a text */
+const makesMemberKey = ({ type, computed, key }) =>
+  (type === "Property" || type === "PropertyDefinition" || type === "MethodDefinition") && computed && !isConstant(key);
 
 /** @param {Tree} tree in a chain @returns {boolean} whether that may end before the tree's end */
 export function hasOptional({ type, optional, object, callee }) {

@@ -204,6 +204,9 @@ export class Capture {
 /** @type {Called} the step of a loop that is shown, or its `next` */
 const OF_ITERATORS = Object.freeze({ name: "next", id: -1, isAccessor: false });
 
+/** @type {Called} a function of Atomics, which isn't shown if the engine calls it, as it does to make a key a text */
+const OF_ATOMICS = Object.freeze({ name: "a function of Atomics", id: -3, isAccessor: false });
+
 /** @type {Called} what agents choose by, which is no accessor of theirs */
 const OF_CHOICES = Object.freeze({ name: "a function that chooses", id: -2, isAccessor: false });
 
@@ -222,17 +225,17 @@ const fileOf = (site) => site?.getFileName() ?? "";
  * Above the agents' own functions may only be what a call of Atomics, a choice, or the read of an element begins with,
  * and a step of a loop that is shown: others of the recorder's functions have more to do.
  * @param {NodeJS.CallSite[]} frames
- * @returns {Called | undefined} such a step, or what chooses, if the agents have called one of these
+ * @returns {Called | undefined} such a step, or what is called, if it isn't the read of an element
  */
 function needsDirect(frames) {
   const isOfRecorder = (/** @type {string} */ file) => file.startsWith(LEARNING) || file.startsWith(STATE);
   const at = frames.findIndex((site) => !isOfRecorder(fileOf(site)));
   const rest = frames.slice(at + 1);
-  const isCall = fileOf(frames[at]) === ATOMICS && rest.length === 0;
+  if (fileOf(frames[at]) === ATOMICS && rest.length === 0) return OF_ATOMICS;
   if (fileOf(frames[at]) === CHOOSING && rest.length === 0) return OF_CHOICES;
   const isElement = fileOf(frames[at]) === ELEMENTS && /\bget$/.test(frames[at].getFunctionName() ?? "");
   const isStep = rest.every((site) => fileOf(site) === ITERATORS);
-  if (isCall || (isElement && isStep)) return rest.length > 0 ? OF_ITERATORS : undefined;
+  if (isElement && isStep) return rest.length > 0 ? OF_ITERATORS : undefined;
   const first = isElement ? rest.find((site) => fileOf(site) !== ITERATORS) : frames[at];
   const name = first?.getFunctionName() ?? "a function";
   throw new CantShow(`${name} of ${fileOf(first).replace(LIBRARY, "")}, which may have more to do`);
