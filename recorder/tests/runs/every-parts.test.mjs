@@ -62,6 +62,8 @@ test("an agent that asks what its number is as a property looks at it", async (c
     "Object.getOwnPropertyDescriptor(given, 'agent').value", "Reflect.getOwnPropertyDescriptor(given, 'agent').value",
     "Object.getOwnPropertyDescriptors(given).agent.value", "given.__lookupGetter__('agent') ?? given.agent",
     "given.__lookupSetter__('agent') ?? given.agent",
+    "Object.defineProperty(given, 'agent', { enumerable: true }).agent",
+    "Object.defineProperties(given, { agent: {} }).agent", "Reflect.defineProperty(given, 'agent', {}) && given.agent",
   ]) {
     const module = moduleOf(context, `export const setup = { agents: 2, buffers: [8] };
 export default (given) => {

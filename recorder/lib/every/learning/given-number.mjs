@@ -49,6 +49,15 @@ const ofAll = (engine) => methodOf((self, given) => {
   return all;
 }, engine);
 
+/** @param {Function} engine what defines properties: it finds the number as it is in a run */
+const defining = (engine) => methodOf((self, given) => {
+  const [object] = given;
+  const found = isObject(object) ? getOwnPropertyDescriptor(object, "agent") : undefined;
+  const shown = inRun(object, found);
+  if (shown !== found) defineProperty(object, "agent", /** @type {PropertyDescriptor} */ (shown));
+  return apply(engine, self, given);
+}, engine);
+
 /** @param {Function} engine what returns a getter or a setter */
 const ofAccessor = (engine) => methodOf((self, given) => {
   const found = apply(engine, self, given);
@@ -58,6 +67,8 @@ const ofAccessor = (engine) => methodOf((self, given) => {
 /** Lets agents find in the property what they find in a run. It is called once, before any of their code is loaded. */
 export function showNumber() {
   for (const owner of [Object, Reflect]) replace(owner, "getOwnPropertyDescriptor", ofProperty);
+  replaceEach(Object, ["defineProperty", "defineProperties"], defining);
+  replace(Reflect, "defineProperty", defining);
   replace(Object, "getOwnPropertyDescriptors", ofAll);
   replaceEach(Object.prototype, ["__lookupGetter__", "__lookupSetter__"], ofAccessor);
 }

@@ -21,7 +21,7 @@ export const HARMLESS_GLOBALS = [
 
 /** What of the process is always the same. */
 export const OF_PROCESS = [
-  "arch", "argv0", "config", "cwd", "execPath", "exitCode", "features", "hrtime", "platform", "release",
+  "arch", "config", "cwd", "execPath", "exitCode", "features", "hrtime", "platform", "release",
   "uptime", "version", "versions",
 ];
 
