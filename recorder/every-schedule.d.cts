@@ -70,8 +70,12 @@ export interface EverySchedule {
   neverEnds: boolean;
   /** How many moments of an agent there are: calls, choices, and reads that are acts of their own. */
   moments: number;
-  /** How many of these are choices. Each number was tried at each of them. */
+  /** How many of these are choices, looks at clocks and random numbers. Each number was tried at each of them. */
   choices: number;
+  /** The line at which an agent looks at a clock and keeps the time from round to round; null if none does. */
+  keptClock: string | null;
+  /** Whether an agent draws random numbers: only the least, one in the middle and the greatest were tried. */
+  drawsRandom: boolean;
   /** How many steps were learned; each twice. */
   edges: number;
   /** How many of these were learned both times by the same history. */

@@ -144,8 +144,12 @@ export interface Outcome {
   shortened?: Shortened;
 }
 
-/** What an agent chose: `again()` returned a boolean, or `choose(n)`, with n as the first number, the second one. */
-export type Choice = ["again", boolean] | ["choose", number, number];
+/**
+ * What an agent chose: `again()` returned a boolean, or `choose(n)`, with n as the first number, the second one. In a
+ * replay of a run of `--all` there may be others: whether a long time had passed at a look at a clock (1), or not (0);
+ * and which random number was drawn. The first number says how many there were to choose from.
+ */
+export type Choice = ["again", boolean] | ["choose" | "time" | "lasting time" | "random", number, number];
 
 /** Bytes of a program's buffer, from `from` to `to` - 1, that are in a block of the script and of the trace. */
 export interface MemoryWindow {

@@ -1,9 +1,13 @@
 // What agents have chosen in a run: what each asked, and what was returned. A kept run has it in a file beside its
 // script.
 
+/** @typedef {"choose" | "time" | "lasting time" | "random"} Chooses what chooses a number */
+
 /**
- * @typedef {["again", boolean] | ["choose", number, number]} AgentChoice what was asked, and what was returned: of
- * `again()` whether it goes on, of `choose(n)` the number n and the one that was chosen
+ * @typedef {["again", boolean] | [Chooses, number, number]} AgentChoice what was asked, and what was returned: of
+ * `again()` whether it goes on, of `choose(n)` the number n and the one that was chosen. In runs of `--all` the tool
+ * chooses besides whether a long time has passed at a look at a clock, 1 of 2, and which random number is drawn. A
+ * lasting time is one that goes on from round to round
  */
 
 /** @typedef {{ agents: AgentChoice[][] }} ChoicesFile what such a file has: each agent's choices in their order */
@@ -17,34 +21,74 @@ export const MOST_CHOICES = 4_000;
 /** In place of the number that `choose` is asked with: `again` was asked, and returned 0 or 1. */
 export const AGAIN = 0;
 
+/** More than the number that `choose` is asked with: something else chooses one of so many numbers. */
+const APART = 2_000;
+
+/** @type {readonly Chooses[]} by how often `APART` is added */
+const KINDS = Object.freeze(["choose", "time", "lasting time", "random"]);
+
+/** @param {Chooses} kind @param {number} count of numbers @returns {number} what is asked, as one number */
+export const askedOf = (kind, count) => APART * KINDS.indexOf(kind) + count;
+
+/** @param {number} asked @returns {Chooses | "again"} */
+export const kindOfAsked = (asked) => (asked === AGAIN ? "again" : KINDS[floor(asked / APART)]);
+
+/** @param {number} asked @returns {number} how many numbers can be chosen */
+export const numbersOf = (asked) => (asked === AGAIN ? 2 : asked % APART);
+
 /** What such a file can't be: the message says why. */
 export class UnlikeChoices extends Error {}
 
 const { isInteger } = Number;
+const { floor } = Math;
+
+/** From how many numbers something else than `choose` chooses at most. */
+const MOST_OF_KIND = Object.freeze({ time: 2, "lasting time": 2, random: 3 });
 
 /** @param {unknown} count @returns {count is number} whether `choose` takes it */
 export const canChooseFrom = (count) => isInteger(count) && Number(count) >= 1 && Number(count) <= MOST_NUMBERS;
 
-/** @param {number} asked `AGAIN`, or the number of `choose` @param {number} returned @returns {AgentChoice} */
-export const choiceOf = (asked, returned) =>
-  (asked === AGAIN ? ["again", returned === 1] : ["choose", asked, returned]);
+/** @param {number} asked as `askedOf` has it, or `AGAIN` @param {number} returned @returns {AgentChoice} */
+export function choiceOf(asked, returned) {
+  const kind = kindOfAsked(asked);
+  return kind === "again" ? ["again", returned === 1] : [kind, numbersOf(asked), returned];
+}
 
 /** @param {AgentChoice} choice @returns {number} what was asked, as `choiceOf` takes it */
-export const askedBy = ([does, asked]) => (does === "again" ? AGAIN : asked);
+export const askedBy = (choice) => (choice[0] === "again" ? AGAIN : askedOf(choice[0], choice[1]));
 
 /** @param {AgentChoice} choice @returns {number} what was returned: of `again` 0 or 1 */
-export const returnedBy = ([does, asked, number]) => Number(does === "again" ? asked : number);
+export const returnedBy = (choice) => Number(choice[0] === "again" ? choice[1] : choice[2]);
 
-/** @param {AgentChoice} choice @returns {string} what was asked, as the code has it */
-export const askedText = ([does, count]) => (does === "again" ? "again()" : `choose(${count})`);
+/** @param {AgentChoice} choice @returns {string} what was asked, as the code has it, or in words */
+export function askedText([does, count]) {
+  switch (does) {
+    case "again": return "again()";
+    case "choose": return `choose(${count})`;
+    case "random": return `a random number, 1 of ${count}`;
+    default: return "a look at a clock";
+  }
+}
 
 /** @param {AgentChoice} choice @returns {string} what was asked and returned */
-export const choiceText = (choice) => `${askedText(choice)}, which returned ${choice.at(-1)}`;
+export function choiceText(choice) {
+  const [does] = choice;
+  if (does === "again" || does === "choose") return `${askedText(choice)}, which returned ${choice.at(-1)}`;
+  return `${askedText(choice)}, ${does === "random" ? `the one at ${choice[2]}` : passedText(choice)}`;
+}
+
+/** @param {AgentChoice} choice at a look at a clock @returns {string} */
+const passedText = (choice) => (returnedBy(choice) === 1 ? "after a long time" : "at once");
 
 /** @param {AgentChoice} choice @returns {string} the same, as what its agent did */
-export function chosenText([does, asked, number]) {
-  if (does === "choose") return `chose ${number} of ${asked}`;
-  return asked ? "chose to go on" : "chose not to go on";
+export function chosenText(choice) {
+  const [does, asked, number] = choice;
+  switch (does) {
+    case "again": return asked ? "chose to go on" : "chose not to go on";
+    case "choose": return `chose ${number} of ${asked}`;
+    case "random": return `drew the random number at ${number} of ${asked}`;
+    default: return `looked at a clock ${passedText(choice)}`;
+  }
 }
 
 /** @param {AgentChoice[][]} agents the choices of each @returns {string} the text of their file */
@@ -86,8 +130,8 @@ function needList(list, agent) {
   }
   const at = list.findIndex((choice) => !isChoice(choice));
   if (at < 0) return;
-  const forms = '["again",true], ["again",false] or ["choose",n,k]';
-  const bounds = `with whole numbers n from 1 to ${MOST_NUMBERS} and k from 0 to n - 1`;
+  const forms = '["again",true], ["again",false], ["choose",n,k], ["time",n,k], ["lasting time",n,k] or ["random",n,k]';
+  const bounds = `with whole numbers n from 1 to ${MOST_NUMBERS}, 2, 2 or 3 and k from 0 to n - 1`;
   const found = JSON.stringify(list[at]).slice(0, 60);
   throw new UnlikeChoices(`agents[${agent}][${at}] is ${found}, and must be ${forms}, ${bounds}`);
 }
@@ -97,7 +141,8 @@ function isChoice(choice) {
   if (!Array.isArray(choice)) return false;
   const [does, asked, number] = choice;
   if (does === "again") return choice.length === 2 && typeof asked === "boolean";
-  const isAsked = does === "choose" && choice.length === 3 && canChooseFrom(asked);
+  const most = does === "choose" ? MOST_NUMBERS : MOST_OF_KIND[/** @type {keyof typeof MOST_OF_KIND} */ (does)];
+  const isAsked = choice.length === 3 && canChooseFrom(asked) && asked <= most;
   return isAsked && isInteger(number) && number >= 0 && number < asked;
 }
 

@@ -11,6 +11,7 @@
  * @property {import("./messages.mjs").Messages} messages
  * @property {import("./unseen.mjs").Unseen} unseen
  * @property {import("./time.mjs").Chance} chance
+ * @property {import("./own-clock.mjs").OwnClock} ownClock
  * @property {number[]} lengths of the buffers
  * @property {boolean} canBlock
  * @property {"watch" | "store" | "refuse"} ordinary

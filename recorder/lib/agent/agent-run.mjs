@@ -57,6 +57,7 @@ export class AgentRun {
     this.isInside = false;
     this.accesses.begin();
     this.context.sources.mark(UNKNOWN_SOURCE);
+    this.context.ownClock.begin();
     this.isPlaying = true;
     this.isOver = false;
     this.caught = 0;

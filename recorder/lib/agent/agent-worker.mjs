@@ -22,6 +22,7 @@ import { onceMore } from "../processes/garbage.mjs";
 import { recordedAtomics } from "./atomics.mjs";
 import { Chooser } from "./chooser.mjs";
 import { NO_CHOICE, choicesBy } from "./choosing.mjs";
+import { ChosenChance } from "./chosen-chance.mjs";
 import { shareWithContexts } from "./contexts.mjs";
 import { described } from "./described.mjs";
 import { isCalledByAgents, sourceHere } from "./frames.mjs";
@@ -31,6 +32,7 @@ import { blockNumber } from "./ordinary/context.mjs";
 import { showEngineTexts } from "./ordinary/patch.mjs";
 import { watchOrdinary, watchWaysOut } from "./ordinary/watch.mjs";
 import { isWatchable, watchMaking } from "./other-memory.mjs";
+import { OwnClock } from "./own-clock.mjs";
 import { Player } from "./player.mjs";
 import { Chance, simulateChance, simulateTime } from "./time.mjs";
 import { Unseen } from "./unseen.mjs";
@@ -73,6 +75,8 @@ const NO_AGENT = "it has no function as its default export, as `export default f
  * @property {"run" | "real"} clock
  * @property {"fail" | "allow"} unrecorded
  * @property {number} rounds
+ * @property {import("./own-clock.mjs").ChosenTime} [chosenTime] if the tool chooses when time passes, and what chance
+ * gives
  * @property {string} module the URL of the agents' module
  */
 
@@ -84,7 +88,7 @@ const NO_AGENT = "it has no function as its default export, as `export default f
  */
 
 const {
-  port, args, ordinary, clock, unrecorded, rounds, module: file,
+  port, args, ordinary, clock, unrecorded, rounds, chosenTime, module: file,
 } = /** @type {AgentWorkerData} */ (threads.workerData);
 // Agents and their worker get another `postMessage`, which looks at what it is given.
 const post = port.postMessage.bind(port);
@@ -92,10 +96,12 @@ const post = port.postMessage.bind(port);
 /**
  * Which agent it is, or the number of agents if it only calls `init` and `check`; and how its calls are made. None can
  * be while its module is being loaded.
- * @type {{ agent: number, player: Player | undefined, buffers: unknown[] }}
+ * @type {{ agent: number, player: Player | undefined, chooser: Chooser | undefined, buffers: unknown[] }}
  */
-const self = { agent: 0, player: undefined, buffers: [] };
-const chance = new Chance();
+const self = { agent: 0, player: undefined, chooser: undefined, buffers: [] };
+const ownClock = new OwnClock(chosenTime === "lasting");
+const chance = chosenTime === undefined ? new Chance()
+  : new ChosenChance((count) => (isRecording() ? self.chooser?.random(count) : undefined));
 const unseen = new Unseen(unrecorded === "allow");
 
 /** @param {unknown} buffer */
@@ -171,7 +177,8 @@ function installReplacements() {
   printAtOnce();
   // What the recorder has handed its worker is nothing for agents: a thread that was handed nothing has null.
   threads.workerData = null;
-  if (clock === "run") simulateTime(() => (isRecording() ? playing().look() : 0));
+  const look = () => (chosenTime === undefined ? playing() : self.chooser)?.look() ?? 0;
+  if (clock === "run") simulateTime(() => (isRecording() ? look() : 0));
   simulateChance(chance);
   // Else each small one has a place in memory that they share, which goes by all that were made before.
   /** @type {any} */ (Buffer).poolSize = 0;
@@ -294,6 +301,7 @@ function playerOf({ memory, plan, rules }, { later, messages }) {
     messages,
     unseen,
     chance,
+    ownClock,
     lengths: plan.buffers,
     canBlock: plan.canBlock[self.agent],
     ordinary,
@@ -366,5 +374,6 @@ export async function main(load) {
   const player = playerOf(given, noting);
   self.player = player;
   post({ ready: true });
-  serve(module, given.plan.agents, new Chooser(player.part, new Choices(given.memory.choices[self.agent]), rounds));
+  self.chooser = new Chooser(player.part, new Choices(given.memory.choices[self.agent]), rounds);
+  serve(module, given.plan.agents, self.chooser);
 }

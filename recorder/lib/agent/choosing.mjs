@@ -1,6 +1,6 @@
 // What an agent's `again()` and `choose(n)` return: as the seed draws it, or as it is given.
 
-import { AGAIN, MOST_CHOICES, MOST_NUMBERS, canChooseFrom } from "../../script/choices.mjs";
+import { AGAIN, MOST_CHOICES, MOST_NUMBERS, canChooseFrom, kindOfAsked, numbersOf } from "../../script/choices.mjs";
 import { GIVEN } from "../memory/choice-list.mjs";
 import { Random } from "../memory/random.mjs";
 
@@ -8,6 +8,15 @@ const { Int32Array, RangeError: EngineRangeError, String: text } = globalThis;
 
 // `again` is true in all but one of so many cases.
 const ENDS_IN = 4;
+
+// At one of so many looks at a clock a long time has passed.
+const PASSES_IN = 8;
+
+/** @param {number} asked @returns {boolean} whether it is a look at a clock */
+const isLook = (asked) => {
+  const kind = kindOfAsked(asked);
+  return kind === "time" || kind === "lasting time";
+};
 
 /** What is thrown if something else than an agent chooses. */
 export const NO_CHOICE = "only an agent that runs can choose: `init`, `check` and a module that is loaded can't call "
@@ -49,7 +58,7 @@ export class Choosing {
   }
 
   /**
-   * @param {number} asked `AGAIN`, or the number that `choose` is asked with
+   * @param {number} asked as `askedOf` has it, or `AGAIN`
    * @param {boolean} isPilot
    * @returns {number} what is returned, or `NOT_GIVEN` or `NO_ROOM`
    */
@@ -69,21 +78,22 @@ export class Choosing {
   }
 
   /**
-   * The next one that is given and fits. If none does, the agent doesn't go on, and chooses 0.
+   * The next one that is given and fits. If none does, the agent doesn't go on, and chooses 0, but time passes.
    * @param {number} asked
    */
   #leniently(asked) {
     const { choices } = this;
     let { at } = this;
     while (at < choices.given && choices.askedAt(at) !== asked) at += 1;
-    if (at === choices.given) return 0;
+    if (at === choices.given) return isLook(asked) ? numbersOf(asked) - 1 : 0;
     this.at = at + 1;
     return choices.returnedAt(at);
   }
 
   /** @param {number} asked @param {boolean} isPilot which is to show as much as it can */
   #drawn(asked, isPilot) {
-    if (asked !== AGAIN) return this.#below(asked);
+    if (isLook(asked)) return numbersOf(asked) > 1 && !isPilot && this.#below(PASSES_IN) === 0 ? 1 : 0;
+    if (asked !== AGAIN) return this.#below(numbersOf(asked));
     if (this.left === 0 || (!isPilot && this.#below(ENDS_IN) === 0)) return 0;
     this.left -= 1;
     return 1;

@@ -250,10 +250,10 @@ export class Player {
       this.#log(LEAVE, call, FLAG.WAITERS, source);
       return this.#answer("ok", LEAVE);
     }
-    if (isOnlyByTime(call, view, end)) {
-      const line = numberAbove(this.context.sources, called);
-      this.#log(TIME_UP, call, FLAG.WAITERS | FLAG.ONLY_BY_TIME, line);
-    } else this.#log(TIME_UP, call, FLAG.WAITERS, source);
+    const isOnly = isOnlyByTime(call, view, end);
+    const line = isOnly ? numberAbove(this.context.sources, called) : source;
+    this.#log(TIME_UP, call, FLAG.WAITERS | (isOnly ? FLAG.ONLY_BY_TIME : 0), line);
+    this.context.ownClock.timeOut(milliseconds ?? 0);
     return this.#answer("timed-out", TIME_UP);
   }
 

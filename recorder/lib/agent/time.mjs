@@ -22,32 +22,33 @@ const CHANCE = 2 ** 16;
 
 /**
  * Gives a run's time to this realm's clocks.
- * @param {() => number} now in milliseconds from the run's beginning
+ * @param {(isPlain: boolean) => number} now in milliseconds from the run's beginning; whether what the clock returns
+ * goes by the time alone
  */
 export function simulateTime(now) {
-  const today = () => floor(EPOCH + now());
+  const today = (isPlain = true) => floor(EPOCH + now(isPlain));
   /** @type {typeof Date} */
   const Simulated = proxyOf(EngineDate, {
     construct(target, given, made) {
-      const parts = given.length === 0 ? [today()] : given;
+      const parts = given.length === 0 ? [today(made === Simulated)] : given;
       return construct(target, parts, made === Simulated ? target : made);
     },
     apply: () => textOf(new EngineDate(today())),
   });
-  put(EngineDate, "now", likeEngine(today, EngineDate.now));
+  put(EngineDate, "now", likeEngine(() => today(), EngineDate.now));
   put(EngineDate.prototype, "constructor", Simulated);
   put(globalThis, "Date", Simulated);
-  put(performance, "now", likeEngine(() => now(), performance.now));
+  put(performance, "now", likeEngine(() => now(true), performance.now));
   put(performance, "timeOrigin", EPOCH);
   simulateProcess(now);
 }
 
-/** @param {() => number} now */
+/** @param {(isPlain: boolean) => number} now */
 function simulateProcess(now) {
-  const nanoseconds = () => big(floor(now() * 1e6));
+  const nanoseconds = () => big(floor(now(true) * 1e6));
   /** @type {(before?: [number, number]) => [number, number]} */
   const hrtime = (before) => {
-    const time = floor(now() * 1e6);
+    const time = floor(now(before === undefined) * 1e6);
     const seconds = floor(time / 1e9);
     const rest = time % 1e9;
     if (before === undefined) return [seconds, rest];
@@ -56,7 +57,7 @@ function simulateProcess(now) {
   };
   put(hrtime, "bigint", likeEngine(nanoseconds, process.hrtime.bigint));
   put(process, "hrtime", likeEngine(hrtime, process.hrtime));
-  put(process, "uptime", likeEngine(() => now() / 1_000, process.uptime));
+  put(process, "uptime", likeEngine(() => now(true) / 1_000, process.uptime));
 }
 
 /** A row of random numbers that an agent's code draws from. */
@@ -72,8 +73,11 @@ export class Chance {
     this.random.seedApart(seed, CHANCE + this.agent);
   }
 
-  /** @returns {number} from 0, below 1, with 53 bits */
-  fraction() {
+  /**
+   * @param {string} [_what] is made of it besides the number itself
+   * @returns {number} from 0, below 1, with 53 bits
+   */
+  fraction(_what) {
     const high = this.random.next() >>> 5;
     const low = this.random.next() >>> 6;
     return (high * 2 ** 26 + low) / 2 ** 53;
@@ -140,7 +144,7 @@ function simulateNodeChance(chance) {
     if (callback !== undefined) return apply(randomInt, crypto, [from, to, callback]);
     if (!isSafeInteger(from) || !isSafeInteger(to)) throw new TypeError("the bounds must be safe integers");
     if (to <= from || to - from >= 2 ** 48) throw new RangeError("the bounds are out of order, or too far apart");
-    return from + floor(chance.fraction() * (to - from));
+    return from + floor(chance.fraction(`from ${from} to ${to}`) * (to - from));
   };
   put(crypto, "randomInt", likeEngine(randomIntOf, randomInt));
   const { now } = Date;

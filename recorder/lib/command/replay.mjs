@@ -39,6 +39,16 @@ function placeOf({ lengths, canBlock }, options) {
   return { agents: canBlock.length, buffers: lengths, noBlock };
 }
 
+/**
+ * @param {import("../../script/choices.mjs").AgentChoice[][]} agents of a kept run
+ * @returns {import("../agent/own-clock.mjs").ChosenTime | undefined} undefined: the run had a clock
+ */
+function chosenTimeIn(agents) {
+  const kinds = new Set(agents.flat().map(([does]) => does));
+  if (kinds.has("lasting time")) return "lasting";
+  return kinds.has("time") || kinds.has("random") ? "anew" : undefined;
+}
+
 export class Replay extends Replaying {
   /**
    * @param {import("./options.mjs").CommandOptions} options
@@ -77,7 +87,7 @@ export class Replay extends Replaying {
     try {
       // A debugger would stop in each further run of the agents. So there are no pilots: the row says who moves, so
       // they would show nothing of use. And the lines of code are noted at once.
-      return await this.one(seed, { module, ...place, everywhere: true, wanted });
+      return await this.one(seed, { module, ...place, everywhere: true, wanted, chosenTime: chosenTimeIn(choices) });
     } catch (problem) {
       throw problem instanceof NoSuchPlace ? new Refused(this.#otherText(problem)) : problem;
     }

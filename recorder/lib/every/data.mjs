@@ -41,6 +41,8 @@ import { adviceOf } from "./advice.mjs";
  * @property {boolean} neverEnds whether no agent ever ends: each real run is cut when one has made 100 calls
  * @property {number} moments of an agent: calls, choices, and reads that are acts of their own
  * @property {number} choices how many of these are choices
+ * @property {string | null} keptClock the line at which an agent sees a time that it keeps from round to round
+ * @property {boolean} drawsRandom whether an agent draws random numbers
  * @property {number} edges each was learned twice
  * @property {number} edgesByOne of these, both times by the same history
  * @property {number} ways that lead to nodes that have several: each is an edge, behind the shortest way to its start
@@ -65,7 +67,7 @@ import { adviceOf } from "./advice.mjs";
 /** What stands where nothing could be learned. */
 const NOTHING = Object.freeze({
   states: 0, acts: 0, depth: 0, finals: [], finalCount: 0, found: [], neverEnds: false, moments: 0, choices: 0,
-  edges: 0, edgesByOne: 0, ways: 0, waysTried: 0, hidden: [], widest: null,
+  keptClock: null, drawsRandom: false, edges: 0, edgesByOne: 0, ways: 0, waysTried: 0, hidden: [], widest: null,
 });
 
 /** @param {EveryResult} tried @returns {EveryData} */
@@ -74,11 +76,12 @@ export function dataOf({ report, open, shown, onlyRuns, ...tried }) {
   const advice = adviceOf(open, report);
   if (report === undefined) return { ...NOTHING, agents: 0, areAlike: false, advice, ...common };
   const { counts, depth = null, findings, hasLikes, hidden, neverEnds, plan, result, ways, widest } = report;
+  const { drawsRandom, keptClock = null } = report;
   const found = findings.map((finding) => dataOfFinding(finding, shown.find((each) => each.finding === finding)));
   return {
     ...common, agents: plan.agents, areAlike: hasLikes, states: result.states, acts: result.acts, depth,
     finals: finalsOf(report), finalCount: result.final.count, found: [...found, ...onlyRuns.map(dataOfRuns)],
-    neverEnds, moments: counts.moments, choices: counts.choices, edges: counts.edges,
+    neverEnds, moments: counts.moments, choices: counts.choices, keptClock, drawsRandom, edges: counts.edges,
     edgesByOne: ways.edgesByOne, ways: ways.all, waysTried: ways.tried, hidden, advice,
     widest: { ...widest, line: widest.line ?? null },
   };

@@ -41,6 +41,7 @@ function closedLines(data) {
     ...notRunLines(data),
     ...mergedLines(data).map(indented),
     ...alikeLines(data),
+    ...chosenLines(data).map(indented),
     untriedText(data),
   ];
 }
@@ -75,6 +76,12 @@ function bySearch({ acts, changes, detail, states }) {
 
 /** @param {FoundData} found by real runs alone @param {number} made how many there were */
 const byRuns = ({ runs, seed }, made) => `in ${digits(runs)} of ${countText(made, "real run")}, seed ${seed} the first`;
+
+/** @param {EveryData} data @returns {string[]} what was chosen of clocks and chance */
+const chosenLines = ({ drawsRandom, keptClock }) => [
+  ...(drawsRandom ? ["of random numbers only the least, one in the middle and the greatest were tried"] : []),
+  ...(keptClock === null ? [] : [`clocks go on from round to round: an agent keeps its time of ${keptClock}`]),
+];
 
 /** @param {EveryData} data */
 function untriedText({ choices }) {

@@ -83,6 +83,8 @@ export class Every {
     this.threads = undefined;
     /** Whether the agents' modules keep something from run to run. */
     this.keepsMore = false;
+    /** @type {Pick<import("../run/group.mjs").GroupOptions, "cutAfter" | "chosenTime">} how real runs are made */
+    this.how = { chosenTime: "anew" };
     this.isFreshened = false;
   }
 
@@ -118,7 +120,7 @@ export class Every {
       this.keepsMore = report.renewals > 0;
       if (report.changesBuiltins) throw new NotAsLearned(CHANGES_BUILTINS);
       if (!report.isClosed) return await this.#open(report, openText(report));
-      if (report.neverEnds) real = await this.#cutAnew(real);
+      if (report.neverEnds || report.keptClock !== undefined) real = await this.#begunAnew(real, report);
       const again = this.#learnAgain(report);
       const { running } = real;
       // The second learning knows more about why a run differs.
@@ -163,17 +165,16 @@ export class Every {
   /** What agents do before their first calls is searched in the order of the agents, so they begin in turn. */
   #ofRuns() {
     const sabsim = /** @type {false} */ (false);
-    return { ...this.options, inTurn: true, isBrief: false, trace: true, checkEvery: 1, sabsim };
+    return { ...this.options, ...this.how, inTurn: true, isBrief: false, trace: true, checkEvery: 1, sabsim };
   }
 
   /**
    * Begins the real runs.
    * @param {import("../seeds/runs.mjs").AnyJob} [job] the first one
-   * @param {{ cutAfter?: number }} [more] how they differ from those of agents that end
    * @returns {{ runs: Runs, running: Promise<void> }} settled when they are made
    */
-  #begun(job, more) {
-    const options = { ...this.#ofRuns(), ...more, wanted: { needsTrace: true } };
+  #begun(job) {
+    const options = { ...this.#ofRuns(), wanted: { needsTrace: true } };
     const runs = new Runs(options, { signal: this.#ending(), job });
     this.outcomes = [];
     const running = this.#take(runs, this.outcomes);
@@ -183,11 +184,15 @@ export class Every {
   }
 
   /**
-   * Makes the real runs of agents that never end, each up to some calls, in place of longer ones that were begun.
-   * @param {{ runs: Runs }} longer
+   * Makes the real runs once more, now that it is known how they must go: of agents that never end each up to some
+   * calls, and of agents that keep the time with clocks that go on.
+   * @param {{ runs: Runs }} before
+   * @param {LearningReport} report
    */
-  async #cutAnew(longer) {
-    const [real] = await Promise.all([this.#begun(undefined, { cutAfter: CUT_AFTER }), longer.runs.close()]);
+  async #begunAnew(before, { keptClock, neverEnds }) {
+    if (neverEnds) this.how.cutAfter = CUT_AFTER;
+    if (keptClock !== undefined) this.how.chosenTime = "lasting";
+    const [real] = await Promise.all([this.#begun(), before.runs.close()]);
     return real;
   }
 
@@ -223,9 +228,10 @@ export class Every {
 
   /** @param {LearningReport} report */
   async #learnAgain(report) {
-    const { edges, isShared, nodes, plan } = report;
-    const { over, options: { args, fresh, module, seconds } } = this;
-    const given = { module, args, plan, isShared, isFresh: fresh === true, nodes, edges };
+    const { edges, isShared, keptClock, nodes, plan } = report;
+    const { over, options: { args, fresh, module, seconds, timeouts } } = this;
+    const clocks = { isLasting: keptClock !== undefined, isEndless: timeouts === "never" };
+    const given = { module, args, plan, isShared, isFresh: fresh === true, ...clocks, nodes, edges };
     const differs = await learnAgain(given, { seconds, over, thread: this.threads?.again });
     if (differs === TIME_OVER) throw new NotLearnedAgain(report);
     if (differs === undefined) return;
@@ -263,13 +269,18 @@ export class Every {
    * @returns {Promise<TriedOnce>}
    */
   async #open(report, open) {
-    const shown = explained(await shownFindings(report.findings, this.options, this.#ending()));
+    const shown = explained(await shownFindings(report.findings, this.#ofShown(report), this.#ending()));
     return { report, open, ...NOTHING, shown };
   }
 
+  /** @param {LearningReport} report @returns {EveryRunOptions} of the runs that show what was found */
+  #ofShown({ keptClock }) {
+    return { ...this.options, chosenTime: keptClock === undefined ? "anew" : "lasting" };
+  }
+
   /** @param {LearningReport} report that is closed */
-  async #shown({ findings }) {
-    const found = await shownFindings(findings, this.options, this.#ending());
+  async #shown(report) {
+    const found = await shownFindings(report.findings, this.#ofShown(report), this.#ending());
     const { finding, outcome } = firstNotShown(found) ?? {};
     if (finding === undefined || outcome === undefined) return explained(found);
     const { kind, text } = finding;

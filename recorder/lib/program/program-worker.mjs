@@ -13,6 +13,7 @@ import { isCalledByAgents, shownFrames, sourceHere, sourceLater, sourceOfCall } 
 import { listingOf } from "../agent/ordinary/patch.mjs";
 import { watchRealm } from "../agent/ordinary/watch.mjs";
 import { Player } from "../agent/player.mjs";
+import { OwnClock } from "../agent/own-clock.mjs";
 import { Chance, simulateChance, simulateTime } from "../agent/time.mjs";
 import { Board } from "../board/board.mjs";
 import { Blocks, MESSAGES } from "../memory/blocks.mjs";
@@ -173,6 +174,7 @@ function playerOf(agent) {
     messages: NOTHING_LATER,
     unseen: NOTHING_LATER,
     chance,
+    ownClock: new OwnClock(false),
     lengths: plan.buffers,
     canBlock: plan.canBlock[agent],
     ordinary: "watch",

@@ -38,6 +38,8 @@ import { TextMaker } from "./run-snapshot.mjs";
  * @property {boolean} [inTurn] whether agents begin in turn under each seed; else some seeds draw their order
  * @property {number} maxMoves
  * @property {number} [cutAfter] after how many calls of an agent its run is cut, which is no failure; undefined: never
+ * @property {import("../agent/own-clock.mjs").ChosenTime} [chosenTime] that the tool chooses when time passes for each
+ * agent, and which random numbers it draws; else the run has a clock, and the seed draws
  * @property {number} seconds for how long an agent may make no call
  * @property {boolean} fresh
  * @property {boolean} [isBrief] whether outcomes of runs that pass have no bytes and answers
@@ -267,12 +269,12 @@ export class Group {
 
   /** @param {number} count how many agents' workers are to have begun */
   #beginUpTo(count) {
-    const { module, args, ordinary, clock, unrecorded, rounds = assumed("rounds") } = this.options;
+    const { module, args, ordinary, clock, unrecorded, rounds = assumed("rounds"), chosenTime } = this.options;
     const begun = Array.from({ length: count - this.begun.length }, () => this.thread(AGENT_MODULE));
     /** @type {((thread: Thread) => void)[]} */
     const awaited = [];
     for (const thread of begun) {
-      thread.give(AGENT_MODULE, { module, args, ordinary, clock, unrecorded, rounds });
+      thread.give(AGENT_MODULE, { module, args, ordinary, clock, unrecorded, rounds, chosenTime });
       this.begun.push(new Promise((done) => awaited.push(done)));
       void thread.next().then(() => awaited.shift()?.(thread));
     }

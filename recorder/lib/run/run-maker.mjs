@@ -298,7 +298,7 @@ export class RunMaker {
 function hasChosenNothing(choices) {
   if (choices === undefined) return false;
   const all = choices.flat().map(({ choice }) => choice);
-  return all.some(([does]) => does === "choose") || !all.some(([, goesOn]) => goesOn);
+  return all.some(([does]) => does !== "again") || !all.some(([, goesOn]) => goesOn);
 }
 
 /**

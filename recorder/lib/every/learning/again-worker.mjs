@@ -2,6 +2,7 @@
 // module was loaded anew, and the edges come in reverse order.
 
 import { workerData } from "node:worker_threads";
+import { OwnClock } from "../../agent/own-clock.mjs";
 import { basesOf } from "../search/file.mjs";
 import { nodeText } from "../search/node-texts.mjs";
 import { CantLearn, isSame } from "./asked-nodes.mjs";
@@ -23,6 +24,8 @@ import { NodeWays } from "./node-ways.mjs";
  * @property {import("../../options/plan.mjs").Plan} plan
  * @property {boolean} isShared
  * @property {boolean} isFresh whether real runs have new workers each time
+ * @property {boolean} isLasting whether agents' clocks go on from round to round
+ * @property {boolean} isEndless whether no wait ends by itself, and no time passes
  * @property {SharedArrayBuffer} progress
  * @property {NodeData[]} nodes
  * @property {EdgeData[]} edges
@@ -92,6 +95,8 @@ async function differing(given, load) {
   const { module, args, edges, isShared, plan } = given;
   const ways = new NodeWays(edges);
   const asker = new Asker();
+  asker.clock = new OwnClock(given.isLasting);
+  asker.isEndless = given.isEndless;
   asker.onCall = showing(new Int32Array(given.progress));
   const platform = installRealm(asker);
   const agentOf = given.isFresh ? madeAnew(module, platform) : await asItIs(module, load);

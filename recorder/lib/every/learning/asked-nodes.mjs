@@ -43,8 +43,12 @@ export const askedAccess = (block, from, size, base, written) =>
     ...NOTHING, does: written === undefined ? DOES.READ : DOES.WRITE, block, byte: from, size, at: base + from, written,
   });
 
-/** @param {number} asked `AGAIN`, or the number that `choose` is given @returns {AskedNode} a choice */
-export const askedChoice = (asked) => ({ ...NOTHING, does: DOES.CHOOSE, limit: asked });
+/**
+ * @param {number} asked as `askedOf` has it, or `AGAIN`
+ * @param {string} [what] is made of the number that is chosen
+ * @returns {AskedNode} a choice
+ */
+export const askedChoice = (asked, what) => ({ ...NOTHING, does: DOES.CHOOSE, limit: asked, text: what });
 
 /**
  * @param {Call} call

@@ -2,8 +2,10 @@
 // for next is handed on, and then it is broken off, or gets a further answer.
 
 import { answerOfRead, bytesOfRead } from "../search/raw-elements.mjs";
-import { DOES, DONE } from "../search/nodes.mjs";
+import { DOES, DONE, TIMED_OUT } from "../search/nodes.mjs";
+import { AGAIN, askedOf } from "../../../script/choices.mjs";
 import { NO_CHOICE } from "../../agent/choosing.mjs";
+import { OwnClock } from "../../agent/own-clock.mjs";
 import { CantLearn, askedAccess, askedCall, askedChoice, returned } from "./asked-nodes.mjs";
 import { hadOtherNext } from "./iterators.mjs";
 import { LeftPromises } from "./left-promises.mjs";
@@ -24,6 +26,9 @@ const { DataView: EngineView, Error: EngineError, Uint8Array: EngineBytes } = gl
 
 /** What breaks an agent off. */
 const BROKEN = Object.freeze({ isBrokenOff: true });
+
+/** Another time at which a clock may begin. */
+export const OTHER_START = 123_456_789;
 
 /** So often an agent may catch that. */
 const MOST_CAUGHT = 10_000;
@@ -75,8 +80,18 @@ export class Asker {
     this.askedAt = undefined;
     /** @type {(part: number) => void} is called before a part of the agents' code is, and behind it with none */
     this.onCall = () => {};
-    /** Whether no wait ends by itself. */
+    /** Whether no wait ends by itself, and no time passes. */
     this.isEndless = false;
+    /** The time of the agent that runs now. */
+    this.clock = new OwnClock(false);
+    /** At which time it begins. */
+    this.start = 0;
+    /** @type {number | undefined} which of its looks is to show another time, to find what keeps it */
+    this.shiftedLook = undefined;
+    /** How often the agent has looked at a clock. */
+    this.looks = 0;
+    /** @type {string | undefined} why what the agent makes of a choice can't be shown */
+    this.unshown = undefined;
     /** @type {() => string} where the agent that runs now is */
     this.lineHere = () => "a place that isn't known";
     /** @type {CantLearn | undefined} why the agent can't be learned */
@@ -122,6 +137,8 @@ export class Asker {
     this.isBroken = false;
     this.caught = 0;
     this.writing = undefined;
+    this.clock.begin(this.start);
+    this.looks = 0;
     this.promises.begin();
     this.run = run;
     try {
@@ -227,19 +244,36 @@ export class Asker {
     const answer = this.#ask(asked);
     if (thrown !== undefined) throw thrown;
     if (answer === "TypeError") throw new TypeError("Atomics.wait cannot be called in this context");
+    if (asked.does === DOES.WAIT && answer === TIMED_OUT) this.clock.timeOut(call.milliseconds ?? call.limit ?? 0);
     return returned(call, view, answer, this.views[call.block]);
   }
 
   /**
    * Makes a choice.
-   * @param {number} asked `AGAIN`, or the number that `choose` is given
+   * @param {number} asked as `askedOf` has it, or `AGAIN`
+   * @param {string} [what] is made of the number
    * @returns {number} what is chosen
    */
-  choose(asked) {
+  choose(asked, what) {
     if (this.run === undefined) throw new EngineError(NO_CHOICE);
     this.#enter();
     this.#endWrite();
-    return /** @type {number} */ (this.#ask(askedChoice(asked)));
+    if (asked === AGAIN) this.clock.round();
+    return /** @type {number} */ (this.#ask(askedChoice(asked, what)));
+  }
+
+  /**
+   * A look at a clock.
+   * @param {boolean} isPlain whether what the clock returns goes by the time alone
+   * @returns {number} what time it is for the agent
+   */
+  look(isPlain) {
+    const { clock, isEndless } = this;
+    this.unshown = isPlain ? undefined : "what is made of a look at a clock";
+    const passed = this.choose(askedOf(clock.isLasting ? "lasting time" : "time", isEndless ? 1 : 2));
+    this.unshown = undefined;
+    this.looks += 1;
+    return clock.look(passed) + (this.shiftedLook === this.looks ? OTHER_START : 0);
   }
 
   /**

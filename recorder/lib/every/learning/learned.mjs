@@ -5,7 +5,9 @@ import { planOf } from "../../options/plan.mjs";
 import { basesOf } from "../search/file.mjs";
 import { Search } from "../search/search.mjs";
 import { CantLearn } from "./asked-nodes.mjs";
-import { Learner, LooksAtNumber } from "./learner.mjs";
+import { OwnClock } from "../../agent/own-clock.mjs";
+import { KeepsClock } from "./clock-rounds.mjs";
+import { Learner, LooksAtClock, LooksAtNumber } from "./learner.mjs";
 import { PART } from "./learning-progress.mjs";
 import { problemOf } from "./thrown.mjs";
 
@@ -36,6 +38,10 @@ export class Learned {
     this.initial = this.#initial(length);
     if (this.exports.init !== undefined || this.exports.check !== undefined) code.leave();
     this.isShared = this.plan.canBlock.every((can) => can);
+    /** Whether agents look at a clock. */
+    this.hasClock = false;
+    /** @type {string | undefined} the line of a look whose time agents keep from round to round, if they keep any */
+    this.keptClock = undefined;
     /** @type {Learner} */
     this.learner = this.#newLearner();
     /** @type {Program | undefined} */
@@ -65,6 +71,8 @@ export class Learned {
       hasChanged: () => code.hasChanged(),
     };
     const learner = new Learner(asker, agents, own);
+    learner.hasClock = this.hasClock;
+    asker.clock = new OwnClock(this.keptClock !== undefined);
     // Each automaton has its own, so they need not be gone through.
     code.builtins.names.set(learner.number, "number").set(learner.changesNumber, "changesNumber");
     code.builtins.names.set(learner.choices.again, "again").set(learner.choices.choose, "choose");
@@ -72,18 +80,21 @@ export class Learned {
   }
 
   /**
-   * Learns and searches, from the beginning again if the agents look at their numbers.
+   * Learns and searches, from the beginning again if the agents look at their numbers or at a clock.
    * @param {(states: number) => boolean} [isLate]
    * @returns {Search}
    */
   search(isLate) {
-    try {
-      return this.#search(isLate);
-    } catch (why) {
-      if (!(why instanceof LooksAtNumber)) throw why;
-      this.isShared = false;
-      this.learner = this.#newLearner();
-      return this.#search(isLate);
+    for (;;) {
+      try {
+        return this.#search(isLate);
+      } catch (why) {
+        if (why instanceof LooksAtNumber) this.isShared = false;
+        else if (why instanceof LooksAtClock) this.hasClock = true;
+        else if (why instanceof KeepsClock) this.keptClock = why.line;
+        else throw why;
+        this.learner = this.#newLearner();
+      }
     }
   }
 

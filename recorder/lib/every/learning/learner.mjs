@@ -6,8 +6,10 @@ import { choicesBy } from "../../agent/choosing.mjs";
 import { CantShow } from "../state/object-kinds.mjs";
 import { DONE, DOES, isCall, isChoice, isOwnAct, nodeOf } from "../search/nodes.mjs";
 import { nodeText } from "../search/node-texts.mjs";
+import { AGAIN } from "../../../script/choices.mjs";
 import { CantLearn, askedEnd, isSame, keyOf } from "./asked-nodes.mjs";
 import { accessed, cantText } from "./asking.mjs";
+import { needRound } from "./clock-rounds.mjs";
 import { putNumber } from "./given-number.mjs";
 import { PART } from "./learning-progress.mjs";
 import { namesRewritten, thrownText } from "./thrown.mjs";
@@ -19,6 +21,9 @@ import { namesRewritten, thrownText } from "./thrown.mjs";
 
 /** The agents look at their numbers, so each has an automaton of its own. */
 export class LooksAtNumber extends Error {}
+
+/** They look at a clock, so what time it is for them is a part of their state. */
+export class LooksAtClock extends Error {}
 
 /** After so many accesses between two calls each read is compared with the ones before. */
 const READS_BEFORE_COMPARING = 32;
@@ -80,6 +85,8 @@ export class Learner {
     this.places = [];
     this.runs = 0;
     this.looksAtNumber = false;
+    /** Whether what time it is for an agent is a part of its state. */
+    this.hasClock = false;
     /** Which agent runs now. */
     this.agent = 0;
     /** What agents get in place of their number. */
@@ -156,6 +163,7 @@ export class Learner {
     const growing = new Growing(this, history, agent, origin, bytes.slice());
     const ended = this.call(agent, growing);
     growing.needsWhole();
+    if (growing.round !== undefined && this.hasClock) needRound(this, agent, growing.round);
     if (ended !== undefined) growing.end(ended);
     return /** @type {Node} */ (growing.first);
   }
@@ -185,6 +193,7 @@ export class Learner {
   #ended(run, body) {
     const { isBroken, result, hasThrown, thrown } = this.asker.call(run, body);
     if (this.agents.isShared && this.looksAtNumber) throw new LooksAtNumber();
+    if (this.key !== undefined && !this.hasClock && this.asker.looks > 0) throw new LooksAtClock();
     if (isBroken) return undefined;
     if (hasThrown) return askedEnd(this.#titleOf(thrown));
     const open = leftOpen(result, "an agent");
@@ -230,8 +239,10 @@ export class Learner {
    */
   keyOf(automaton, asked) {
     if (this.key === undefined) return undefined;
+    const { clock, start, unshown } = this.asker;
     try {
-      return `${automaton} ${this.key(asked)}`;
+      if (unshown !== undefined) throw new CantShow(unshown);
+      return `${automaton} ${this.hasClock ? clock.time - start : ""} ${this.key(asked)}`;
     } catch (why) {
       if (!(why instanceof CantShow)) throw this.#failed(why);
       const known = this.hidden.get(why.message);
@@ -268,6 +279,8 @@ class Growing {
     this.isHead = origin === undefined || isOwnAct(origin.node);
     /** @type {string | undefined} what it did that it hadn't done before */
     this.differs = undefined;
+    /** @type {import("./clock-rounds.mjs").Round | undefined} that begins where the call is broken off */
+    this.round = undefined;
   }
 
   /** @param {AskedNode} asked @returns {Answer | undefined} */
@@ -289,6 +302,7 @@ class Growing {
     const isLong = !stops && this.accesses > READS_BEFORE_COMPARING;
     const isCompared = stops || (asked.does === DOES.READ && (this.isHead || isLong));
     const key = isCompared ? this.#usefulKey(asked, isLong && !this.isHead) : undefined;
+    if (isChoice(asked) && asked.limit === AGAIN) this.round = { origin: this.origin, key };
     const { node, isNew } = this.learner.node(this.automaton, asked, key, this.origin);
     if (isNew && isCompared) this.learner.places[node.id] = this.learner.place();
     this.link(node);

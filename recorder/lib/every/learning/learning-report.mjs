@@ -1,5 +1,6 @@
 // What the thread that learns and searches hands on.
 
+import { kindOfAsked } from "../../../script/choices.mjs";
 import { Positions, fileOf } from "../search/file.mjs";
 import { isChoice, isOwnAct } from "../search/nodes.mjs";
 import { Kinds, blocksIn, resultOf } from "../search/result.mjs";
@@ -41,7 +42,8 @@ export function learningReportOf(learned, search) {
   };
   return {
     isClosed: search.isClosed, bound: search.bound, isShared, plan, hasLikes: search.world.hasLikes,
-    neverEnds: kinds.neverEnds,
+    neverEnds: kinds.neverEnds, keptClock: learned.keptClock,
+    drawsRandom: positions.nodes.flat().some(isRandom),
     /** All schedules up to so many acts were tried. */
     depth: search.isClosed ? undefined : search.depths.items[search.expanded],
     result: resultOf(search, kinds, named),
@@ -67,6 +69,9 @@ function countsOf({ nodes }) {
     edges: all.reduce((sum, { edges }) => sum + edges.size, 0),
   };
 }
+
+/** @param {Node} node @returns {boolean} whether it draws a random number */
+const isRandom = ({ does, limit }) => isChoice({ does }) && kindOfAsked(/** @type {number} */ (limit)) === "random";
 
 /** @param {Node} node @returns {NodeData} */
 const dataOf = ({ edges: _edges, automaton: _automaton, ...asked }) => asked;

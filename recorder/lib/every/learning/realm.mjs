@@ -3,7 +3,9 @@
 
 import { syncBuiltinESMExports } from "node:module";
 import { types } from "node:util";
+import { askedOf } from "../../../script/choices.mjs";
 import { recordedAtomics } from "../../agent/atomics.mjs";
+import { ChosenChance } from "../../agent/chosen-chance.mjs";
 import { blockNumber } from "../../agent/ordinary/context.mjs";
 import { watchOrdinary } from "../../agent/ordinary/watch.mjs";
 import { simulateChance, simulateTime } from "../../agent/time.mjs";
@@ -30,8 +32,10 @@ export function installRealm(asker) {
   const isRecording = () => asker.run !== undefined;
   /** @param {string} what @returns {never} */
   const refuse = (what) => asker.refuse(what);
-  simulateTime(() => (isRecording() ? refuse("it looks at a clock") : 0));
-  simulateChance(/** @type {any} */ (new NoChance(() => refuse("it asks for a random number"))));
+  simulateTime((isPlain) => (isRecording() ? asker.look(isPlain) : 0));
+  const draw = (/** @type {number} */ count, /** @type {string | undefined} */ what) =>
+    (isRecording() ? asker.choose(askedOf("random", count), what) : refuse("it asks for a random number"));
+  simulateChance(new LearnedChance(draw, () => refuse("it asks for random bytes")));
   watchOrdinary({
     blockOf: (buffer) => asker.buffers.indexOf(/** @type {any} */ (buffer)),
     seen: (place, from, to, writes) => {
@@ -79,13 +83,13 @@ export function installShown() {
   syncBuiltinESMExports();
 }
 
-/** Stands for a row of random numbers. */
-class NoChance {
-  /** @param {() => never} refuse */
-  constructor(refuse) {
-    this.fraction = refuse;
+/** Stands for a row of random numbers: bytes are refused. */
+class LearnedChance extends ChosenChance {
+  /** @param {ChosenChance["choose"]} choose @param {() => never} refuse */
+  constructor(choose, refuse) {
+    super(choose);
     this.fill = refuse;
-    this.random = { next: refuse };
+    this.random = /** @type {any} */ ({ next: refuse });
   }
 }
 

@@ -1,7 +1,7 @@
 // The nodes of automata. A node is what an agent asks for next: a call of Atomics, an ordinary read or write, a choice,
 // or its end. Edges lead on by what it is answered.
 
-import { AGAIN } from "../../../script/choices.mjs";
+import { numbersOf } from "../../../script/choices.mjs";
 import { CALLS, CALL_NUMBERS } from "../../../script/kinds.mjs";
 
 const { load: LOAD, store: STORE, wait: WAIT, notify: NOTIFY, compareExchange: COMPARE_EXCHANGE } = CALL_NUMBERS;
@@ -43,14 +43,14 @@ export const DONE = 0;
  * @property {(number | bigint)[]} operands as the code gave them
  * @property {(number | bigint)[]} raw the same as elements, without a sign
  * @property {number | undefined} limit the timeout of a wait in milliseconds, the count of a notify, or what a choice
- * asks: `AGAIN`, or the number that `choose` is given
+ * asks, as `askedOf` has it
  * @property {string | undefined} error what the call throws wherever it is made
  * @property {{ offset: number, length: number, index: number } | undefined} outside of a call that is at no element of
  * its array: what its array is, and the index
  * @property {number | bigint | undefined} returns what a store returns, if no script can have its operand
  * @property {Uint8Array | undefined} written by a write
  * @property {boolean} isAlone whether it is a read that is an act of its own
- * @property {string | undefined} text that it threw
+ * @property {string | undefined} text that it threw, or which random numbers a choice is among
  * @property {Map<Answer, Node>} edges
  */
 
@@ -71,8 +71,7 @@ export const isChoice = ({ does }) => does === DOES.CHOOSE;
 export const isOwnAct = (node) => isCall(node) || isChoice(node) || node.isAlone;
 
 /** @param {Node} node @returns {number} how many acts it can be: of a choice as many as there are numbers */
-export const actsOf = ({ does, limit }) =>
-  (does !== DOES.CHOOSE ? 1 : limit === AGAIN ? 2 : /** @type {number} */ (limit));
+export const actsOf = ({ does, limit }) => (does === DOES.CHOOSE ? numbersOf(/** @type {number} */ (limit)) : 1);
 
 /** @param {Node} node @returns {boolean} whether it is an end */
 export const isEnd = ({ does }) => does >= DOES.FINISHED;

@@ -1,0 +1,157 @@
+// `--all` of agents that look at clocks or draw random numbers: the tool chooses when time passes, and what is drawn.
+
+import assert from "node:assert/strict";
+import { readFileSync } from "node:fs";
+import { join } from "node:path";
+import { test } from "node:test";
+import { pathToFileURL } from "node:url";
+import { everyText } from "../../lib/every/every-text.mjs";
+import { learnApart } from "../../lib/every/learning/apart.mjs";
+import { everySchedule } from "../../recorder.mjs";
+import { commandHere } from "../helpers/command-here.mjs";
+import { FEW_WORKERS, moduleOf, refusedInALine, temporaryFolder } from "../helpers/common.mjs";
+
+/** @param {string} body of each agent @param {string} [more] lines behind the agent */
+const agents = (body, more = "") => `export const setup = { agents: 2, buffers: [8], names: { PERMITS: 0, INSIDE: 1 } };
+export const init = ([buffer]) => void (new Int32Array(buffer)[0] = 1);
+export default function agent({ buffers, agents, again }) {
+  const words = new Int32Array(buffers[0]);
+  ${body}
+}
+${more}`;
+
+const CHECK = "export const check = ([buffer]) => new Int32Array(buffer)[0] === 1;\n";
+
+/**
+ * A semaphore of one permit, of which an agent gets one within 50 ms, or gives up.
+ * @param {object} [how] what is wrong
+ * @param {string} [how.givesUp] what an agent does that gives up
+ * @param {string} [how.wakes] what it does when it has given its permit back
+ */
+const semaphore = ({ givesUp = "return false;", wakes = "Atomics.notify(words, 0, 1);" } = {}) => `
+  const acquire = () => {
+    const deadline = performance.now() + 50;
+    for (;;) {
+      const permits = Atomics.load(words, 0);
+      if (permits > 0 && Atomics.compareExchange(words, 0, permits, permits - 1) === permits) return true;
+      const left = deadline - performance.now();
+      if (left <= 0) { ${givesUp} }
+      if (permits <= 0) Atomics.wait(words, 0, permits, left);
+    }
+  };
+  while (again()) {
+    if (!acquire()) continue;
+    if (Atomics.add(words, 1, 1) > 0) throw new Error("two are inside");
+    Atomics.sub(words, 1, 1);
+    Atomics.add(words, 0, 1);
+    ${wakes}
+  }`;
+
+/** @param {import("node:test").TestContext} context @param {string} text @param {object} [more] */
+const learned = (context, text, more = {}) => learnApart({
+  module: pathToFileURL(moduleOf(context, text)).href, args: [], place: {}, timeouts: "early", limit: 100_000,
+  within: 60, ...more,
+}, { seconds: 20 });
+
+/** @param {{ kind: string }[]} found */
+const kindsOf = (found) => [...new Set(found.map(({ kind }) => kind))];
+
+test("a semaphore with a timeout by a deadline, for any number of rounds", async (context) => {
+  const right = agents(semaphore(), CHECK);
+  const { counts, findings, hidden, isClosed, keptClock } = await learned(context, right, { place: { agents: 3 } });
+  assert.deepEqual([isClosed, hidden, findings, keptClock], [true, [], [], undefined]);
+  assert.ok(counts.choices > 2);
+  const never = await learned(context, right, { timeouts: "never" });
+  assert.deepEqual([never.isClosed, never.findings], [true, []]);
+});
+
+test("a permit that is lost when an agent gives up is found, and shown by real runs", async (context) => {
+  const givesUp = "Atomics.compareExchange(words, 0, 1, 0); return false;";
+  const module = moduleOf(context, agents(semaphore({ givesUp }), CHECK));
+  const out = temporaryFolder(context);
+  const done = await commandHere([module, "--all", "--seeds", "1..10", "--out", out]);
+  assert.equal(done.status, 1, done.stderr);
+  assert.match(done.stdout, /^every schedule of 2 agents was tried: agents can fail check/);
+  assert.doesNotMatch(done.stdout, /not shown/);
+  assert.match(done.stdout, /; 10 real runs agree\n/);
+  const { agents: choices } = JSON.parse(readFileSync(join(out, "all-1.choices.json"), "utf8"));
+  assert.ok(choices.flat().some(([does]) => does === "time"), JSON.stringify(choices));
+  const explained = readFileSync(join(out, "all-1.explained"), "utf8");
+  assert.match(explained, /\nagent \d looked at a clock .*, at agents\.mjs:7:34\n/);
+  const replayed = await commandHere([module, "--replay", join(out, "all-1.json")]);
+  assert.deepEqual([replayed.status, replayed.stderr], [1, ""]);
+});
+
+test("a lost wake-up that a timeout hides is found with `never`, and shown", async (context) => {
+  const text = agents(semaphore({ wakes: "" }), CHECK);
+  const early = await learned(context, text);
+  assert.deepEqual([early.isClosed, early.findings], [true, []]);
+  const never = { ...FEW_WORKERS, module: moduleOf(context, text), seeds: 3, timeouts: /** @type {const} */ ("never") };
+  const { closed, found, realRuns } = await everySchedule(never);
+  assert.deepEqual([closed, kindsOf(found), realRuns], [true, ["deadlock"], 3]);
+  assert.equal(found[0].notShown, null);
+});
+
+test("clocks of each kind show an agent its own time", async (context) => {
+  const text = agents(`
+  const [before, date, day, said] = [performance.now(), Date.now(), new Date(), Date()];
+  const [[seconds], nanoseconds, up] = [process.hrtime(), process.hrtime.bigint(), process.uptime()];
+  const isEqual = date + 0 >= 946_684_800_000 && day.getTime() >= date && seconds <= up && typeof said === "string";
+  if (!isEqual || BigInt(seconds) * 1_000_000_000n > nanoseconds) throw new Error("clocks differ");
+  const timed = Atomics.wait(words, 1, 0, 50);
+  const after = performance.now();
+  if (timed === "timed-out" && after - before < 50) throw new Error("too early");
+  Atomics.store(words, 1, Math.min(9, Math.floor((after - before) / 1e9)));`);
+  const data = await everySchedule({ ...FEW_WORKERS, module: moduleOf(context, text), agents: 1, seeds: 5 });
+  assert.deepEqual([data.closed, data.found, data.realRuns, data.finalCount], [true, [], 5, 8]);
+});
+
+test("a time that an agent keeps from round to round is named, and its clock goes on", async (context) => {
+  const keeps = `const begun = performance.now();
+  while (again()) {
+    Atomics.load(words, 0);
+    if (performance.now() - begun > 2e9) break;
+  }`;
+  const data = await everySchedule({ ...FEW_WORKERS, module: moduleOf(context, agents(keeps)), seeds: 8 });
+  assert.deepEqual([data.closed, data.found, data.realRuns, data.keptClock], [true, [], 8, "agents.mjs:5:29"]);
+  assert.match(everyText(data), /\n {2}clocks go on from round to round: .* keeps its time of agents\.mjs:5:29\n/);
+  const later = `while (again()) {
+    Atomics.load(words, 0);
+    if (performance.now() > 1e8) break;
+  }`;
+  assert.equal((await learned(context, agents(later))).keptClock, "agents.mjs:7:21");
+});
+
+test("a random number is the least, one in the middle or the greatest", async (context) => {
+  const backs = `while (again()) {
+    while (Atomics.compareExchange(words, 0, 1, 0) !== 1) {
+      for (let left = Math.floor(Math.random() * 3); left > 0; left -= 1) Atomics.load(words, 1);
+    }
+    if (Atomics.add(words, 1, 1) > 0) throw new Error("two are inside");
+    Atomics.sub(words, 1, 1);
+    Atomics.store(words, 0, 1);
+  }`;
+  const right = await learned(context, agents(backs, CHECK), { place: { agents: 3 } });
+  assert.deepEqual([right.isClosed, right.findings, right.hidden, right.drawsRandom], [true, [], [], true]);
+  const drawn = agents(`
+  const [one, other] = [Math.random(), crypto.randomInt(5, 8)];
+  if (!(one >= 0 && one < 1) || other < 5 || other > 7) throw new Error("out of range");
+  Atomics.store(words, 1, 10 * other + Math.floor(one * 4));`);
+  const module = moduleOf(context, `import crypto from "node:crypto";\n${drawn}`);
+  const data = await everySchedule({ ...FEW_WORKERS, module, agents: 1, seeds: 6 });
+  assert.deepEqual([data.closed, data.found, data.realRuns], [true, [], 6]);
+  const numbers = data.finals.map(({ text }) => Number(/INSIDE (\d+)/.exec(text)?.[1]));
+  assert.deepEqual(numbers.sort((one, other) => one - other), [50, 52, 53, 60, 62, 63, 70, 72, 73]);
+  assert.match(everyText(data), /\n {2}of random numbers only the least, one in the middle and the greatest were /);
+  const bytes = `import crypto from "node:crypto";\n${agents("Atomics.store(words, 1, crypto.randomBytes(1)[0]);")}`;
+  await assert.rejects(learned(context, bytes), refusedInALine(/it asks for random bytes, at agents\.mjs:6:34/));
+});
+
+test("what is made of a look besides the time keeps moments apart", async (context) => {
+  const text = agents(`const before = [Atomics.load(words, 0), 0];
+  const [seconds] = process.hrtime(before);
+  Atomics.store(words, 1, seconds < 0 ? 1 : 2);`);
+  const { hidden, isClosed } = await learned(context, text);
+  assert.equal(isClosed, true);
+  assert.deepEqual(hidden.map(({ why }) => why), ["what is made of a look at a clock"]);
+});
