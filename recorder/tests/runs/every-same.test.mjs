@@ -137,6 +137,8 @@ const BODIES = {
     class D extends Base { a = (f(), 2); static s = f() }
     class P extends Base { #a = f(); }
     class M extends Base { #m() {} }
+    class N { kind = class {} } class O extends N { kind = class {}; static y = this.name; }
+    say(new O().kind.name, O.y);
     for (const cls of [A, A, B, B, C, C, D, P, P, M, M]) try { new cls(); } catch (error) { say(error.message); }
     say(one.g.name, one.h.name, one.a, Object.keys(one).join());`,
   "names of functions in objects": `

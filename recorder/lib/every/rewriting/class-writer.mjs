@@ -29,14 +29,18 @@ export function writeClass(writer, tree, info) {
   writer.edits.before(start + 1, `static { $R.cls(${newId()}, ${made}, ${shown}, ${more}); }${constructs}`);
 }
 
+/** @param {Tree} field of a class @returns {boolean} */
+const isNamedByField = ({ value }) => value !== null && isClass(value) && value.id === null;
+
 /**
- * The check comes before an object gets its first field, or, in a class of private methods alone, behind these.
+ * The check comes before an object gets its first field. In a class of private methods alone it comes behind these, and
+ * before a class that gets its name from the field it is a field of its own.
  * @param {CodeWriter} writer
  * @param {Tree} classBody
  */
 function writeStampCheck({ edits, source }, { body, start }) {
   const field = body.find((/** @type {Tree} */ one) => one.type === "PropertyDefinition" && !one.static);
-  if (field === undefined) edits.before(start + 1, STAMP_CHECK);
+  if (field === undefined || isNamedByField(field)) edits.before(start + 1, STAMP_CHECK);
   else if (field.value === null) {
     const end = field.computed ? positionOutsideComments(source, "]", field.key.end) + 1 : field.key.end;
     edits.after(end, ` = ${STAMPED};`);

@@ -49,10 +49,10 @@ export const EXPRESSIONS = {
   ArrayExpression: operands(({ elements }) => elements),
   TemplateLiteral: (writer, { end, expressions }, info) => {
     // Each is made a text at once. The engine would say that it does so at the place of a call in it.
-    const last = expressions.map(runsCode).lastIndexOf(true);
+    const last = expressions.map(isConstant).lastIndexOf(false);
     expressions.forEach((/** @type {Tree} */ one, /** @type {number} */ at) => {
       if (at < last && !isConstant(one)) writer.keep(info, one, end, ["$R.text((", "))"]);
-      else if (runsCode(one)) writer.within(one, "$R.text((", "))");
+      else if (at === last) writer.within(one, "$R.text((", "))");
     });
     writer.writeAll(expressions, info);
   },

@@ -36,8 +36,12 @@ const RUNS = /^(?:Call|New|TaggedTemplate|Member|Chain|Import|Yield|Await|Class|
  */
 export function runsCode(tree) {
   if (tree === null || tree === undefined || isFunction(tree)) return false;
-  return RUNS.test(tree.type) || makesMemberKey(tree) || childrenOf(tree).some(runsCode);
+  return RUNS.test(tree.type) || makesText(tree) || childrenOf(tree).some(runsCode);
 }
+
+/** @param {Tree} tree @returns {boolean} whether it makes a value a text itself, for which the value may have code */
+const makesText = (tree) => makesMemberKey(tree)
+  || (tree.type === "TemplateLiteral" && tree.expressions.some((/** @type {Tree} */ one) => !isConstant(one)));
 
 /** @param {Tree} tree @returns {boolean} whether it is a member of an object or a class whose key is made a text */
 const makesMemberKey = ({ type, computed, key }) =>
