@@ -98,6 +98,12 @@ export function positionIn(list, item) {
 }
 
 const { Proxy: EngineProxy } = globalThis;
+const standIns = new WeakSet();
+const noteStandIn = uncurried(WeakSet.prototype.add);
+const isNoted = uncurried(WeakSet.prototype.has);
+
+/** @param {unknown} value @returns {boolean} whether `proxyOf` has made it: what it stands for is no proxy */
+export const isMadeStandIn = (value) => isNoted(standIns, value);
 
 /**
  * @template {object} Target
@@ -107,7 +113,9 @@ const { Proxy: EngineProxy } = globalThis;
  */
 export function proxyOf(target, traps) {
   setPrototypeOf(traps, null);
-  return new EngineProxy(target, traps);
+  const standIn = new EngineProxy(target, traps);
+  noteStandIn(standIns, standIn);
+  return standIn;
 }
 
 /**

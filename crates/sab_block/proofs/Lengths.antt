@@ -1,5 +1,6 @@
 -- How many bytes an access leaves.
-use Rattle.std.proofs.Common.{◌≡◌, Some, inl, inr, ℕ, ◌+◌, ◌≤◌, ℤ, pos, negsuc, List, ◌++◌, length, take, drop, ap, ◌∙◌, ◌*◌, nat_lt, arith, length-append, length-drop}
+use Rattle.std.proofs.Common.{◌≡◌, Some, ℕ, ◌+◌, ◌≤◌, ℤ, pos, negsuc, List, ◌++◌, length, take, drop, ap, ◌∙◌, ◌*◌, nat_lt, arith, length-append, length-drop}
+use Rattle.std.proofs.lemmas.Grind.{common_steps}
 use Rattle.std.proofs.lemmas.Bool.{cases_eq}
 use Rattle.std.proofs.lemmas.Option.{cond_some}
 use borrow.Author.Tests.{ltb-true}
@@ -52,7 +53,4 @@ ActsAt-length view (X.Store index y) p mem x mem' h acts =
 ActsAt-length view (X.Rmw op index y) p mem x mem' h acts =
     ap length acts.1 ∙ length-put mem p (element_size (kind_of view)) _ h
 ActsAt-length view (X.CompareExchange index y z) p mem x mem' h acts =
-    elim (cases_eq (element view mem p) (raw_of view y)) [
-      | inl same ↦ ap length (acts.1 same) ∙ length-put mem p (element_size (kind_of view)) _ h
-      | inr other ↦ ap length (acts.2 other)
-    ]
+    grind (arith, common_steps, cases_eq, element, raw_of, length, length-put, element_size, kind_of)

@@ -1,5 +1,6 @@
 -- Raw elements: numbers modulo the count of a kind's raw elements, and the values that these stand for.
-use Rattle.std.proofs.Common.{◌≡◌, ℕ, suc, ◌+◌, ◌-◌, ◌*◌, ◌/◌, ◌%◌, ◌^◌, ◌<◌, ◌≤◌, ℤ, pos, negsuc, ◌+ℤ◌, ◌-ℤ◌, true, false, ◌&&◌, cond, nat_le, to_z, of_z, refl, ap, sym, ◌∙◌, arith, rules}
+use Rattle.std.proofs.Common.{◌≡◌, ℕ, suc, ◌+◌, ◌-◌, ◌*◌, ◌/◌, ◌%◌, ◌^◌, ◌<◌, ◌≤◌, ℤ, pos, negsuc, ◌+ℤ◌, ◌-ℤ◌, true, false, ◌&&◌, cond, nat_le, to_z, of_z, refl, ap, sym, ◌∙◌, arith}
+use Rattle.std.proofs.lemmas.Grind.{common_steps}
 use Rattle.std.proofs.lemmas.Nat.{and_mask, pow-add, pow_pos}
 use Rattle.std.proofs.lemmas.Int.{ints, int_rem_euclid_is, to_z-of_z}
 use Rattle.std.specs.Int.{w128, cast_unsigned}
@@ -96,12 +97,6 @@ value-high kind r m e h s =
 pub lowered : (w f : ℤ) (r m : ℕ) → w ≡ pos r → f ≡ pos m → r < 2 ^ 64 → m < 2 ^ 64
     → to_z w128 (of_z w128 (to_z w128 (of_z w128 (to_z w128 (of_z w128 w) -ℤ to_z w128 (of_z w128 f))) -ℤ pos 1))
     ≡ pos r -ℤ pos m -ℤ pos 1
-lowered w f r m p q h g =
-    let fits-w : FitsSigned w128 w = rw p (record { sfits = omega (arith, ints) }) in
-    let fits-f : FitsSigned w128 f = rw q (record { sfits = omega (arith, ints) }) in
-    let fits : FitsSigned w128 (w -ℤ f) = rw (p, q) (search (ints, rules)) in
-    let fits-1 : FitsSigned w128 (w -ℤ f -ℤ pos 1) = rw (p, q) (search (ints, rules)) in
-    rw (to_z-of_z w128 w fits-w, to_z-of_z w128 f fits-f, to_z-of_z w128 (w -ℤ f) fits)
-    (to_z-of_z w128 (w -ℤ f -ℤ pos 1) fits-1 ∙ ap (λ (z : ℤ). z -ℤ f -ℤ pos 1) p ∙ ap (λ (z : ℤ). pos r -ℤ z -ℤ pos 1) q)
+lowered w f r m p q h g = grind (arith, common_steps, w128, pos, to_z-of_z)
 
 pub ruleset wraps = (masked, raw-lt)

@@ -1,5 +1,6 @@
 -- Whole numbers and the bytes that they are kept as.
-use Rattle.std.proofs.Common.{◌≡◌, ℕ, zero, suc, ◌+◌, ◌*◌, ◌/◌, ◌%◌, ◌^◌, ◌<◌, ℤ, Bool, refl, ap, sym, ◌∙◌, arith}
+use Rattle.std.proofs.Common.{◌≡◌, ℕ, zero, suc, ◌%◌, ◌^◌, ◌<◌, ℤ, Bool, refl, ap, ◌∙◌, arith}
+use Rattle.std.proofs.lemmas.Grind.{common_steps}
 use Rattle.std.proofs.lemmas.Int.{to_z-of_z}
 use Rattle.std.proofs.Math.Nat.{add_comm, mod-eq_of_lt, pow-suc}
 use Rattle.std.specs.Int.{w128, cast_signed, cast_unsigned, to_le_bytes, from_le_bytes, sum_through, byte_at, byte_worth}
@@ -15,12 +16,7 @@ positive (suc k) = omega (arith, positive k, pow-suc 256 k)
 -- the sum of a number's lowest bytes, each by its worth
 bytes_sum : (n k : ℕ) → sum_through (λ i. byte_worth i (byte_at i n)) k ≡ n % 256 ^ suc k
 bytes_sum n zero = refl
-bytes_sum n (suc k) =
-    let m = 256 ^ suc k in
-    let power : 256 * m ≡ 256 ^ suc (suc k) = omega (arith, pow-suc 256 (suc k)) in
-    let next = n / m % 256 * m in
-    ap (λ sum. sum + next) (bytes_sum n k) ∙ add_comm (n % m) next
-    ∙ sym (mod-mul n {m = 256} {c = m} (omega arith) (positive (suc k))) ∙ ap (λ p. n % p) power
+bytes_sum n (suc k) = grind (arith, common_steps, pow-suc, add_comm, mod-mul, positive, bytes_sum n k)
 
 -- a number of 128 bits is read from its bytes again
 read_again : (n : ℕ) → n < 2 ^ 128 → from_le_bytes w128 (to_le_bytes w128 n) ≡ n

@@ -13,10 +13,6 @@ use Rattle.sab_judge.specs.Event.{share_waiters}
 same_place-joined : (p q r : Place) → same_place p r ≡ true → same_place q r ≡ true → same_place p q ≡ true
 same_place-joined p q r e f = grind (arith, common_steps, and_parts, and_from, eq-eqb, eqb-true)
 
--- who is among the waiters of no place shares them with nobody
-pub no_waiters : (x : Option Place) → share_waiters x None ≡ true → ⊥
-no_waiters x e = false≢true e
-
 -- two that are among the waiters of a place are among those of one place
 pub share_waiters-joined : (x y : Option Place) (p : Place) → share_waiters x (Some p) ≡ true
     → share_waiters y (Some p) ≡ true → share_waiters x y ≡ true

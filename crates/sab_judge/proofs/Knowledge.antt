@@ -14,7 +14,7 @@ use Rattle.sab_judge.specs.Event.{event_at, agent_at, are_alike, share_waiters, 
 use Rattle.sab_judge.specs.Sought.{IsLastBelow, IsReadFrom}
 use Rattle.sab_judge.specs.HappensBefore.{HappensBefore, in_agent, by_sync, IsAgentsEarlier, SynchronizesWith, ReadsByteFrom}
 use Rattle.sab_judge.specs.Clock.{KnowsNothing, KnowsMore, Learns, no_clock, clock_at, IsAtOrBefore, Knows, IsClock, AreClocks, KnowsUpTo, KnowsOnlyBefore, KnowsWhatIsRead, KnowsWhoHandedOn}
-use Rattle.sab_judge.proofs.Cases.{share_waiters-joined, no_waiters, IsByteOf, covered_byte}
+use Rattle.sab_judge.proofs.Cases.{share_waiters-joined, IsByteOf, covered_byte}
 use Rattle.sab_judge.proofs.Lasts.{IsNoLater, found_last}
 use Rattle.sab_judge.proofs.LastSteps.{IsStep, last_step, reached_through, reached_further, before_earlier}
 
@@ -128,12 +128,6 @@ waiters_known {trace} {j} {clocks} p c from e clocked waiters_is is_last learns 
       })))
       | inr ge ↦ inl (omega (arith, found.later))
     ]
-
--- who enters no critical section, learns of nobody who left it
-pub none_handed_on : {trace : List Event} {j : ℕ} (c : Clock) → (event_at trace j).waiters ≡ None
-    → KnowsWhoHandedOn trace j c
-none_handed_on {trace} {j} c waiters_is m handed = absurd (no_waiters (event_at trace m).waiters
-    (subst (λ (x : Option Place). share_waiters (event_at trace m).waiters x ≡ true) waiters_is handed.alike))
 
 -- ---- a byte has one last writer
 

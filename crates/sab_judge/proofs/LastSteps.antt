@@ -1,5 +1,5 @@
 -- The last step of the happens-before order.
-use Rattle.std.proofs.Common.{◌⊎◌, inl, inr, ℕ, ◌<◌, List, length, refl, sym, subst, arith}
+use Rattle.std.proofs.Common.{◌⊎◌, inl, inr, ℕ, ◌<◌, List, refl, sym, subst, arith}
 use Rattle.sab_judge.specs.declared.event.Event.{Event}
 use Rattle.sab_judge.specs.HappensBefore.{HappensBefore, in_agent, by_sync, through, IsAgentsEarlier, SynchronizesWith}
 use Rattle.sab_judge.specs.Clock.{IsAtOrBefore}
@@ -41,10 +41,6 @@ last_step (through g h) =
 sync_earlier : {trace : List Event} {i j : ℕ} → SynchronizesWith trace i j → i < j
 sync_earlier (inl r) = r.from.reads.earlier
 sync_earlier (inr w) = w.earlier
-
-sync_within : {trace : List Event} {i j : ℕ} → SynchronizesWith trace i j → j < length trace
-sync_within (inl r) = r.from.reads.within
-sync_within (inr w) = w.within
 
 -- what happens before is earlier in the trace
 pub before_earlier : {trace : List Event} {i j : ℕ} → HappensBefore trace i j → i < j

@@ -19,10 +19,6 @@ pub none_noted : (trace : List Event) {j block start end : ℕ} (readers : Reade
     → end ≤ start → HaveNoted trace j block start end readers 0
 none_noted trace {j} readers h empty = grind (arith, common_steps, counts_none)
 
-pub all_noted : {trace : List Event} {j block start end count : ℕ} {readers : Readers}
-    → HaveNoted trace j block start end readers count → AreNoted (length trace) (j + 1) readers
-all_noted h = record { count = h.all; before = h.before }
-
 -- the one number that it is
 counts_at : (w j : ℕ) → w < j → Counts (λ i. i ≡ w) j 1
 counts_at w j lt =

@@ -45,10 +45,6 @@ pub last_has : {list : List Stretch} (byte p : ℕ) → AreInOrder list → p �
 last_has {list} byte p order few point =
     grind (arith, common_steps, some_begin, leb-true, no_stretch, cases_lt, stretch_at, false≢true, le-leb)
 
--- one stretch alone has a byte
-pub one_has : {list : List Stretch} {byte : ℕ} (k m : ℕ) → HasByte list k byte → HasByte list m byte → k ≡ m
-one_has k m h g = grind (arith, common_steps, cases_order)
-
 -- ---- an overwrite
 
 pub none_overwritten : (list : List Stretch) (from event : ℕ) → IsOverwritten list list from from event

@@ -27,10 +27,6 @@ abbrev pub both_are : {X : Type 0} → (X → X → Bool) → Option X → Optio
 both_are test x None = false
 both_are test x (Some b) = some_is (λ a. test a b) x
 
--- it reads the byte, writes it, or both
-abbrev pub touches_byte : Event → ℕ → ℕ → Bool
-touches_byte e block byte = some_is (λ a. accesses.covers a block byte) e.access
-
 abbrev pub writes_byte : Event → ℕ → ℕ → Bool
 writes_byte e block byte = some_is (λ (a : Access). a.writes && accesses.covers a block byte) e.access
 

@@ -13,10 +13,6 @@ pub record IsRace (trace : List Event) (i j : ℕ) : Type 0 where
   pub conflict : IsTrue (do_conflict (event_at trace i) (event_at trace j))
   pub unordered : ¬ HappensBefore trace i j
 
--- no event races with the j-th as the later of the two
-abbrev pub RacesWithNone : List Event → ℕ → Type 0
-RacesWithNone trace j = (i : ℕ) → ¬ IsRace trace i j
-
 -- no two events race
 abbrev pub HaveNoRace : List Event → Type 0
 HaveNoRace trace = (i j : ℕ) → ¬ IsRace trace i j

@@ -1,5 +1,6 @@
 -- Lines in which each waiter is one of n agents, and no agent stands twice.
 use Rattle.std.proofs.Common.{◌≡◌, ℕ, zero, suc, ◌<◌, ◌≤◌, ◌==◌, ◌||◌, Bool, true, false, if◌then◌else◌, List, [], ◌∷◌, ◌++◌, length, length-append, map, filter, get_or, refl, sym, ap, subst, ◌∙◌, arith, eq-eqb}
+use Rattle.std.proofs.lemmas.Grind.{common_steps}
 use Rattle.std.specs.List.{AllByRecursion, IsDistinct, list_any, remove}
 use Rattle.std.proofs.lemmas.Bool.{true≢false, ne_eqb}
 use Rattle.std.proofs.lemmas.List.{length-map}
@@ -31,12 +32,7 @@ distinct n (w ∷ line) h = (others w.agent line h.1, distinct n line h.2)
 
 below : (n : ℕ) (line : List Waiter) → AreAgents n line → (a : ℕ) → list_any (λ b. a == b) (map (λ (w : Waiter). w.agent) line) ≡ true → a < n
 below n [] h a e = absurd (true≢false (sym e))
-below n (w ∷ line) h a e = go (a == w.agent) refl (below n line h.2 a) e
-  where
-    go : (t : Bool) → (a == w.agent) ≡ t → (list_any (λ b. a == b) (map (λ (v : Waiter). v.agent) line) ≡ true → a < n)
-        → (t || list_any (λ b. a == b) (map (λ (v : Waiter). v.agent) line)) ≡ true → a < n
-    go true same rest f = subst (λ b. b < n) (sym (eqb-true a w.agent same)) h.0
-    go false other rest f = rest f
+below n (w ∷ line) h a e = grind (arith, common_steps, list_any, map, eqb-true, below n line h.2 a)
 
 -- the line is no longer than there are agents
 pub agents_length : (n : ℕ) (line : List Waiter) → AreAgents n line → length line ≤ n
@@ -103,12 +99,7 @@ in_filter t a (w ∷ line) e =
 
 pub agents_filter : (n : ℕ) (t : Waiter → Bool) (line : List Waiter) → AreAgents n line → AreAgents n (filter t line)
 agents_filter n t [] h = tt
-agents_filter n t (w ∷ line) h = go (t w) (in_filter t w.agent line h.1) (agents_filter n t line h.2)
-  where
-    go : (b : Bool) → is_in (filter t line) w.agent ≡ false → AreAgents n (filter t line)
-        → AreAgents n (if b then w ∷ filter t line else filter t line)
-    go true none rest = (h.0, none, rest)
-    go false none rest = rest
+agents_filter n t (w ∷ line) h = grind (arith, common_steps, in_filter, is_in, filter, agents_filter n t line h.2)
 
 -- the first k waiters at a place are taken out
 in_without : (k : ℕ) (p : Place) (a : ℕ) (line : List Waiter) → is_in line a ≡ false → is_in (without_first k p line) a ≡ false

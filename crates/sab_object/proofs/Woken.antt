@@ -1,5 +1,6 @@
 -- Who of a line is woken or taken off, as loops take them out.
 use Rattle.std.proofs.Common.{◌≡◌, ◌⊎◌, inl, inr, ℕ, zero, suc, ◌<◌, ◌≤◌, ◌||◌, ◌==◌, Bool, true, false, if◌then◌else◌, List, [], ◌∷◌, length, map, filter, take, get_or, set, refl, sym, ap, ◌∙◌, arith, eq-eqb, add-one, ◌+◌, ◌-◌, get_or-set_same, get_or-set_other}
+use Rattle.std.proofs.lemmas.Grind.{common_steps}
 use Rattle.std.specs.List.{list_any, remove}
 use Rattle.std.proofs.lemmas.Bool.{cases_eq, true≢false, ne_eqb}
 use Rattle.sab_plan.specs.declared.place.Place.{Place}
@@ -81,19 +82,8 @@ names_end (x ∷ line) (suc i) p le = names_end line i p (omega arith)
 -- a woken agent is one of the names
 pub woken_one : (woken : List Bool) (a b : ℕ) (names : List ℕ) → a < length woken
     → (get_or (set woken a true) b false || has b names) ≡ (get_or woken b false || has b (a ∷ names))
-woken_one woken a b names lt = elim (cases_eq b a) [
-  | inl e ↦ or_both (get_or (set woken a true) b false) (get_or woken b false) (a == b) (has b names)
-      (ap (λ k. get_or (set woken a true) k false) e ∙ get_or-set_same woken a true false lt) (eq-eqb a b (sym e))
-  | inr n ↦ or_none (get_or (set woken a true) b false) (get_or woken b false) (a == b) (has b names)
-      (get_or-set_other woken a b true false n) (ne_eqb a b (λ e. n (sym e)))
-]
-  where
-    or_both : (x y c z : Bool) → x ≡ true → c ≡ true → (x || z) ≡ (y || (c || z))
-    or_both x true c z e f = ap (λ b. b || z) e
-    or_both x false c z e f = ap (λ b. b || z) (e ∙ sym f)
-
-    or_none : (x y c z : Bool) → x ≡ y → c ≡ false → (x || z) ≡ (y || (c || z))
-    or_none x y c z e f = ap (λ b. b || z) e ∙ ap (λ b. y || (b || z)) (sym f)
+woken_one woken a b names lt =
+    grind (arith, common_steps, cases_eq, get_or, set, get_or-set_same, eq-eqb, get_or-set_other, ne_eqb)
 
 one_less : (n : ℕ) → 0 < n → n ≡ suc (n - 1)
 one_less n lt = omega (arith, lt)

@@ -1,5 +1,6 @@
 -- Equality of plans and what they are made of, of moves and of refusals: values that `==` finds equal are the same.
-use Rattle.std.proofs.Common.{◌≡◌, ℤ, Bool, true, List, Option, Some, None, Decides, refl, ap, subst, rules}
+use Rattle.std.proofs.Common.{◌≡◌, ℤ, Bool, true, List, Option, Some, None, Decides, refl, ap, subst, rules, arith}
+use Rattle.std.proofs.lemmas.Grind.{common_steps}
 use Rattle.std.specs.Cmp.{IsEquivalence, unsigned_Decides, booleans_Decides}
 use Rattle.std.specs.Cmp.Lexicographic.{pointwise}
 use Rattle.std.proofs.lemmas.Bool.Decides.{Decides-at}
@@ -62,11 +63,7 @@ pub decides_calls : (xs ys : List Call) (r : Bool) → r ≡ pointwise (call.gho
 decides_calls = slice_eq-Decides (decides_same call_laws.laws-law same_call)
 
 same_script : (s t : ScriptParts) → (script.ghosts).eq s t ≡ true → s ≡ t
-same_script s t e =
-    let h = and_parts _ _ e in
-    let can_block = (booleans_Decides s.can_block t.can_block).0 h.0 in
-    let calls = (decides_calls s.calls t.calls _ refl).0 h.1 in
-    λ i. record { can_block = can_block i; calls = calls i }
+same_script s t e = grind (arith, common_steps, and_parts, booleans_Decides, decides_calls)
 
 same_plan : (p q : PlanParts) → (plan.ghosts).eq p q ≡ true → p ≡ q
 same_plan p q e =

@@ -21,9 +21,6 @@ same_place-same p q e = grind (arith, common_steps, eq-eqb)
 pub same_place-true : (p q : Place) → same_place p q ≡ true → p ≡ q
 same_place-true p q e = grind (arith, common_steps, and_parts, eqb-true)
 
-pub same_place-other : (p q : Place) → p ≢ q → same_place p q ≡ false
-same_place-other p q n = grind (arith, common_steps, same_place, same_place-true)
-
 pub same_place-false : (p q : Place) → same_place p q ≡ false → p ≢ q
 same_place-false p q f e = true≢false (sym (same_place-same p q e) ∙ f)
 

@@ -1,5 +1,6 @@
 -- Where a text is cut into lines.
 use Rattle.std.proofs.Common.{◌≡◌, ℕ, suc, ◌≤◌, ◌==◌, List, [], ◌∷◌, ◌++◌, length, false, refl, ap, ◌∙◌, arith}
+use Rattle.std.proofs.lemmas.Grind.{common_steps}
 use Rattle.std.proofs.lemmas.Bool.{ne_eqb}
 use Rattle.sab_trace.specs.Lines.{HasNoLineFeed, in_front, lines_of}
 
@@ -42,12 +43,7 @@ pub record IsFirstLong (n : ℕ) (lines : List (List ℕ)) : Type 0 where
   pub long : n ≤ length line
 
 longer : (b n : ℕ) (lines : List (List ℕ)) → IsFirstLong n lines → IsFirstLong (suc n) (in_front b lines)
-longer b n lines h = record {
-  line = b ∷ h.line;
-  rest = h.rest;
-  is = ap (in_front b) h.is;
-  long = let l = h.long in omega arith;
-}
+longer b n lines h = grind (arith, common_steps, in_front)
 
 one_long : (b : ℕ) (lines : List (List ℕ)) → IsFirstLong 1 (in_front b lines)
 one_long b [] = record { line = b ∷ []; rest = []; is = refl; long = omega arith }

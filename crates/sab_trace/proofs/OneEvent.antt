@@ -1,22 +1,22 @@
 -- A line spells one event at most, and one with a fault spells none.
-use Rattle.std.proofs.Common.{◌≡◌, ℕ, zero, suc, ℤ, pos, negsuc, List, [], Bool, true, false, refl, ap, sym, ◌∙◌, arith}
-use Rattle.std.specs.Prelude.{IsTrue, ◌||◌, codes, if◌then◌else◌}
+use Rattle.std.proofs.Common.{◌≡◌, ℕ, zero, suc, ℤ, pos, negsuc, List, [], refl, ap, sym, ◌∙◌, arith}
+use Rattle.std.proofs.lemmas.Grind.{common_steps}
+use Rattle.std.specs.Prelude.{IsTrue, codes, if◌then◌else◌}
 use Rattle.std.specs.Str.{bytes_eq}
-use Rattle.serde_json.specs.Data.{Data, Num, unsigned, Members, no_members, member}
+use Rattle.serde_json.specs.Data.{Data, Num, Members, no_members, member}
 use Rattle.serde_json.specs.Data as json
 use Rattle.serde_json.specs.Find.{of_integer}
 use Rattle.sab_judge.specs.declared.event.Event.{Event}
 use Rattle.sab_judge.specs.declared.place.Place.{Place}
 use Rattle.sab_trace.specs.declared.deed.Deed.{Deed}
 use Rattle.sab_trace.specs.declared.deed.Deed.TheVariants.{Load, Store, Add, Sub, And, Or, Xor, Exchange, CompareExchange, Wait, Notify, Leave, TimeUp, Read, Write}
-use Rattle.sab_trace.specs.declared.flags.Flags.{Flags}
 use Rattle.sab_trace.specs.declared.line_fault.LineFault.{LineFault}
 use Rattle.sab_trace.specs.declared.line_fault.LineFault.TheVariants.{TooMany, OutOfMemory, BadShape, BadNumber, BadAgent, NotJson, TooLong, ReadFailed, BadBytes}
 use Rattle.sab_trace.specs.declared.numbers.Numbers.{Numbers}
 use Rattle.sab_trace.specs.Deeds.{word_of, acts}
 use Rattle.sab_trace.specs.Members.{Values, HasMembers, event_object}
 use Rattle.sab_trace.specs.Numbers.{IsWhole, AreNumbers, AreWhole, IsAgent, AreBytes}
-use Rattle.sab_trace.specs.Spelling.{event_of, SpellsEvent, SpellsLine, ReadsAs}
+use Rattle.sab_trace.specs.Spelling.{SpellsEvent, SpellsLine, ReadsAs}
 use Rattle.sab_trace.specs.LineFault.{IsTreeFault, IsLineFault}
 use Rattle.sab_trace.specs.Reading.{IsOfLine}
 
@@ -37,22 +37,6 @@ abbrev value_at : ℕ → Members → Data
 value_at k no_members = json.null
 value_at zero (member name d ms) = d
 value_at (suc k) (member name d ms) = value_at k ms
-
-abbrev number_in : Data → Num
-number_in json.null = unsigned 0
-number_in (json.boolean b) = unsigned 0
-number_in (json.number n) = n
-number_in (json.string s) = unsigned 0
-number_in (json.array ds) = unsigned 0
-number_in (json.object ms) = unsigned 0
-
-abbrev flag_in : Data → Bool
-flag_in json.null = false
-flag_in (json.boolean b) = b
-flag_in (json.number n) = false
-flag_in (json.string s) = false
-flag_in (json.array ds) = false
-flag_in (json.object ms) = false
 
 abbrev text_in : Data → List ℕ
 text_in json.null = []
@@ -104,30 +88,7 @@ same_deed d e same = sym (deed_back d) ∙ ap deed_of same ∙ deed_back e
 
 -- a tree has one value for each member
 pub same_values : (tree : Data) (v w : Values) → HasMembers tree v → HasMembers tree w → v ≡ w
-same_values tree v w p q =
-    let trees : event_object v p.source ≡ event_object w q.source = sym p.is ∙ q.is in
-    let agent : v.agent ≡ w.agent = ap (λ d. number_in (value_at 0 (members_in d))) trees in
-    let atomic : v.flags.atomic ≡ w.flags.atomic = ap (λ d. flag_in (value_at 1 (members_in d))) trees in
-    let block : v.block ≡ w.block = ap (λ d. number_in (value_at 2 (members_in d))) trees in
-    let byte : v.byte ≡ w.byte = ap (λ d. number_in (value_at 3 (members_in d))) trees in
-    let call : v.call ≡ w.call = ap (λ d. number_in (value_at 4 (members_in d))) trees in
-    let word : word_of v.does ≡ word_of w.does = ap (λ d. text_in (value_at 5 (members_in d))) trees in
-    let does = same_deed v.does w.does word in
-    let event : v.event ≡ w.event = ap (λ d. number_in (value_at 6 (members_in d))) trees in
-    let read : v.flags.read ≡ w.flags.read = ap (λ d. flag_in (value_at 7 (members_in d))) trees in
-    let size : v.size ≡ w.size = ap (λ d. number_in (value_at 8 (members_in d))) trees in
-    let waiters : v.flags.waiters ≡ w.flags.waiters = ap (λ d. flag_in (value_at 10 (members_in d))) trees in
-    let write : v.flags.write ≡ w.flags.write = ap (λ d. flag_in (value_at 11 (members_in d))) trees in
-    λ i. record {
-      does = does i;
-      flags = record { read = read i; write = write i; atomic = atomic i; waiters = waiters i };
-      agent = agent i;
-      block = block i;
-      byte = byte i;
-      call = call i;
-      event = event i;
-      size = size i;
-    }
+same_values tree v w p q = grind (arith, common_steps, event_object, word_of, same_deed)
 
 -- a number is one whole number
 one_integer : (y z : ℤ) → of_integer y ≡ of_integer z → y ≡ z
@@ -140,67 +101,24 @@ pub same_whole : (x : Num) (y z : ℤ) → IsWhole x y → IsWhole x z → y ≡
 same_whole x y z p q = one_integer y z (sym p.is ∙ q.is)
 
 pub same_numbers : (v : Values) (m n : Numbers) → AreNumbers v m → AreNumbers v n → m ≡ n
-same_numbers v m n p q =
-    let agent = same_whole v.agent m.agent n.agent p.agent q.agent in
-    let block = same_whole v.block m.block n.block p.block q.block in
-    let byte = same_whole v.byte m.byte n.byte p.byte q.byte in
-    let call = same_whole v.call m.call n.call p.call q.call in
-    let event = same_whole v.event m.event n.event p.event q.event in
-    let size = same_whole v.size m.size n.size p.size q.size in
-    λ i. record { agent = agent i; block = block i; byte = byte i; call = call i; event = event i; size = size i }
+same_numbers v m n p q = grind (arith, common_steps, same_whole)
 
 same_agent : (n : Numbers) (a b : ℕ) → IsAgent n a → IsAgent n b → a ≡ b
 same_agent n a b p q = let e : pos a ≡ pos b = sym p.is ∙ q.is in cc
 
 same_place : (n : Numbers) (p q : Place) (k l : ℕ) → AreBytes n p k → AreBytes n q l → p ≡ q
-same_place n p q k l g h =
-    let blocks : pos p.block ≡ pos q.block = sym g.block ∙ h.block in
-    let bytes : pos p.byte ≡ pos q.byte = sym g.byte ∙ h.byte in
-    let block : p.block ≡ q.block = cc in
-    let byte : p.byte ≡ q.byte = cc in
-    λ i. record { block = block i; byte = byte i }
+same_place n p q k l g h = grind (arith, common_steps, pos)
 
 same_len : (n : Numbers) (p q : Place) (k l : ℕ) → AreBytes n p k → AreBytes n q l → k ≡ l
 same_len n p q k l g h = let sizes : pos k ≡ pos l = sym g.size ∙ h.size in cc
 
--- where bytes aren't needed, it is one event whichever they are
-same_event : (f : Flags) (a : ℕ) (p q : Place) (k l : ℕ)
-    → (IsTrue (acts f) → p ≡ q) → (IsTrue (acts f) → k ≡ l) → event_of f a p k ≡ event_of f a q l
-same_event f a p q k l places lens = by (acts f) refl
-  where
-    idle : (read write waiters : Bool) → ((read || write) || waiters) ≡ false
-        → event_of (record f { read = read; write = write; waiters = waiters }) a p k
-        ≡ event_of (record f { read = read; write = write; waiters = waiters }) a q l
-    idle false false false e = refl
-    idle true write waiters e = cc
-    idle false true waiters e = cc
-    idle false false true e = cc
-
-    by : (b : Bool) → acts f ≡ b → event_of f a p k ≡ event_of f a q l
-    by true e = let place = places e in let len = lens e in λ i. event_of f a (place i) (len i)
-    by false e = idle f.read f.write f.waiters e
-
 pub one_event : (position : ℕ) (tree : Data) (e f : Event) → SpellsEvent position tree e → SpellsEvent position tree f
     → e ≡ f
-one_event position tree e f p q =
-    let values = same_values tree p.values q.values p.shaped.members q.shaped.members in
-    let whole : AreWhole position p.values q.numbers = rw values q.whole in
-    let numbers = same_numbers p.values p.numbers q.numbers p.whole.are whole.are in
-    let by : IsAgent p.numbers q.agent = rw numbers q.by in
-    let agent = same_agent p.numbers p.agent q.agent p.by by in
-    let bytes : IsTrue (acts p.values.flags) → AreBytes p.numbers q.place q.len = rw (values, numbers) q.bytes in
-    let event : event_of p.values.flags p.agent p.place p.len ≡ event_of p.values.flags p.agent q.place q.len =
-    same_event p.values.flags p.agent p.place q.place p.len q.len
-    (λ needed. same_place p.numbers p.place q.place p.len q.len (p.bytes needed) (bytes needed))
-    (λ needed. same_len p.numbers p.place q.place p.len q.len (p.bytes needed) (bytes needed)) in
-    p.is ∙ event ∙ (λ i. event_of ((values i).flags) (agent i) q.place q.len) ∙ sym q.is
+one_event position tree e f p q = grind (arith, common_steps)
 
 pub one_line : (position : ℕ) (line : List ℕ) (e f : Event) → SpellsLine position line e → SpellsLine position line f
     → e ≡ f
-one_line position line e f p q =
-    let trees = same_tree line p.tree q.tree p.reading q.reading in
-    let other : SpellsEvent position p.tree f = rw trees q.spelled in
-    one_event position p.tree e f p.spelled other
+one_line position line e f p q = grind (arith, common_steps, same_tree, one_event)
 
 -- a tree with a fault spells no event
 tree_fault : (position : ℕ) (tree : Data) (fault : LineFault) (e : Event) → IsTreeFault position tree fault

@@ -1,7 +1,8 @@
 -- Reading a piece, and all pieces.
-use Rattle.std.proofs.Common.{◌≡◌, ℕ, ◌+◌, ◌<◌, ◌≤◌, ◌==◌, true, false, List, [], ◌∷◌, ◌++◌, length, Option, Some, None, IfSome, Result, IfErr, refl, ap, sym, subst, ◌∙◌, arith, append_assoc, append-nil, length-append}
+use Rattle.std.proofs.Common.{◌≡◌, ℕ, ◌+◌, ◌<◌, ◌≤◌, ◌==◌, true, false, List, [], ◌∷◌, ◌++◌, length, Option, Some, None, IfSome, Result, IfErr, refl, ap, sym, subst, ◌∙◌, arith, append_assoc, length-append}
+use Rattle.std.proofs.lemmas.Grind.{common_steps}
 use Rattle.std.specs.Prelude.{IsErrAnd}
-use Rattle.std.specs.Io.KnownBytes.{Consumes, IsAtEnd}
+use Rattle.std.specs.Io.KnownBytes.{Consumes}
 use Rattle.std.proofs.lemmas.Bool.{eqb-true}
 use Rattle.std.proofs.lemmas.Result.{err_from_is_err_and}
 use Rattle.sab_judge.specs.declared.event.Event.{Event}
@@ -30,10 +31,7 @@ pub record HasRead (had left : Option (List ℕ)) (events : List Event) (begun :
 -- a piece that was read, and one behind it that is refused
 within : (front behind piece before more : List ℕ) (refusal : Refusal) → front ++ behind ≡ piece
     → IsRefusedBy (((before ++ front) ++ behind) ++ more) refusal → IsRefusedBy ((before ++ piece) ++ more) refusal
-within front behind piece before more refusal e h =
-    let same : (before ++ front) ++ behind ≡ before ++ piece =
-    append_assoc before front behind ∙ ap (λ (l : List ℕ). before ++ l) e in
-    subst (λ (l : List ℕ). IsRefusedBy (l ++ more) refusal) same h
+within front behind piece before more refusal e h = grind (arith, common_steps, append_assoc)
 
 -- a line that the rest ends, or begins, is too long
 pub piece_long : (piece rest part behind : List ℕ) (old : List Event) (begun_old : List ℕ) (new : List Event)
@@ -130,19 +128,6 @@ failed_on (Some xs) None events begun refusal h number fault = absurd h.consumed
 failed_on (Some xs) (Some ys) events begun refusal h number fault =
     subst (λ (l : List ℕ). IsRefusedBy l refusal) (sym h.consumed)
     (read_failed h.read ys events begun refusal h.to number fault)
-
--- all was read
-pub all_on : (had left after : Option (List ℕ)) (piece : List ℕ) (events : List Event) (begun : List ℕ)
-    (P : List ℕ → Type 0)
-    → HasRead had left events begun → Consumes left after piece → piece ≡ [] → IsAtEnd after
-    → ((bytes : List ℕ) → IsReadTo bytes events begun → P bytes) → IfSome had P
-all_on None left after piece events begun P h consumed nothing end then = tt
-all_on (Some xs) None after piece events begun P h consumed nothing end then = absurd h.consumed
-all_on (Some xs) (Some ys) None piece events begun P h consumed nothing end then = absurd consumed
-all_on (Some xs) (Some ys) (Some zs) piece events begun P h consumed nothing end then =
-    let rest : ys ≡ [] = consumed ∙ rw (nothing, end) refl in
-    let same : xs ≡ h.read = h.consumed ∙ rw rest (append-nil h.read) in
-    subst P (sym same) (then h.read h.to)
 
 -- at the exit of a `?`
 pub exit_with : {X E : Type 0} (P : E → Type 0) (r : Result X E) (e : E) → IsErrAnd r (λ y. y ≡ e) → P e → IfErr r P

@@ -1,6 +1,7 @@
 -- What a line says, and the event or the fault that follows.
-use Rattle.std.proofs.Common.{◌≡◌, ℕ, List, Bool, true, false, Option, Some, None, refl, subst}
-use Rattle.std.specs.Prelude.{IsTrue, ◌||◌}
+use Rattle.std.proofs.Common.{◌≡◌, ℕ, List, true, false, Option, Some, None, refl, arith}
+use Rattle.std.proofs.lemmas.Grind.{common_steps}
+use Rattle.std.specs.Prelude.{IsTrue}
 use Rattle.serde_json.specs.Data.{Data, object}
 use Rattle.sab_judge.specs.declared.event.Event.{Event}
 use Rattle.sab_judge.specs.declared.place.Place.{Place}
@@ -8,41 +9,13 @@ use Rattle.sab_trace.specs.declared.flags.Flags.{Flags}
 use Rattle.sab_trace.specs.declared.found.Found.{Found}
 use Rattle.sab_trace.specs.declared.line_fault.LineFault.{LineFault}
 use Rattle.sab_trace.specs.declared.line_fault.LineFault.TheVariants.{TooMany, OutOfMemory, BadShape, BadNumber, BadAgent, NotJson, TooLong, ReadFailed, BadBytes}
-use Rattle.sab_trace.specs.declared.numbers.Numbers.{Numbers}
 use Rattle.sab_trace.specs.declared.said.Said.{Said}
 use Rattle.sab_trace.specs.Deeds.{acts, CanHave}
-use Rattle.sab_trace.specs.Members.{Values, HasMembers, IsShaped}
 use Rattle.sab_trace.specs.Numbers.{AreNumbers, Fit, IsAgent, AreBytes}
 use Rattle.sab_trace.specs.Seen.{said_values, AreSafe, Says}
 use Rattle.sab_trace.specs.Tokens.{slots_of, members_of, HasNumbersOf}
 use Rattle.sab_trace.specs.Spelling.{event_of, SpellsEvent, ReadsAs}
 use Rattle.sab_trace.specs.LineFault.{HasNumbers, IsTreeFault, IsReadingFault}
-use Rattle.sab_trace.proofs.OneEvent.{same_numbers}
-
--- what the members of a tree say
-pub says_of : (tree : Data) (v : Values) (n : Numbers) → HasMembers tree v → CanHave v.does v.flags → AreNumbers v n
-    → Says tree (record { does = v.does; flags = v.flags; numbers = n })
-says_of tree v n members can are =
-    let values : v ≡ said_values (record { does = v.does; flags = v.flags; numbers = n }) = λ i. record {
-      does = v.does;
-      flags = v.flags;
-      agent = are.agent.is i;
-      block = are.block.is i;
-      byte = are.byte.is i;
-      call = are.call.is i;
-      event = are.event.is i;
-      size = are.size.is i;
-    } in record {
-      shaped = record { members = subst (HasMembers tree) values members; can = can };
-      safe = record {
-        agent = are.agent.safe;
-        block = are.block.safe;
-        byte = are.byte.safe;
-        call = are.call.safe;
-        event = are.event.safe;
-        size = are.size.safe;
-      };
-    }
 
 -- a member is there for each slot
 pub says_all : (f : Found) (source : Option (List ℕ)) (said : Said) → HasNumbersOf f said.numbers
@@ -63,25 +36,7 @@ says_all f source said numbers read write atomic waiters does has_source safe ca
 }
 
 pub own_numbers : (said : Said) → AreSafe said.numbers → AreNumbers (said_values said) said.numbers
-own_numbers said safe = record {
-  agent = record { is = refl; safe = safe.agent };
-  block = record { is = refl; safe = safe.block };
-  byte = record { is = refl; safe = safe.byte };
-  call = record { is = refl; safe = safe.call };
-  event = record { is = refl; safe = safe.event };
-  size = record { is = refl; safe = safe.size };
-}
-
--- numbers that aren't right
-pub no_fit : (position : ℕ) (tree : Data) (said : Said) → Says tree said
-    → (Fit position said.does said.flags said.numbers → ⊥) → IsTreeFault position tree BadNumber
-no_fit position tree said says wrong = (
-  said_values said,
-  says.shaped,
-  λ numbers whole.
-      let same = same_numbers (said_values said) numbers said.numbers whole.are (own_numbers said says.safe) in
-      wrong (subst (Fit position said.does said.flags) same whole.fit),
-)
+own_numbers said safe = grind (arith, common_steps)
 
 abbrev pub has_numbers : (position : ℕ) (tree : Data) (said : Said) → Says tree said
     → Fit position said.does said.flags said.numbers → HasNumbers position tree
@@ -97,31 +52,12 @@ pub spelled : (position : ℕ) (tree : Data) (said : Said) (agent : ℕ) (place 
     → Says tree said → Fit position said.does said.flags said.numbers → IsAgent said.numbers agent
     → (IsTrue (acts said.flags) → AreBytes said.numbers place len) → event ≡ event_of said.flags agent place len
     → SpellsEvent position tree event
-spelled position tree said agent place len event says fit by bytes is = record {
-  values = said_values said;
-  shaped = says.shaped;
-  numbers = said.numbers;
-  whole = record { are = own_numbers said says.safe; fit = fit };
-  agent = agent;
-  by = by;
-  place = place;
-  len = len;
-  bytes = bytes;
-  is = is;
-}
+spelled position tree said agent place len event says fit by bytes is = grind (arith, common_steps, own_numbers)
 
 -- an event that does nothing to bytes
 pub idle_event : (flags : Flags) (agent : ℕ) (place : Place) (len : ℕ) → acts flags ≡ false
     → record { agent = agent; access = None; waiters = None } ≡ event_of flags agent place len
-idle_event flags agent place len e = by flags.read flags.write flags.waiters e
-  where
-    by : (read write waiters : Bool) → ((read || write) || waiters) ≡ false
-        → record { agent = agent; access = None; waiters = None }
-        ≡ event_of (record flags { read = read; write = write; waiters = waiters }) agent place len
-    by false false false e = refl
-    by true write waiters e = cc
-    by false true waiters e = cc
-    by false false true e = cc
+idle_event flags agent place len e = grind (arith, common_steps, event_of)
 
 -- a fault of the tree that a line reads as
 pub reading_fault : (position : ℕ) (line : List ℕ) (tree : Data) (fault : LineFault) → ReadsAs line tree

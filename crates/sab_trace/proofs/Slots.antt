@@ -1,9 +1,10 @@
 -- Members are read the same in whatever order they stand.
-use Rattle.std.proofs.Common.{◌≡◌, ℕ, zero, suc, List, [], ◌∷◌, Option, Some, None, Bool, true, false, Ordering, Less, Equal, Greater, ◌&&◌, refl, sym, ap, ◌∙◌, nat_cmp}
+use Rattle.std.proofs.Common.{◌≡◌, ℕ, zero, suc, List, [], ◌∷◌, Option, Some, None, Bool, true, false, Ordering, Less, Equal, Greater, ◌&&◌, refl, ap, ◌∙◌, nat_cmp, arith}
+use Rattle.std.proofs.lemmas.Grind.{common_steps}
 use Rattle.std.specs.Prelude.{slice_get}
 use Rattle.std.specs.Cmp.Lexicographic.{slice_cmp}
 use Rattle.std.proofs.lemmas.Bool.{and_parts}
-use Rattle.serde_json.specs.Data.{Data, Members, no_members, member, put}
+use Rattle.serde_json.specs.Data.{Data, Members, member, put}
 use Rattle.sab_trace.specs.Tokens.{Slots, with_tree, members_of}
 
 abbrev is_less : Ordering → Bool
@@ -66,10 +67,6 @@ abbrev name_in : Option (List ℕ × Option Data) → List ℕ
 name_in None = []
 name_in (Some x) = x.0
 
-abbrev tree_in : Option (List ℕ × Option Data) → Option Data
-tree_in None = None
-tree_in (Some x) = x.1
-
 before_at : (l k : List ℕ) (i : ℕ) (ss : Slots) → comes_before_all l ss ≡ true → slice_get ss i ≡ Some (k, None)
     → comes_before l k ≡ true
 before_at l k i [] e at = cc
@@ -80,11 +77,7 @@ before_at l k (suc i) (s ∷ ss) e at = before_at l k i ss (and_parts _ _ e).1 a
 pub put_at : (i : ℕ) (k : List ℕ) (d : Data) (ss : Slots) → are_sorted ss ≡ true → slice_get ss i ≡ Some (k, None)
     → put k d (members_of ss) ≡ members_of (fill i d ss)
 put_at i k d [] sorted at = cc
-put_at zero k d (s ∷ ss) sorted at = here s.0 s.1 (ap name_in at) (ap tree_in at) (and_parts _ _ sorted).0
-  where
-    here : (l : List ℕ) (o : Option Data) → l ≡ k → o ≡ None → comes_before_all l ss ≡ true
-        → put k d (with_tree l o (members_of ss)) ≡ member l d (members_of ss)
-    here l o is none first = rw (is, none) (put_first k d ss (rw is at first))
+put_at zero k d (s ∷ ss) sorted at = grind (arith, common_steps, and_parts, put_first)
 put_at (suc i) k d (s ∷ ss) sorted at =
     let parts = and_parts _ _ sorted in
     let greater = greater_of s.0 k (before_at s.0 k i ss parts.0 at) in

@@ -1,5 +1,6 @@
 -- Reading on.
 use Rattle.std.proofs.Common.{◌≡◌, ℕ, suc, ◌+◌, ◌<◌, ◌≤◌, List, [], ◌∷◌, ◌++◌, length, Option, Some, ap, sym, ◌∙◌, arith, append_assoc, append-nil, length-append}
+use Rattle.std.proofs.lemmas.Grind.{common_steps}
 use Rattle.std.specs.Prelude.{slice_get, take}
 use Rattle.std.proofs.lemmas.List.Elements.{All-append, All-nil}
 use Rattle.sab_judge.specs.declared.event.Event.{Event}
@@ -17,14 +18,7 @@ use Rattle.sab_trace.proofs.Spellings.{as_many, one_more, front_of, next_of}
 -- more of a line
 pub line_more : (before : List ℕ) (events : List Event) (begun piece : List ℕ) → IsReadTo before events begun
     → HasNoLineFeed piece → length (begun ++ piece) ≤ 1024 → IsReadTo (before ++ piece) events (begun ++ piece)
-line_more before events begun piece h in_line short = record {
-  lines = h.lines;
-  split = λ more.
-      let s = h.split (piece ++ more) in rw (append_assoc before piece more, append_assoc begun piece more) s;
-  spelled = h.spelled;
-  in_line = All-append (λ (byte : ℕ). byte ≡ 10 → ⊥) begun piece h.in_line in_line;
-  short = short;
-}
+line_more before events begun piece h in_line short = grind (arith, common_steps, append_assoc)
 
 next_spelled : (lines : List (List ℕ)) (events : List Event) (line : List ℕ) (event : Event)
     → SpellsEach 0 lines events → SpellsLine (length events) line event
@@ -65,16 +59,18 @@ pub line_refused : (bytes : List ℕ) (lines rest : List (List ℕ)) (events : L
     (refusal : Refusal)
     → lines_of bytes ≡ lines ++ line ∷ rest → SpellsEach 0 lines events → RefusesNext events line refusal
     → IsRefusedBy bytes refusal
-line_refused bytes lines rest events line refusal cut spelled h =
-    let many : length lines ≡ length events = as_many 0 lines events spelled in
-    let front : take (length events) (lines_of bytes) ≡ lines = rw (cut, ← many) (front_of lines (line ∷ rest)) in
-    let there : slice_get (lines_of bytes) (length events) ≡ Some line = rw (cut, ← many) (next_of lines rest line) in
-    record {
-      number = h.number;
-      events = events;
-      before = rw front spelled;
-      fault = fault_at (length events) (slice_get (lines_of bytes) (length events)) line refusal.fault there h.fault;
-    }
+line_refused bytes lines rest events line refusal cut spelled h = grind (
+  arith,
+  common_steps,
+  length,
+  as_many,
+  take,
+  lines_of,
+  front_of,
+  slice_get,
+  next_of,
+  fault_at,
+)
 
 -- a line that ended is refused
 pub ended_refused : (before more : List ℕ) (events : List Event) (line : List ℕ) (refusal : Refusal)
@@ -109,12 +105,7 @@ long_refused before piece more events begun refusal h in_line long number fault 
 
 -- there is no more
 pub all_read : (bytes : List ℕ) (events : List Event) → IsReadTo bytes events [] → SpellsTrace bytes events
-all_read bytes events h =
-    let s = h.split [] in
-    let cut : lines_of bytes ≡ h.lines =
-    ap lines_of (sym (append-nil bytes)) ∙ s ∙ ap (λ (ls : List (List ℕ)). h.lines ++ ls) none_of_none
-    ∙ append-nil h.lines in
-    rw cut h.spelled
+all_read bytes events h = grind (arith, common_steps, lines_of, append-nil, none_of_none)
 
 cut_last : (bytes : List ℕ) (events : List Event) (line : List ℕ) (h : IsReadTo bytes events line) → 0 < length line
     → lines_of bytes ≡ h.lines ++ line ∷ []
@@ -140,14 +131,4 @@ last_refused bytes events line refusal h some r =
 pub read_failed : (before more : List ℕ) (events : List Event) (begun : List ℕ) (refusal : Refusal)
     → IsReadTo before events begun → refusal.line ≡ length events + 1 → refusal.fault ≡ ReadFailed
     → IsRefusedBy (before ++ more) refusal
-read_failed before more events begun refusal h number fault =
-    let many : length h.lines ≡ length events = as_many 0 h.lines events h.spelled in
-    let s = h.split more in
-    let front : take (length events) (lines_of (before ++ more)) ≡ h.lines =
-    rw (s, ← many) (front_of h.lines (lines_of (begun ++ more))) in
-    record {
-      number = number;
-      events = events;
-      before = rw front h.spelled;
-      fault = rw fault tt;
-    }
+read_failed before more events begun refusal h number fault = grind (arith, common_steps, length, as_many, front_of)

@@ -17,6 +17,9 @@ const textOf = uncurried(EngineDate.prototype.toString);
 /** The date at which each run begins: the first moment of the year 2000, UTC. */
 const EPOCH = 946_684_800_000;
 
+/** Agents' rows of random numbers have the numbers from here on. Their choices have lower ones. */
+const CHANCE = 2 ** 16;
+
 /**
  * Gives a run's time to this realm's clocks.
  * @param {(isPlain: boolean) => number} now in milliseconds from the run's beginning; whether what the clock returns
@@ -67,8 +70,7 @@ export class Chance {
 
   /** @param {number} seed of the run that begins */
   begin(seed) {
-    this.random.seed(seed);
-    this.random.branch(this.agent);
+    this.random.seedApart(seed, CHANCE + this.agent);
   }
 
   /**

@@ -55,6 +55,41 @@ test("a module that can't be loaded is refused, and one that asks for chance whi
   }
 });
 
+test("an agent that asks what its number is as a property looks at it", async (context) => {
+  for (const number of [
+    "Object.getOwnPropertyDescriptor(given, 'agent').value", "Reflect.getOwnPropertyDescriptor(given, 'agent').value",
+    "Object.getOwnPropertyDescriptors(given).agent.value", "given.__lookupGetter__('agent') ?? given.agent",
+    "given.__lookupSetter__('agent') ?? given.agent",
+  ]) {
+    const module = moduleOf(context, `export const setup = { agents: 2, buffers: [8] };
+export default (given) => {
+  const number = ${number};
+  Atomics.store(new Int32Array(given.buffers[0]), number, number + 1);
+  const { get, value, writable } = Object.getOwnPropertyDescriptor(Object.freeze(given), "agent");
+  if (get !== undefined || value !== number || writable) throw new Error("another");
+};
+`);
+    const { closed, finals, found } = await everySchedule({ ...FEW_WORKERS, module, seeds: 2 });
+    assert.deepEqual({ closed, found }, { closed: true, found: [] });
+    assert.deepEqual(finals.map(({ blocks }) => blocks), [["0100000002000000"]]);
+  }
+});
+
+test("what stands for an object of the language is no proxy, in runs and where agents are learned", async (context) => {
+  const module = moduleOf(context, `import { types } from "node:util";
+export const setup = { agents: 1, buffers: [8] };
+const all = [Date, DataView, Int32Array, Intl.DateTimeFormat, Proxy, SharedArrayBuffer, Symbol, types];
+export default ({ buffers: [buffer] }) => {
+  const words = new Int32Array(buffer);
+  for (const one of [...all, words, buffer]) if (types.isProxy(one)) throw new Error("a proxy");
+  if (types.isProxy(new Proxy({}, {}))) Atomics.store(words, 0, 1);
+};
+export const check = ([buffer]) => new Int32Array(buffer)[0] === 1;
+`);
+  const { closed, found, realRuns } = await everySchedule({ ...FEW_WORKERS, module, seeds: 2 });
+  assert.deepEqual({ closed, found, realRuns }, { closed: true, found: [], realRuns: 2 });
+});
+
 test("what `check` finds is the same in a real run, except for numbers", async (context) => {
   const fails = `import assert from "node:assert/strict";
 ${COUNTS}const lock = {};

@@ -3,6 +3,7 @@
 import assert from "node:assert/strict";
 import { test } from "node:test";
 import { countFrom, heldOperand, indexFrom, limitOf, operandFrom, timeoutFrom } from "../../lib/agent/conversions.mjs";
+import { Chance } from "../../lib/agent/time.mjs";
 import { Random } from "../../lib/memory/random.mjs";
 import { Records } from "../../lib/memory/records.mjs";
 import { CALLS, SCRIPT_KINDS as KINDS, kindOf } from "../../script/kinds.mjs";
@@ -135,6 +136,26 @@ test("the generator draws each number below a count about as often", () => {
   const drawn = [0, 0, 0];
   for (let time = 0; time < 30_000; time += 1) drawn[random.below(3)] += 1;
   for (const often of drawn) assert.ok(Math.abs(often - 10_000) < 500, `${drawn}`);
+});
+
+test("what two agents draw at the same seed isn't alike, nor is it what an agent chooses", () => {
+  const chances = [new Chance(), Object.assign(new Chance(), { agent: 1 })];
+  for (const at of [0, 1, 2]) {
+    /** How often each of 16 pairs of quarters is drawn: 250 times each, more or less. */
+    const pairs = Array(16).fill(0);
+    for (let seed = 1; seed <= 4_000; seed += 1) {
+      const [one, other] = chances.map((chance) => {
+        chance.begin(seed);
+        return Math.floor(4 * Array.from({ length: at + 1 }, () => chance.fraction())[at]);
+      });
+      pairs[4 * one + other] += 1;
+    }
+    for (const often of pairs) assert.ok(often > 180 && often < 320, `${pairs}`);
+  }
+  const chosen = new Random(new Int32Array(4));
+  chosen.seedApart(1, 0);
+  chances[0].begin(1);
+  assert.notEqual(chances[0].random.next(), chosen.next());
 });
 
 test("records keep calls and answers as they were written", () => {

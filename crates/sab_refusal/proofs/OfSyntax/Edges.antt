@@ -1,5 +1,6 @@
 -- What a byte does beside an edge: it ends a word, or a line feed ends the text there.
 use Rattle.std.proofs.Common.{◌≡◌, ℕ, zero, suc, ◌<◌, ◌≤◌, Bool, true, false, cond, ◌&&◌, ◌||◌, nat_lt, nat_le, List, length, Option, Some, None, Ok, Err, inl, inr, ◌⊎◌, ⊎_elim, refl, sym, ap, ◌∙◌, subst, arith}
+use Rattle.std.proofs.lemmas.Grind.{common_steps}
 use Rattle.std.proofs.lemmas.Bool.{false≢true, true≢false, cases_Bool, and_parts, or_from, or_left, or_right, or_cases, eqb-true, ne_eqb, leb-true, le-ltb}
 use Rattle.std.specs.Prelude.{◌==◌, ⊤, slice_get}
 use Rattle.std.specs.Char.{is_ascii_digit, is_ascii_alphabetic}
@@ -301,14 +302,7 @@ LowLiteral b None = ⊤
 LowLiteral b (Some l) = b < 128
 
 literal_low : (b : ℕ) → LowLiteral b (literal_at b)
-literal_low b = by (b == 116) (b == 102) (b == 110) refl refl refl
-  where
-    by : (t f n : Bool) → (b == 116) ≡ t → (b == 102) ≡ f → (b == 110) ≡ n
-        → LowLiteral b (cond t (Some True) (cond f (Some False) (cond n (Some Null) None)))
-    by true f n et ef en = same_low b 116 (omega arith) et
-    by false true n et ef en = same_low b 102 (omega arith) ef
-    by false false true et ef en = same_low b 110 (omega arith) en
-    by false false false et ef en = tt
+literal_low b = grind (arith, common_steps, cond, same_low)
 
 low_inside : (next : Next) (st : List Bracket) (l : Option Literal) (o : Option NumberPart) (b : ℕ)
     → LowLiteral b l → LowPart b o → Low b (begin_inside (reader I.Nothing next st) (inside_by l o) b)
@@ -390,10 +384,7 @@ plain_hex : (b : ℕ) (part : StringPart) → 128 ≤ b → PlainTo (cond (is_he
 plain_hex b part high = plain_never b part F.Escape (is_hex b) (hex_low b) high
 
 string_plain : (part : StringPart) (b : ℕ) → 128 ≤ b → PlainTo (string_behind part b)
-string_plain P.Plain b h =
-    plain_by (b == 34) _ _ (λ q. absurd (omega (arith, h, same_low b 34 (omega arith) q)))
-    (λ q. plain_by (b == 92) _ _ (λ e. absurd (omega (arith, h, same_low b 92 (omega arith) e))) (λ e. plain_by
-    (nat_lt b 32) _ _ (λ c. tt) (λ c. refl)))
+string_plain P.Plain b h = grind (arith, common_steps, plain_by, same_low, nat_lt)
 string_plain P.Escape b h =
     plain_by (b == 117) _ _ (λ e. absurd (omega (arith, h, same_low b 117 (omega arith) e))) (λ e. plain_by
     (is_escape b) _ _ (λ f. refl) (λ f. tt))
@@ -464,19 +455,10 @@ close_byte r b = by_test OfByte (may_close r.next && closes (innermost r.bracket
 
 operator_byte : (r : Reader) (b : ℕ) → OfByte (by_operator r b)
 operator_byte r b =
-    by_test OfByte (b == 91) _ _ (λ e. open_byte r _)
-    (λ e. by_test OfByte (b == 123) _ _ (λ e. open_byte r _)
-    (λ e. by_test OfByte (b == 93) _ _ (λ e. close_byte r _)
-    (λ e. by_test OfByte (b == 125) _ _ (λ e. close_byte r _)
-    (λ e. by_test OfByte (b == 44) _ _ (λ e. going_byte r (behind_comma r.next (innermost r.brackets)))
-    (λ e. going_byte r (behind_colon r.next))))))
+    grind (arith, common_steps, by_test, open_byte, close_byte, going_byte, behind_comma, innermost, behind_colon)
 
 inside_byte : (r : Reader) (o : Option Inside) (b : ℕ) → OfByte (begin_inside r o b)
-inside_byte r None b = go (is_ascii_alphabetic b)
-  where
-    go : (d : Bool) → OfByte (Err (cond d (S.Byte F.Word) (S.Byte (F.Unexpected (expected_of r.next r.brackets)))))
-    go true = tt
-    go false = tt
+inside_byte r None b = grind (arith, common_steps, is_ascii_alphabetic, cond, expected_of)
 inside_byte r (Some i) b = tt
 
 begin_byte : (r : Reader) (b : ℕ) → OfByte (begin_in r b)
@@ -609,10 +591,7 @@ at_part Q r (Some part) = tt
 at_letter : (l : Literal) (next : Next) (st : List Bracket) (o : Option ℕ) (b : ℕ)
     → AtByte ((literal_by (reader (I.Literal l) next st) o 10 ≡ Ok (reader I.Nothing next st))
     × ((false ≡ true) ⊎ (ends_word b ≡ true))) (literal_by (reader (I.Literal l) next st) o b)
-at_letter l next st None b =
-    by_test (AtByte ((literal_by (reader (I.Literal l) next st) None 10 ≡ Ok (reader I.Nothing next st))
-    × ((false ≡ true) ⊎ (ends_word b ≡ true)))) (ends_word b) _ _
-    (λ e. at_any _ (begin_in (reader I.Nothing next st) b) (refl, inr e)) (λ e. tt)
+at_letter l next st None b = grind (arith, common_steps, by_test, literal_by, reader, ends_word, at_any, begin_in)
 at_letter l next st (Some c) b =
     by_test (AtByte ((literal_by (reader (I.Literal l) next st) (Some c) 10 ≡ Ok (reader I.Nothing next st))
     × ((false ≡ true) ⊎ (ends_word b ≡ true)))) (c == b) _ _ (λ e. tt) (λ e. tt)

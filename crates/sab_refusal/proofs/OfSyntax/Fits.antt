@@ -1,24 +1,22 @@
 -- How far a reader can be.
-use Rattle.std.proofs.Common.{◌≡◌, ℕ, suc, ◌<◌, ◌≤◌, Bool, true, false, cond, ◌&&◌, List, [], ◌∷◌, ◌++◌, length, drop, Option, Some, None, Ok, Err, refl, sym, ap, ◌∙◌, subst, arith, ◌⊎◌, inl, inr}
-use Rattle.std.proofs.lemmas.Bool.{false≢true, eqb-false, cases_Bool}
+use Rattle.std.proofs.Common.{◌≡◌, ℕ, ◌≤◌, Bool, true, false, cond, ◌&&◌, List, [], ◌∷◌, length, drop, Option, Some, None, Ok, Err, refl, arith}
+use Rattle.std.proofs.lemmas.Grind.{common_steps}
+use Rattle.std.proofs.lemmas.Bool.{false≢true, eqb-false}
 use Rattle.std.specs.Prelude.{◌==◌, ⊤}
 use Rattle.sab_refusal.specs.declared.syntax.brackets.Bracket.{Bracket}
 use Rattle.sab_refusal.specs.declared.syntax.brackets.Bracket.TheVariants.{Array, Object}
 use Rattle.sab_refusal.specs.declared.syntax.literal.Literal.{Literal}
 use Rattle.sab_refusal.specs.declared.syntax.number_part.NumberPart.{NumberPart}
 use Rattle.sab_refusal.specs.declared.syntax.string_part.StringPart.{StringPart}
-use Rattle.sab_refusal.specs.declared.syntax.string_part.StringPart.TheVariants.{Plain}
 use Rattle.sab_refusal.specs.declared.syntax.reader.Next.{Next}
 use Rattle.sab_refusal.specs.declared.syntax.reader.Next.TheVariants.{First, Value, Name, Colon, After}
 use Rattle.sab_refusal.specs.declared.syntax.reader.Inside.{Inside}
 use Rattle.sab_refusal.specs.declared.syntax.reader.Inside.TheVariants as I
-use Rattle.sab_refusal.specs.declared.syntax.reader.Reader.{Reader}
 use Rattle.sab_refusal.specs.Syntax.Brackets.{innermost}
 use Rattle.sab_refusal.specs.Syntax.Literal.{literal_at}
 use Rattle.sab_refusal.specs.Syntax.Number.{first_part, part_behind, is_complete}
 use Rattle.sab_refusal.specs.Syntax.String.{Behind, string_behind}
-use Rattle.sab_refusal.specs.Syntax.Reader.{Step, reader, is_between, takes_value, takes_name, name_by, may_close, closes, behind_comma, behind_colon, going_on, unexpected, open_bracket, close_bracket, pass_comma, pass_colon, by_operator, is_operator, is_white, begin, begin_in, begin_string, begin_word, begin_inside, inside_by, inside_at, string_by, literal_by, in_literal, number_by, number_end, in_number, step, step_in, ends_word}
-use Rattle.sab_refusal.specs.Syntax.Stop.{token_after}
+use Rattle.sab_refusal.specs.Syntax.Reader.{Step, reader, takes_value, takes_name, may_close, closes, open_bracket, close_bracket, pass_comma, pass_colon, by_operator, is_operator, is_white, begin_in, begin_string, begin_inside, inside_by, string_by, literal_by, number_by, step_in, ends_word}
 
 -- what comes next goes with the brackets
 abbrev pub NextFits : Next → List Bracket → Type 0
@@ -62,10 +60,7 @@ nothing next st le n = record { few = le; next_fits = n; in_fits = tt }
 
 keeps_open : (next : Next) (st : List Bracket) (b : Bracket) → length st ≤ 127
     → Keeps (open_bracket (reader I.Nothing next st) b)
-keeps_open next st b le =
-    keeps_cond (takes_value next st) _ _
-    (λ v. keeps_cond (length st == 127) _ _ (λ e. tt)
-    (λ e. let ne = eqb-false (length st) 127 e in nothing First (b ∷ st) (omega (arith, ne)) tt)) (λ v. tt)
+keeps_open next st b le = grind (arith, common_steps, keeps_cond, takes_value, length, eqb-false, nothing)
 
 fewer : (st : List Bracket) → length st ≤ 127 → length (drop 1 st) ≤ 127
 fewer [] le = omega arith
@@ -96,11 +91,7 @@ keeps_colon After st le = tt
 keeps_operator : (next : Next) (st : List Bracket) (b : ℕ) → length st ≤ 127
     → Keeps (by_operator (reader I.Nothing next st) b)
 keeps_operator next st b le =
-    keeps_cond (b == 91) _ _ (λ e. keeps_open next st Array le)
-    (λ e. keeps_cond (b == 123) _ _ (λ e. keeps_open next st Object le)
-    (λ e. keeps_cond (b == 93) _ _ (λ e. keeps_close next st Array le)
-    (λ e. keeps_cond (b == 125) _ _ (λ e. keeps_close next st Object le)
-    (λ e. keeps_cond (b == 44) _ _ (λ e. keeps_comma next st le) (λ e. keeps_colon next st le)))))
+    grind (arith, common_steps, keeps_cond, keeps_open, keeps_close, keeps_comma, keeps_colon)
 
 -- a name comes in an object
 named : (next : Next) (st : List Bracket) → takes_name next st ≡ true → NextFits Colon st
@@ -115,10 +106,7 @@ named Colon st e = absurd (false≢true e)
 named After st e = absurd (false≢true e)
 
 keeps_string : (next : Next) (st : List Bracket) → length st ≤ 127 → Keeps (begin_string (reader I.Nothing next st))
-keeps_string next st le =
-    keeps_cond (takes_value next st) _ _ (λ e. record { few = le; next_fits = tt; in_fits = tt })
-    (λ e. keeps_cond (takes_name next st) _ _ (λ n. record { few = le; next_fits = named next st n; in_fits = tt })
-    (λ n. tt))
+keeps_string next st le = grind (arith, common_steps, keeps_cond, takes_value, takes_name, named)
 
 keeps_inside : (next : Next) (st : List Bracket) (l : Option Literal) (o : Option NumberPart) (b : ℕ) → length st ≤ 127
     → Keeps (begin_inside (reader I.Nothing next st) (inside_by l o) b)

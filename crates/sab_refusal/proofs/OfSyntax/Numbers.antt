@@ -1,10 +1,11 @@
 -- What the rest of a number has to be, by its parts.
-use Rattle.std.proofs.Common.{◌≡◌, ℕ, suc, ◌+◌, ◌-◌, Bool, true, false, cond, ◌||◌, List, [], ◌∷◌, ◌++◌, length, take, drop, Option, Some, None, option_and_then, refl, sym, ap, ◌∙◌, arith, ◌⊎◌, inl, inr, append_assoc, length-append, take_at}
-use Rattle.std.proofs.lemmas.Bool.{ne_eqb, cases_Bool}
+use Rattle.std.proofs.Common.{◌≡◌, ℕ, suc, ◌+◌, ◌-◌, Bool, true, false, cond, ◌||◌, List, ◌∷◌, drop, Option, Some, None, option_and_then, refl, sym, ap, ◌∙◌, arith}
+use Rattle.std.proofs.lemmas.Grind.{common_steps}
+use Rattle.std.proofs.lemmas.Bool.{ne_eqb}
 use Rattle.std.specs.Prelude.{◌==◌}
 use Rattle.std.specs.List.{prefix_len}
 use Rattle.std.specs.Char.{is_ascii_digit}
-use Rattle.json.specs.Word.{head, ends_word, after_digits, after_minus, after_sign, after_whole, after_fraction, after_exponent, after_number}
+use Rattle.json.specs.Word.{after_digits, after_sign, after_whole, after_fraction, after_exponent, after_number}
 use Rattle.sab_refusal.specs.declared.syntax.number_part.NumberPart.{NumberPart}
 use Rattle.sab_refusal.specs.declared.syntax.number_part.NumberPart.TheVariants.{Minus, Zero, Whole, Point, Fraction, Power, Sign, Exponent}
 use Rattle.sab_refusal.specs.Syntax.Number.{first_part, part_behind, is_complete, digit_to, power_to, point_or_power_to}
@@ -45,10 +46,7 @@ digits_off : (b : ℕ) (xs : List ℕ) → is_ascii_digit b ≡ false → digits
 digits_off b xs e = ap (λ n. drop n (b ∷ xs)) (none_more b xs e)
 
 after_on : (b : ℕ) (xs : List ℕ) → is_ascii_digit b ≡ true → after_digits (b ∷ xs) ≡ Some (digits_of xs)
-after_on b xs e =
-    let k = prefix_len is_ascii_digit xs in
-    ap (λ n. cond (n == 0) None (Some (drop n (b ∷ xs)))) (one_more b xs e)
-    ∙ ap (λ c. cond c None (Some (digits_of xs))) (ne_eqb (suc k) 0 (λ h. omega arith))
+after_on b xs e = grind (arith, common_steps, prefix_len, is_ascii_digit, cond, drop, one_more, ne_eqb)
 
 after_off : (b : ℕ) (xs : List ℕ) → is_ascii_digit b ≡ false → after_digits (b ∷ xs) ≡ None
 after_off b xs e = ap (λ n. cond (n == 0) None (Some (drop n (b ∷ xs)))) (none_more b xs e)
@@ -85,16 +83,12 @@ by_point b xs true e =
     ap (λ c. option_and_then after_exponent (cond c (after_digits xs) (Some (b ∷ xs)))) e
     ∙ sym (ap (λ c. going (cond c (Some Point) (power_to b)) true b xs) e)
 by_point b xs false e =
-    ap (λ c. option_and_then after_exponent (cond c (after_digits xs) (Some (b ∷ xs)))) e
-    ∙ by_power b xs (b == 101 || b == 69) refl
-    ∙ sym (ap (λ c. going (cond c (Some Point) (power_to b)) true b xs) e)
+    grind (arith, common_steps, option_and_then, after_exponent, cond, after_digits, by_power, power_to)
 
 by_whole : (b : ℕ) (xs : List ℕ) (z : Bool) → (b == 48) ≡ z
     → number_rest Minus (b ∷ xs) ≡ going (part_behind Minus b) false b xs
 by_whole b xs true e =
-    ap (λ c. option_and_then after_exponent (option_and_then after_fraction (cond c (Some xs) (after_digits
-    (b ∷ xs))))) e
-    ∙ sym (ap (λ c. going (cond c (Some Zero) (digit_to b Whole)) false b xs) e)
+    grind (arith, common_steps, option_and_then, after_exponent, after_fraction, cond, after_digits, digit_to)
 by_whole b xs false e =
     ap (λ c. option_and_then after_exponent (option_and_then after_fraction (cond c (Some xs) (after_digits
     (b ∷ xs))))) e
@@ -141,17 +135,6 @@ number_rest-step Power b xs = by_sign b xs (b == 45 || b == 43) refl
 number_rest-step Sign b xs = by_last_digit b xs
 number_rest-step Exponent b xs = by_more b xs (is_ascii_digit b) Exponent None Some refl refl refl
 
--- a number ends where the text does
-pub number_rest-end : (q : NumberPart) → number_rest q [] ≡ cond (is_complete q) (Some []) None
-number_rest-end Minus = refl
-number_rest-end Zero = refl
-number_rest-end Whole = refl
-number_rest-end Point = refl
-number_rest-end Fraction = refl
-number_rest-end Power = refl
-number_rest-end Sign = refl
-number_rest-end Exponent = refl
-
 -- the first byte of a number
 
 abbrev pub begun : Option NumberPart → List ℕ → Option (List ℕ)
@@ -172,9 +155,7 @@ first_zero : (b : ℕ) (xs : List ℕ) (z : Bool) → (b == 48) ≡ z
     → option_and_then after_exponent (option_and_then after_fraction (after_whole (b ∷ xs)))
     ≡ begun (cond (b == 48) (Some Zero) (digit_to b Whole)) xs
 first_zero b xs true e =
-    ap (λ c. option_and_then after_exponent (option_and_then after_fraction (cond c (Some xs) (after_digits
-    (b ∷ xs))))) e
-    ∙ sym (ap (λ c. begun (cond c (Some Zero) (digit_to b Whole)) xs) e)
+    grind (arith, common_steps, option_and_then, after_exponent, after_fraction, cond, after_digits, digit_to)
 first_zero b xs false e =
     ap (λ c. option_and_then after_exponent (option_and_then after_fraction (cond c (Some xs) (after_digits
     (b ∷ xs))))) e

@@ -1,5 +1,6 @@
 -- There is at most one place where a text's first broken token begins.
-use Rattle.std.proofs.Common.{◌≡◌, ℕ, ◌-◌, ◌<◌, ◌≤◌, true, List, length, slice_index, inl, inr, ◌⊎◌, sym, ap, ◌∙◌, arith}
+use Rattle.std.proofs.Common.{◌≡◌, ℕ, ◌-◌, ◌<◌, ◌≤◌, true, List, length, slice_index, inl, inr, ◌⊎◌, arith}
+use Rattle.std.proofs.lemmas.Grind.{common_steps}
 use Rattle.std.proofs.lemmas.Bool.{false≢true, cases_lt}
 use lib.ListN.{get_or-eq_default}
 use Rattle.sab_refusal.specs.Syntax.Reader.{ends_word}
@@ -7,11 +8,7 @@ use Rattle.sab_refusal.specs.Syntax.Begins.{IsEdge, IsFirstBroken}
 
 -- what ends words is within a text
 ends_within : (text : List ℕ) (k : ℕ) → ends_word (slice_index text k) ≡ true → k < length text
-ends_within text k e = go (cases_lt k (length text))
-  where
-    go : (k < length text) ⊎ (length text ≤ k) → k < length text
-    go (inl lt) = lt
-    go (inr le) = absurd (false≢true (sym (ap ends_word (get_or-eq_default text 0 le)) ∙ e))
+ends_within text k e = grind (arith, common_steps, cases_lt, length, false≢true, ends_word, get_or-eq_default)
 
 edge_within : (text : List ℕ) (k : ℕ) → IsEdge text k → k ≤ length text
 edge_within text k (inl zero_is) = omega arith

@@ -1,7 +1,8 @@
 -- JSON's grammar, of which only what is left is kept, if each number passes a test.
-use Rattle.std.proofs.Common.{◌≡◌, ℕ, zero, suc, ◌+◌, ◌-◌, ◌<◌, ◌≤◌, Bool, true, false, cond, ◌&&◌, List, [], ◌∷◌, length, Option, Some, None, is_some, option_map, option_and_then, refl, sym, ap, ◌∙◌, subst, arith}
+use Rattle.std.proofs.Common.{◌≡◌, ℕ, zero, suc, ◌-◌, ◌<◌, ◌≤◌, Bool, true, false, cond, ◌&&◌, List, [], ◌∷◌, length, Option, Some, None, option_and_then, refl, sym, ap, ◌∙◌, arith}
+use Rattle.std.proofs.lemmas.Grind.{common_steps}
 use Rattle.json.specs.Token.{Token}
-use Rattle.json.specs.Json.{Json, null, boolean, number, string, array, object, Items, no_items, item, Members, no_members, member, Parse, parse_map, after_end_array, read_key, items_step, members_step, items, members, value_with, value}
+use Rattle.json.specs.Json.{Json, null, boolean, number, string, array, object, Items, no_items, item, Members, no_members, member, Parse, parse_map, after_end_array, read_key, items_step, members_step, items, members, value}
 use Rattle.json.proofs.Grammar.{left, skip_value-shorter, read_key-shorter, value_is}
 
 -- the numbers of a value pass a test
@@ -59,18 +60,10 @@ keep_map : {A B : Type 0} (p : A → Bool) (q : B → Bool) (f : A → B) → ((
 keep_map p q f same None = refl
 keep_map p q f same (Some x) = ap (λ b. cond b (Some x.1) None) (same x.0)
 
-IsSomeOf : {A : Type 0} → Option A → Type 0
-IsSomeOf None = ⊥
-IsSomeOf (Some a) = Unit {0}
-
 keep_left : {A : Type 0} (p : A → Bool) (o : Option (A × List Token)) (r : List Token) → keep p o ≡ Some r
     → left o ≡ Some r
 keep_left p None r e = e
-keep_left p (Some x) r e = go (p x.0) e
-  where
-    go : (b : Bool) → cond b (Some x.1) None ≡ Some r → Some x.1 ≡ Some r
-    go true h = h
-    go false h = cc
+keep_left p (Some x) r e = grind (arith, common_steps, cond)
 
 module _ (ok : List ℕ → Bool) where
   pub skip : ℕ → List Token → Option (List Token)

@@ -1,15 +1,16 @@
 -- One byte of a string.
-use Rattle.std.proofs.Common.{◌≡◌, ℕ, ◌<◌, Bool, true, false, cond, ◌&&◌, ◌||◌, nat_lt, nat_le, List, [], ◌∷◌, Option, Some, None, Ok, Err, is_some, option_and_then, refl, sym, ap, ◌∙◌, subst, ◌⊎◌, inl, inr}
-use Rattle.std.proofs.lemmas.Bool.{false≢true, true≢false, cases_Bool, eqb-true, or_cases}
+use Rattle.std.proofs.Common.{◌≡◌, ℕ, Bool, true, false, cond, ◌||◌, nat_lt, nat_le, List, [], ◌∷◌, Option, Some, None, Ok, Err, is_some, option_and_then, refl, sym, ap, ◌∙◌, arith}
+use Rattle.std.proofs.lemmas.Grind.{common_steps}
+use Rattle.std.proofs.lemmas.Bool.{false≢true, true≢false, cases_Bool, eqb-true}
 use Rattle.std.specs.Prelude.{◌==◌, ⊤}
 use Rattle.json.specs.Text.{short_escape, plain, after_backslash, after_u, prepend, content}
 use Rattle.json.specs.Word.{is_operator, is_space}
-use Rattle.json.specs.Lex.{Lexeme, Class, quote, backslash, operator, space, other, class, Mode, between, in_word, in_string, in_escape, lex_byte, lex}
+use Rattle.json.specs.Lex.{Lexeme, quote, backslash, operator, space, other, Mode, between, in_string, in_escape, lex_byte, lex}
 use Rattle.sab_refusal.specs.declared.syntax.string_part.StringPart.{StringPart}
 use Rattle.sab_refusal.specs.declared.syntax.string_part.StringPart.TheVariants as P
 use Rattle.sab_refusal.specs.declared.syntax.fault.Fault.TheVariants as F
-use Rattle.sab_refusal.specs.Syntax.String.{Behind, is_hex, is_from_c, is_d, is_escape, plain_to, escape_to, digit_to, surrogate_to, pair_to, second_to, string_behind}
-use Rattle.sab_refusal.proofs.OfSyntax.Strings.{found, plain_rest, pair_rest, pair_escape, pair_first, pair_second, pair_third, pair_fourth, fourth, third, second, second_by, first, string_rest, behind_unit, first-content, found_prepend, d_hex, from_c_hex, same_branches}
+use Rattle.sab_refusal.specs.Syntax.String.{Behind, is_hex, is_from_c, is_d, is_escape, digit_to, string_behind}
+use Rattle.sab_refusal.proofs.OfSyntax.Strings.{found, plain_rest, third, string_rest, first-content, found_prepend, d_hex, from_c_hex}
 
 -- what a byte leaves, by what it leads to
 abbrev pub rest_behind : Behind → List ℕ → Bool
@@ -93,23 +94,6 @@ string_rest-step P.PairSecond b xs = by_second (is_from_c b) (is_hex b) P.PairTh
 string_rest-step P.PairThird b xs = by_cond (is_hex b) P.PairFourth F.Escape xs
 string_rest-step P.PairFourth b xs = by_cond (is_hex b) P.Plain F.Escape xs
 
--- no string ends where the text does
-pub string_rest-nil : (part : StringPart) → string_rest part [] ≡ false
-unfolding content
-string_rest-nil P.Plain = refl
-string_rest-nil P.Escape = refl
-string_rest-nil P.First = refl
-string_rest-nil (P.Second false) = refl
-string_rest-nil (P.Second true) = refl
-string_rest-nil (P.Third h) = refl
-string_rest-nil (P.Fourth h) = refl
-string_rest-nil P.Pair = refl
-string_rest-nil P.PairEscape = refl
-string_rest-nil P.PairFirst = refl
-string_rest-nil P.PairSecond = refl
-string_rest-nil P.PairThird = refl
-string_rest-nil P.PairFourth = refl
-
 -- ---- the lexer beside it
 
 abbrev pub mode_of : StringPart → Mode
@@ -161,10 +145,7 @@ over_escaped b xs = refl
 
 -- a byte that is not this one
 is_other : (p : ℕ → Bool) (b c : ℕ) → p c ≡ false → p b ≡ true → (b == c) ≡ false
-is_other p b c never h = elim (cases_Bool (b == c)) [
-  | inl e ↦ absurd (false≢true (sym never ∙ ap p (sym (eqb-true b c e)) ∙ h))
-  | inr e ↦ e
-]
+is_other p b c never h = grind (arith, common_steps, cases_Bool, false≢true, eqb-true)
 
 over_hex : (b : ℕ) (xs : List ℕ) → is_hex b ≡ true → lex in_string (b ∷ xs) ≡ lex in_string xs
 over_hex b xs h = over_plain b xs (is_other is_hex b 34 refl h) (is_other is_hex b 92 refl h)

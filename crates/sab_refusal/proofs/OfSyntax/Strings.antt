@@ -1,12 +1,13 @@
 -- What the rest of a string has to be, by its parts.
-use Rattle.std.proofs.Common.{◌≡◌, ℕ, zero, suc, ◌+◌, ◌-◌, ◌*◌, ◌<◌, ◌≤◌, Bool, true, false, cond, ◌&&◌, ◌||◌, not, nat_lt, nat_le, List, [], ◌∷◌, ◌++◌, Option, Some, None, is_some, option_map, option_and_then, refl, sym, ap, ap₂, ◌∙◌, subst, arith, ◌⊎◌, inl, inr}
-use Rattle.std.proofs.lemmas.Bool.{true≢false, false≢true, and_parts, and_right, or_from, cases_Bool, cases_lt, cases_eq, ltb-true, le-ltb, le-leb, lt-leb, lt-ltb, leb-true, leb-false, eqb-false, and_from, and_left, eqb-true, ne_eqb, eq-eqb}
+use Rattle.std.proofs.Common.{◌≡◌, ℕ, zero, suc, ◌+◌, ◌-◌, ◌*◌, ◌<◌, ◌≤◌, Bool, true, false, cond, ◌&&◌, not, nat_lt, nat_le, List, [], ◌∷◌, Option, Some, None, is_some, option_and_then, refl, sym, ap, ap₂, ◌∙◌, subst, arith, inl, inr}
+use Rattle.std.proofs.lemmas.Grind.{common_steps}
+use Rattle.std.proofs.lemmas.Bool.{false≢true, and_parts, and_right, or_from, cases_Bool, cases_lt, cases_eq, ltb-true, le-ltb, le-leb, lt-leb, lt-ltb, leb-true, leb-false, eqb-false, and_from, and_left, eqb-true, ne_eqb}
 use Rattle.std.specs.Prelude.{◌==◌}
 use Rattle.std.specs.Char.{is_digit, digit_value, encode_utf8}
-use Rattle.json.specs.Text.{code_unit, short_escape, is_high_surrogate, is_low_surrogate, surrogate_pair, Within, plain, after_backslash, after_u, after_high, prepend, content}
+use Rattle.json.specs.Text.{code_unit, is_high_surrogate, is_low_surrogate, surrogate_pair, plain, after_backslash, after_u, after_high, prepend, content}
 use Rattle.sab_refusal.specs.declared.syntax.string_part.StringPart.{StringPart}
 use Rattle.sab_refusal.specs.declared.syntax.string_part.StringPart.TheVariants as P
-use Rattle.sab_refusal.specs.Syntax.String.{is_hex, is_from_c, is_d, is_escape}
+use Rattle.sab_refusal.specs.Syntax.String.{is_hex, is_from_c, is_d}
 
 abbrev pub found : Option (List ℕ) → Bool
 found o = is_some o
@@ -104,18 +105,7 @@ hex_small : (b : ℕ) → b < 128 → is_hex b ≡ is_digit b 16
 hex_small b h = same_is (is_hex b) (is_digit b 16) (holds_at (λ x. same (is_hex x) (is_digit x 16)) 128 refl b h)
 
 hex_large : (b : ℕ) → 128 ≤ b → is_digit b 16 ≡ false
-hex_large b h =
-    let v : digit_value b ≡ 36 =
-    ap (λ c. cond c 36 (cond (nat_lt b 58) (b - 48) (cond (nat_lt b 65) 36 (cond (nat_lt b 91) (b - 55) (cond
-    (nat_lt b 97) 36 (cond (nat_lt b 123) (b - 87) 36)))))) (le-ltb b 48 (omega arith))
-    ∙ ap (λ c. cond c (b - 48) (cond (nat_lt b 65) 36 (cond (nat_lt b 91) (b - 55) (cond (nat_lt b 97) 36 (cond
-    (nat_lt b 123) (b - 87) 36))))) (le-ltb b 58 (omega arith))
-    ∙ ap (λ c. cond c 36 (cond (nat_lt b 91) (b - 55) (cond (nat_lt b 97) 36 (cond (nat_lt b 123) (b - 87) 36))))
-    (le-ltb b 65 (omega arith))
-    ∙ ap (λ c. cond c (b - 55) (cond (nat_lt b 97) 36 (cond (nat_lt b 123) (b - 87) 36))) (le-ltb b 91 (omega arith))
-    ∙ ap (λ c. cond c 36 (cond (nat_lt b 123) (b - 87) 36)) (le-ltb b 97 (omega arith))
-    ∙ ap (λ c. cond c (b - 87) 36) (le-ltb b 123 (omega arith)) in
-    ap (λ n. nat_lt n 16) v
+hex_large b h = grind (arith, common_steps, digit_value, cond, nat_lt, le-ltb)
 
 hex_large_too : (b : ℕ) → 128 ≤ b → is_hex b ≡ false
 hex_large_too b h =
@@ -123,18 +113,11 @@ hex_large_too b h =
     (and_right _ _ (lt-leb b 70 (omega arith)))
 
 pub hex_same : (b : ℕ) → is_hex b ≡ is_digit b 16
-hex_same b = elim (cases_lt b 128) [
-  | inl small ↦ hex_small b small
-  | inr large ↦ hex_large_too b large ∙ sym (hex_large b large)
-]
+hex_same b = grind (arith, common_steps, cases_lt, hex_small, hex_large_too, hex_large)
 
 -- a hexadecimal digit is below 128
 hex_below : (b : ℕ) → is_hex b ≡ true → b < 128
-hex_below b h = elim (cases_lt b 128) [
-  | inl small ↦ small
-  | inr large ↦ absurd (false≢true (sym
-      (hex_large_too b large) ∙ h))
-]
+hex_below b h = grind (arith, common_steps, cases_lt, false≢true, hex_large_too)
 
 record Digit (b : ℕ) : Type 0 where
   small : digit_value b < 16
@@ -158,27 +141,11 @@ digit_facts b h =
 
 -- from c on, and a d, are digits
 pub from_c_hex : (b : ℕ) → is_from_c b ≡ true → is_hex b ≡ true
-from_c_hex b h = elim (cases_lt b 128) [
-  | inl small ↦
-      let c = holds_at (λ x. cond (is_from_c x) (is_hex x) true) 128 refl b small in
-      sym (ap (λ t. cond t (is_hex b) true) h) ∙ c
-  | inr large ↦ absurd (false≢true (sym (large_from_c b large) ∙ h))
-]
-  where
-    large_from_c : (b : ℕ) → 128 ≤ b → is_from_c b ≡ false
-    large_from_c b h = or_from _ _ (and_right _ _ (lt-leb b 102 (omega arith))) (and_right _ _ (lt-leb b 70
-        (omega arith)))
+from_c_hex b h =
+    grind (arith, common_steps, cases_lt, holds_at, cond, is_from_c, is_hex, false≢true, or_from, and_right, lt-leb)
 
 pub d_hex : (b : ℕ) → is_d b ≡ true → is_hex b ≡ true
-d_hex b h = elim (cases_lt b 128) [
-  | inl small ↦
-      let c = holds_at (λ x. cond (is_d x) (is_hex x) true) 128 refl b small in
-      sym (ap (λ t. cond t (is_hex b) true) h) ∙ c
-  | inr large ↦ absurd (false≢true (sym (large_d b large) ∙ h))
-]
-  where
-    large_d : (b : ℕ) → 128 ≤ b → is_d b ≡ false
-    large_d b h = or_from _ _ (ne_eqb b 100 (λ e. omega arith)) (ne_eqb b 68 (λ e. omega arith))
+d_hex b h = grind (arith, common_steps, cases_lt, holds_at, cond, is_d, is_hex, false≢true, or_from, ne_eqb)
 
 -- ---- units
 
@@ -199,12 +166,7 @@ high_unit a b c d fa fb fc fd ea eb e8 =
 low_unit : (a b c d : ℕ) → Digit a → Digit b → Digit c → Digit d → is_d a ≡ true → is_from_c b ≡ true
     → (is_high_surrogate (value_of a b c d) ≡ false) × (is_low_surrogate (value_of a b c d) ≡ true)
 low_unit a b c d fa fb fc fd ea eb =
-    let va : digit_value a ≡ 13 = eqb-true (digit_value a) 13 (sym fa.d ∙ ea) in
-    let vb : 12 ≤ digit_value b = leb-true 12 (digit_value b) (sym fb.from_c ∙ eb) in
-    let sb = fb.small in let sc = fc.small in let sd = fd.small in (
-      and_right _ _ (le-ltb (value_of a b c d) 56320 (omega arith)),
-      and_from _ _ (le-leb 56320 (value_of a b c d) (omega arith)) (lt-ltb (value_of a b c d) 57344 (omega arith)),
-    )
+    grind (arith, common_steps, digit_value, eqb-true, leb-true, and_right, le-ltb, and_from, le-leb, lt-ltb)
 
 below_unit : (a b c d : ℕ) → Digit a → Digit b → Digit c → Digit d → is_d a ≡ true → is_from_c b ≡ false
     → nat_le 56 b ≡ false
@@ -322,30 +284,17 @@ last_digits : (h a b c d : ℕ) (xs : List ℕ) (ha hb hc hd da fb : Bool)
     → is_hex a ≡ ha → is_hex b ≡ hb → is_hex c ≡ hc → is_hex d ≡ hd → is_d a ≡ da → is_from_c b ≡ fb
     → found (option_and_then (by_second h xs) (code_unit a b c d)) ≡ pair_first (a ∷ b ∷ c ∷ d ∷ xs)
 last_digits h a b c d xs true true true true true true ea eb ec ed eda efb =
-    low_by h a b c d xs true (low_unit a b c d (digit_facts a ea) (digit_facts b eb) (digit_facts c ec)
-    (digit_facts d ed) eda efb).1 ea eb ec ed
-    ∙ sym (ap (λ t. cond t (pair_second (b ∷ c ∷ d ∷ xs)) false) eda
-    ∙ ap (λ t. cond t (pair_third (c ∷ d ∷ xs)) false) efb
-    ∙ ap (λ t. cond t (pair_fourth (d ∷ xs)) false) ec ∙ ap (λ t. cond t (plain_rest xs) false) ed)
+    grind (arith, common_steps, low_by, low_unit, digit_facts, cond)
 last_digits h a b c d xs true true true true true false ea eb ec ed eda efb =
-    low_by h a b c d xs false (not_low a b c d (digit_facts a ea) (digit_facts b eb) (digit_facts c ec)
-    (digit_facts d ed) eda efb) ea eb ec ed
-    ∙ sym (ap (λ t. cond t (pair_second (b ∷ c ∷ d ∷ xs)) false) eda
-    ∙ ap (λ t. cond t (pair_third (c ∷ d ∷ xs)) false) efb)
+    grind (arith, common_steps, low_by, not_low, digit_facts, cond)
 last_digits h a b c d xs true true true true false fb ea eb ec ed eda efb =
     low_by h a b c d xs false (other_unit a b c d (digit_facts a ea) (digit_facts b eb) (digit_facts c ec)
     (digit_facts d ed) eda).1 ea eb ec ed
     ∙ sym (ap (λ t. cond t (pair_second (b ∷ c ∷ d ∷ xs)) false) eda)
 last_digits h a b c d xs ha hb hc false da fb ea eb ec ed eda efb =
-    no_unit h a b c d xs (and_right _ _ ed)
-    ∙ sym (ap (λ t. cond (is_d a) (cond (is_from_c b) (cond (is_hex c) (cond t
-    (plain_rest xs) false) false) false) false) ed
-    ∙ ap (λ t. cond (is_d a) (cond (is_from_c b) t false) false) (same_branches (is_hex c) false)
-    ∙ ap (λ t. cond (is_d a) t false) (same_branches (is_from_c b) false) ∙ same_branches (is_d a) false)
+    grind (arith, common_steps, no_unit, and_right, cond, is_d, is_from_c, is_hex, same_branches)
 last_digits h a b c d xs ha hb false true da fb ea eb ec ed eda efb =
-    no_unit h a b c d xs (and_left _ _ (and_right _ _ ec))
-    ∙ sym (ap (λ t. cond (is_d a) (cond (is_from_c b) (cond t (pair_fourth (d ∷ xs)) false) false) false) ec
-    ∙ ap (λ t. cond (is_d a) t false) (same_branches (is_from_c b) false) ∙ same_branches (is_d a) false)
+    grind (arith, common_steps, no_unit, and_left, and_right, cond, is_d, is_from_c, same_branches)
 last_digits h a b c d xs ha false true true da fb ea eb ec ed eda efb =
     let none : is_from_c b ≡ false = elim (cases_Bool (is_from_c b)) [
       | inl y ↦ absurd (false≢true (sym eb
@@ -355,13 +304,7 @@ last_digits h a b c d xs ha false true true da fb ea eb ec ed eda efb =
     no_unit h a b c d xs (and_left _ _ (and_left _ _ (and_right _ _ eb)))
     ∙ sym (ap (λ t. cond (is_d a) (cond t (pair_third (c ∷ d ∷ xs)) false) false) none ∙ same_branches (is_d a) false)
 last_digits h a b c d xs false true true true da fb ea eb ec ed eda efb =
-    let none : is_d a ≡ false = elim (cases_Bool (is_d a)) [
-      | inl y ↦ absurd (false≢true (sym ea
-          ∙ d_hex a y))
-      | inr n ↦ n
-    ] in
-    no_unit h a b c d xs (and_left _ _ (and_left _ _ (and_left _ _ ea)))
-    ∙ sym (ap (λ t. cond t (pair_second (b ∷ c ∷ d ∷ xs)) false) none)
+    grind (arith, common_steps, is_d, cases_Bool, false≢true, d_hex, no_unit, and_left, cond)
 
 short_cond : (b x : Bool) → x ≡ false → cond b x false ≡ false
 short_cond b x e = ap (λ t. cond b t false) e ∙ same_branches b false
@@ -443,16 +386,12 @@ first_by : (a b c d : ℕ) (xs : List ℕ) (ha hb hc hd : Bool) → is_hex a ≡
     → is_hex d ≡ hd
     → found (option_and_then (by_unit xs) (code_unit a b c d)) ≡ first (a ∷ b ∷ c ∷ d ∷ xs)
 first_by a b c d xs true true true true ea eb ec ed =
-    ap (λ o. found (option_and_then (by_unit xs) o)) (unit_some a b c d ea eb ec ed)
-    ∙ first_all a b c d xs (is_d a) (is_from_c b) (nat_le 56 b) ea eb ec ed refl refl refl
-    ∙ sym (ap (λ t. cond t (second (is_d a) (b ∷ c ∷ d ∷ xs)) false) ea)
+    grind (arith, common_steps, option_and_then, unit_some, first_all, is_d, is_from_c, nat_le, cond)
 first_by a b c d xs false hb hc hd ea eb ec ed =
     ap (λ o. found (option_and_then (by_unit xs) o)) (unit_none a b c d (and_left _ _ (and_left _ _ (and_left _ _ ea))))
     ∙ sym (ap (λ t. cond t (second (is_d a) (b ∷ c ∷ d ∷ xs)) false) ea)
 first_by a b c d xs true false hc hd ea eb ec ed =
-    ap (λ o. found (option_and_then (by_unit xs) o)) (unit_none a b c d (and_left _ _ (and_left _ _
-    (and_right _ _ eb))))
-    ∙ sym (no_first a (b ∷ c ∷ d ∷ xs) (no_second_digit (is_d a) b (c ∷ d ∷ xs) eb))
+    grind (arith, common_steps, option_and_then, unit_none, and_left, and_right, no_first, no_second_digit, is_d)
 first_by a b c d xs true true false hd ea eb ec ed =
     ap (λ o. found (option_and_then (by_unit xs) o)) (unit_none a b c d (and_left _ _ (and_right _ _ ec)))
     ∙ sym (no_first a (b ∷ c ∷ d ∷ xs) (no_second (is_d a) b (c ∷ d ∷ xs) (λ h. no_third h c d xs ec)))

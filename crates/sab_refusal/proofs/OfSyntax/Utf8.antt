@@ -1,5 +1,6 @@
 -- Where a text can be cut that may have bytes of no character.
 use Rattle.std.proofs.Common.{◌≡◌, ℕ, zero, suc, ◌+◌, ◌-◌, ◌<◌, ◌≤◌, Bool, true, false, cond, ◌||◌, List, [], ◌∷◌, ◌++◌, length, take, drop, get_or, slice_index, IsUtf8, Option, Some, None, is_some, inl, inr, ◌⊎◌, ⊎_elim, refl, sym, ap, ◌∙◌, subst, arith, add-one, unwrap_or, IsCharBoundary}
+use Rattle.std.proofs.lemmas.Grind.{common_steps}
 use lib.Seq.{take-add}
 use Rattle.std.proofs.lemmas.Bool.{false≢true, true≢false, and_parts, and_from, lt-ltb, or_cases, cases_eq, cases_lt, eqb-true, eq-eqb, ne_eqb, le-ltb, leb-true}
 use Rattle.std.proofs.lemmas.List.{take_more, take-take, length-take-le, length-drop, get_or-take, get_or-drop}
@@ -101,12 +102,7 @@ first_is : (x : ℕ) → is_in_range 194 244 x ≡ true → 128 ≤ x
 first_is x e = omega (arith, at_least 194 244 x e)
 
 second_is : (x y : ℕ) → is_in_range (second_byte_min x) (second_byte_max x) y ≡ true → 128 ≤ y
-second_is x y e = omega (
-  arith,
-  at_least (second_byte_min x) (second_byte_max x) y e,
-  second_high x (x == 224)
-      (x == 240),
-)
+second_is x y e = grind (arith, common_steps, at_least, second_byte_min, second_byte_max, second_high)
 
 third_is : (z : ℕ) → is_in_range 128 191 z ≡ true → 128 ≤ z
 third_is z e = at_least 128 191 z e
@@ -127,14 +123,7 @@ fault_of n a b c =
     (Some 3)) (Some 2))) (Some 1))) (Some 1))
 
 long_none : (n : ℕ) (a b c : Bool) → 4 ≤ n → fault_of n a b c ≡ None → ⊥
-long_none n a b c le e =
-    fault_some a b c (rw (
-      ne_eqb n 0 (λ q. omega arith),
-      le-ltb n 2 (omega arith),
-      le-ltb n 3 (omega arith),
-      le-ltb n 4
-          (omega arith),
-    ) at e)
+long_none n a b c le e = grind (arith, common_steps, fault_some, ne_eqb, le-ltb)
 
 -- none of them is ASCII
 pub cut_high : (bs : List ℕ) → utf8_error_len bs ≡ None → (i : ℕ) → i < length bs → 128 ≤ slice_index bs i
@@ -228,46 +217,7 @@ four x y z w a b s c d f g = go (cases_eq x 240) (cases_eq x 244)
 
 -- a byte that can come second
 a_second : (x : ℕ) → Second x 128 ⊎ (Second x 144 ⊎ Second x 160)
-a_second x = go (cases_eq x 224) (cases_eq x 240)
-  where
-    go : (x ≡ 224) ⊎ (x ≡ 224 → ⊥) → (x ≡ 240) ⊎ (x ≡ 240 → ⊥) → Second x 128 ⊎ (Second x 144 ⊎ Second x 160)
-    go (inl e) q =
-        inr (inr (
-          omega arith,
-          (
-            omega arith,
-            (
-              λ h. omega arith,
-              (
-                λ h. absurd (omega (arith, e, h)),
-                (
-                  λ h. omega arith,
-                  λ h. absurd (omega (arith, e, h)),
-                ),
-              ),
-            ),
-          ),
-        ))
-    go (inr e) (inl f) =
-        inr (inl (
-          omega arith,
-          (
-            omega arith,
-            (
-              λ h. absurd (e h),
-              (
-                λ h. omega arith,
-                (
-                  λ h. omega arith,
-                  λ h. absurd
-                      (omega (arith, f, h)),
-                ),
-              ),
-            ),
-          ),
-        ))
-    go (inr e) (inr f) =
-        inl (omega arith, (omega arith, (λ h. absurd (e h), (λ h. omega arith, (λ h. absurd (f h), λ h. omega arith)))))
+a_second x = grind (arith, common_steps, cases_eq)
 
 finish_three : (x y : ℕ) → 224 ≤ x → x < 240 → Second x y → Finish (x ∷ [])
 finish_three x y a b s = record {
@@ -340,29 +290,20 @@ not_first x y never true f l = absurd (never (eqb-true x 237 f))
 not_first x y never false f l = omega arith
 
 second_of : (x y : ℕ) → is_in_range (second_byte_min x) (second_byte_max x) y ≡ true → Second x y
-second_of x y e = go (x == 224) (x == 240) (x == 237) (x == 244) refl refl refl refl e
-  where
-    go : (a b c d : Bool) → (x == 224) ≡ a → (x == 240) ≡ b → (x == 237) ≡ c → (x == 244) ≡ d
-        → is_in_range (cond a 160 (cond b 144 128)) (cond c 159 (cond d 143 191)) y ≡ true → Second x y
-    go a b c d ea eb ec ed h =
-        let lo = at_least (cond a 160 (cond b 144 128)) (cond c 159 (cond d 143 191)) y h in
-        let hi = at_most (cond a 160 (cond b 144 128)) (cond c 159 (cond d 143 191)) y h in (
-          omega (arith, lo, second_high x a b),
-          (
-            omega (arith, hi, most_second c d),
-            (
-              λ q. subst (λ t. cond t 160 (cond b 144 128) ≤ y) (sym ea ∙ eq-eqb x 224 q) lo,
-              (
-                λ q. omega (arith, subst (λ t. y ≤ cond t 159 (cond d 143 191)) (sym ec ∙ eq-eqb x 237 q) hi),
-                (
-                  λ q. omega (arith, subst (λ t. cond a 160 (cond t 144 128) ≤ y) (sym eb ∙ eq-eqb x 240 q) lo, mid_second a),
-                  λ q. not_first x y (λ r. omega (arith, q, r)) c ec (subst (λ t. y ≤ cond c 159 (cond t 143 191)) (sym ed
-                      ∙ eq-eqb x 244 q) hi),
-                ),
-              ),
-            ),
-          ),
-        )
+second_of x y e =
+    grind (
+      arith,
+      common_steps,
+      is_in_range,
+      cond,
+      at_least,
+      at_most,
+      second_high,
+      most_second,
+      eq-eqb,
+      mid_second,
+      not_first,
+    )
 
 first_range : (x : ℕ) → is_in_range 194 244 x ≡ true → (194 ≤ x) × (x < 245)
 first_range x e = (at_least 194 244 x e, omega (arith, at_most 194 244 x e))
@@ -400,10 +341,7 @@ broken_is (Some k) n e = ap Some (eqb-true k n e)
 
 broken_at : (o : Option ℕ) (v n : ℕ) → broken_by o v ≡ Some n → n ≡ v
 broken_at None v n e = absurd (false≢true (ap is_some e))
-broken_at (Some k) v n e = some_same v n e
-  where
-    some_same : (a b : ℕ) → Some a ≡ Some b → b ≡ a
-    some_same a b h = sym (ap (λ o. unwrap_or o 0) h)
+broken_at (Some k) v n e = grind (arith, common_steps, unwrap_or)
 
 pub broken_valid : (text : List ℕ) (n : ℕ) → broken_of text ≡ Some n → n ≡ utf8_valid_len text
 broken_valid text n e = broken_at (utf8_error_len (drop (utf8_valid_len text) text)) (utf8_valid_len text) n e

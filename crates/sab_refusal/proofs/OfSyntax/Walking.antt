@@ -1,5 +1,6 @@
 -- A reader's walk stops where no text that is read goes on.
 use Rattle.std.proofs.Common.{◌≡◌, ℕ, suc, ◌+◌, ◌-◌, ◌<◌, ◌≤◌, Bool, true, false, cond, ◌&&◌, List, [], ◌∷◌, ◌++◌, length, take, drop, get_or, slice_index, IsUtf8, Option, Some, None, Ok, Err, is_some, inl, inr, ◌⊎◌, refl, sym, ap, ◌∙◌, subst, arith, add-one, append_assoc, append-nil, take_at, length-append}
+use Rattle.std.proofs.lemmas.Grind.{common_steps}
 use Rattle.std.proofs.lemmas.Bool.{false≢true, true≢false, and_parts, and_cases, cases_eq, cases_lt}
 use Rattle.std.proofs.lemmas.List.{take-take, take_all, take-append-drop, length-drop, length-take-le, get_or_at}
 use Rattle.std.proofs.Math.Seq.{drop-length}
@@ -68,24 +69,14 @@ dead : (front : List ℕ) (r : Reader) (t : List ℕ) (b : ℕ) (slip : Slip) �
     → step is_in_range r t b ≡ Err slip
     → BeginsRead (front ++ b ∷ []) → ⊥
 dead front r t b slip reached did begins =
-    let rest = begins.0 in
-    let none : is_some (read ((front ++ b ∷ []) ++ rest)) ≡ false =
-    ap (λ l. is_some (read l)) (append_assoc front (b ∷ []) rest) ∙ reached.reads (b ∷ rest)
-    ∙ behind is_in_range r t b rest reached.fits reached.empty
-    ∙ ap (λ s. rest_by is_in_range s t b rest) did in
-    false≢true (sym none ∙ ap is_some begins.1.2)
+    grind (arith, common_steps, is_some, read, append_assoc, behind, is_in_range, rest_by, false≢true)
 
 -- and nothing is JSON
 formless : (front : List ℕ) (r : Reader) (t : List ℕ) (b : ℕ) (slip : Slip) → Reached front r t
     → step any_number r t b ≡ Err slip
     → BeginsFormed (front ++ b ∷ []) → ⊥
 formless front r t b slip reached did begins =
-    let rest = begins.0 in
-    let none : is_some (form ((front ++ b ∷ []) ++ rest)) ≡ false =
-    ap (λ l. is_some (form l)) (append_assoc front (b ∷ []) rest) ∙ reached.forms (b ∷ rest)
-    ∙ behind any_number r t b rest reached.fits reached.empty
-    ∙ ap (λ s. rest_by any_number s t b rest) did in
-    false≢true (sym none ∙ ap is_some begins.1.2)
+    grind (arith, common_steps, is_some, form, append_assoc, behind, any_number, rest_by, false≢true)
 
 -- numbers of any size take the same steps
 any_end : (e c g : Bool) (s u : Step) (slip other : Slip) (r : Reader)
@@ -165,10 +156,7 @@ live_behind front b (I.Number part) next st t reached to e u = absurd (true≢fa
 high_on : (rest front : List ℕ) (next : Next) (st : List Bracket) (t : List ℕ)
     → Reached front (reader (I.String P.Plain) next st) t → AreHigh rest
     → (t' : List ℕ) × Reached (front ++ rest) (reader (I.String P.Plain) next st) t'
-high_on [] front next st t reached high = (
-  t,
-  subst (λ l. Reached l (reader (I.String P.Plain) next st) t) (sym (append-nil front)) reached,
-)
+high_on [] front next st t reached high = grind (arith, common_steps, reader, append-nil)
 high_on (b ∷ rest) front next st t reached high =
     let more = reach front (reader (I.String P.Plain) next st) t b (reader (I.String P.Plain) next st) reached (plain_on
     next st t b high.0) in

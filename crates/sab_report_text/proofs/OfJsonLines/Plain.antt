@@ -1,5 +1,6 @@
 -- Texts that stand in a string as they are: digits, signs and names.
-use Rattle.std.proofs.Common.{◌≡◌, ℕ, zero, suc, ◌≤◌, ◌/◌, ◌%◌, ◌==◌, ℤ, pos, negsuc, Bool, true, false, cond, List, [], ◌∷◌, ◌++◌, length, inl, inr, refl, ap₂, arith}
+use Rattle.std.proofs.Common.{◌≡◌, ℕ, zero, suc, ◌≤◌, ◌/◌, ◌%◌, ◌==◌, ℤ, pos, negsuc, Bool, true, false, cond, List, [], ◌∷◌, ◌++◌, length, refl, ap₂, arith}
+use Rattle.std.proofs.lemmas.Grind.{common_steps}
 use Rattle.std.specs.Prelude.{All, IsTrue, flat_map, slice_index_or}
 use Rattle.std.specs.Fmt.{digits, digits_onto, digit_glyph, decimal, signed_decimal}
 use Rattle.std.proofs.lemmas.Bool.{cases_lt, lt-ltb, le-ltb}
@@ -27,10 +28,7 @@ escape_same (x ∷ xs) h =
 -- ---- digits
 
 digit_plain : (d : ℕ) → IsPlain (digit_glyph false d)
-digit_plain d = elim (cases_lt d 10) [
-  | inl h ↦ rw (lt-ltb d 10 h) (record { above = omega arith; other = λ e. omega arith })
-  | inr h ↦ rw (le-ltb d 10 h) (record { above = omega arith; other = λ e. omega arith })
-]
+digit_plain d = grind (arith, common_steps, cases_lt, lt-ltb, le-ltb)
 
 either : (b : Bool) (xs ys : List ℕ) → All IsPlain xs → All IsPlain ys → All IsPlain (cond b xs ys)
 either true xs ys p q = p
@@ -55,11 +53,7 @@ signed_decimal_plain (negsuc n) =
 
 pub hex_plain : (bytes : List ℕ) → All IsPlain (flat_map hex_byte bytes)
 hex_plain [] = All-nil IsPlain
-hex_plain (b ∷ bytes) =
-    let rest = flat_map hex_byte bytes in
-    let low = digit_glyph false (b % 16) in
-    All-cons IsPlain (digit_glyph false (b / 16)) (low ∷ rest) (digit_plain (b / 16))
-    (All-cons IsPlain low rest (digit_plain (b % 16)) (hex_plain bytes))
+hex_plain (b ∷ bytes) = grind (arith, common_steps, flat_map, hex_byte, digit_glyph, digit_plain, hex_plain bytes)
 
 -- ---- names
 
@@ -67,7 +61,4 @@ name_byte_plain : (b : ℕ) → IsTrue (is_name_byte b) → IsPlain b
 name_byte_plain b h = record { above = grind (arith, nat_tests); other = λ e. grind (arith, nat_tests) }
 
 pub name_plain : (names : List (List ℕ)) (view : ℕ) → AreNames names → All IsPlain (slice_index_or names view [])
-name_plain names view h = elim (cases_lt view (length names)) [
-  | inl lt ↦ λ i d below. name_byte_plain _ (h view [] lt i d below)
-  | inr past ↦ rw (get_or_past names view [] past) (All-nil IsPlain)
-]
+name_plain names view h = grind (arith, common_steps, cases_lt, length, name_byte_plain, get_or_past)

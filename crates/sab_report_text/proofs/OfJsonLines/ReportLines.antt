@@ -1,5 +1,6 @@
 -- The lines of a report as JSON, one after the other.
-use Rattle.std.proofs.Common.{◌≡◌, ℕ, ◌+◌, ◌<◌, List, ◌++◌, length, Option, None, refl, add-one, drop-cons, drop, get_or, slice_index_or, Global}
+use Rattle.std.proofs.Common.{◌≡◌, ℕ, ◌+◌, ◌<◌, List, ◌++◌, length, Option, None, refl, add-one, drop-cons, drop, get_or, slice_index_or, Global, arith}
+use Rattle.std.proofs.lemmas.Grind.{common_steps}
 use Rattle.std.specs.Prelude.{Vec}
 use Rattle.std.specs.Io.KnownBytes.{Appends, Keeps, append_known}
 use Rattle.sab_plan.specs.declared.progress.Progress.{Progress}
@@ -34,6 +35,4 @@ pub agents_after : (a b y : Option (List ℕ)) (chunk : List ℕ) (names : List 
     → Keeps (append_known b (chunk ++ line (agent_data names k (get_or ps k d) (slice_index_or ss k None)))) y
     → Appends a (append_known y (agent_lines names ss (k + 1) (drop (k + 1) ps))) all
 agents_after a b y chunk names ss ps k d all h p q =
-    left_after a b y chunk (line (agent_data names k (get_or ps k d) (slice_index_or ss k None)))
-    (agent_lines names ss (k + 1) (drop (k + 1) ps)) all
-    (rw (agents_left names ss ps k d h) at p) q
+    grind (arith, common_steps, left_after, line, agent_data, get_or, slice_index_or, agent_lines, drop, agents_left)

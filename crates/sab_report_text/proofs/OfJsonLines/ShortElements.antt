@@ -1,12 +1,12 @@
 -- The value of an element of bytes fits 64 bits.
-use Rattle.std.proofs.Common.{◌≡◌, ℕ, ◌+◌, ◌*◌, ◌-◌, ◌^◌, ◌<◌, ◌≤◌, Bool, true, false, ◌&&◌, nat_le, ℤ, pos, ◌-ℤ◌, cond, List, length, slice_index, All, inl, inr, refl, sym, subst, arith, rules}
+use Rattle.std.proofs.Common.{◌≡◌, ℕ, ◌+◌, ◌*◌, ◌-◌, ◌^◌, ◌<◌, ◌≤◌, Bool, true, false, ◌&&◌, nat_le, ℤ, pos, ◌-ℤ◌, cond, List, length, slice_index, All, refl, sym, subst, arith, rules}
+use Rattle.std.proofs.lemmas.Grind.{common_steps}
 use Rattle.std.specs.Prelude.{FitsSigned}
 use Rattle.std.specs.Int.{w128}
 use Rattle.std.proofs.lemmas.Bool.{cases_lt, and_parts}
 use borrow.Author.Tests.{leb-true}
 use Rattle.std.proofs.lemmas.Int.{ints}
 use Rattle.std.proofs.lemmas.List.{get_or_past}
-use Rattle.std.proofs.lemmas.List.Elements.{All-get_or}
 use Rattle.std.proofs.Math.Nat.{pow-le-pow_right}
 use Rattle.sab_block.specs.declared.kind.Kind.{Kind}
 use Rattle.sab_block.specs.declared.kind.Kind.TheVariants.{Int8, Uint8, Uint8Clamped, Int16, Uint16, Int32, Uint32, Float32, Float64, BigInt64, BigUint64}
@@ -27,10 +27,7 @@ abbrev pub IsByte : ℕ → Type 0
 IsByte b = b < 256
 
 byte_at : (mem : List ℕ) → All IsByte mem → (k : ℕ) → slice_index mem k < 256
-byte_at mem bytes k = elim (cases_lt k (length mem)) [
-  | inl within ↦ All-get_or IsByte mem k 0 within bytes
-  | inr past ↦ subst IsByte (sym (get_or_past mem k 0 past)) (omega arith)
-]
+byte_at mem bytes k = grind (arith, common_steps, cases_lt, length, get_or_past)
 
 -- ---- the whole number of a raw element
 

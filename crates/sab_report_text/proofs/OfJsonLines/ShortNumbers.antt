@@ -1,5 +1,6 @@
 -- Trees whose numbers fit 64 bits.
-use Rattle.std.proofs.Common.{ℕ, ◌<◌, ◌≤◌, ◌^◌, ◌+◌, ◌≡◌, ℤ, pos, negsuc, ◌-ℤ◌, List, Option, Some, None, IfSome, sym, subst, arith}
+use Rattle.std.proofs.Common.{ℕ, ◌<◌, ◌≤◌, ◌^◌, ◌+◌, ℤ, pos, negsuc, ◌-ℤ◌, List, Option, Some, None, IfSome, arith}
+use Rattle.std.proofs.lemmas.Grind.{common_steps}
 use Rattle.std.specs.Prelude.{⊤, ◌-◌}
 use Rattle.std.proofs.lemmas.Int.{ints}
 use Rattle.serde_json.specs.Data.{Num, unsigned, negative, float, Data, null, boolean, number, string, array, object, Items, no_items, item, Members, no_members, member}
@@ -51,7 +52,4 @@ pub natural_short : (n : ℕ) → n < 2 ^ 64 → IsShortInteger (pos n)
 natural_short n h = h
 
 pub difference_short : (r m : ℕ) → r < m → m ≤ r + 2 ^ 63 → IsShortInteger (pos r -ℤ pos m)
-difference_short r m below near =
-    let same : pos r -ℤ pos m ≡ negsuc (m - r - 1) = omega (arith, ints) in
-    let fits : m - r - 1 < 2 ^ 63 = omega arith in
-    subst IsShortInteger (sym same) fits
+difference_short r m below near = grind (arith, common_steps, pos, negsuc)

@@ -1,5 +1,6 @@
 -- The texts of trees, piece by piece.
-use Rattle.std.proofs.Common.{◌≡◌, ℕ, ℤ, pos, negsuc, Bool, true, false, List, [], ◌∷◌, ◌++◌, Option, Some, None, refl, sym, ap, ◌∙◌, append_assoc}
+use Rattle.std.proofs.Common.{◌≡◌, ℕ, ℤ, pos, negsuc, Bool, true, false, List, [], ◌∷◌, ◌++◌, Option, Some, None, refl, sym, ap, ◌∙◌, append_assoc, arith}
+use Rattle.std.proofs.lemmas.Grind.{common_steps}
 use Rattle.std.specs.Prelude.{codes, flat_map, option_map}
 use Rattle.std.specs.Fmt.{decimal, signed_decimal}
 use Rattle.json.specs.Print.{escape, escape_byte}
@@ -78,12 +79,7 @@ call_json names call h =
 pub member_before : (key : List ℕ) (o : Option Data) (rest : Members) → escape key ≡ key
     → members_text true (member_if key o rest) ≡ member_text_if key o ++ members_text true rest
 member_before key None rest h = refl
-member_before key (Some d) rest h =
-    let text = compact_text d in
-    let others = members_text true rest in
-    ap (λ (s : List ℕ). 44 ∷ 34 ∷ ((s ++ 34 ∷ []) ++ 58 ∷ (text ++ others))) h
-    ∙ ap (λ (s : List ℕ). 44 ∷ 34 ∷ s) (append_assoc key (34 ∷ []) (58 ∷ (text ++ others))
-    ∙ sym (append_assoc key (34 ∷ 58 ∷ text) others))
+member_before key (Some d) rest h = grind (arith, common_steps, compact_text, members_text, append_assoc)
 
 -- the same before a text
 pub then_member : (key : List ℕ) (o : Option Data) (rest : Members) (end : List ℕ) → escape key ≡ key

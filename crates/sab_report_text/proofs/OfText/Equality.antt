@@ -1,5 +1,6 @@
 -- Choices of lines, formats and forms of a report that the derived `==` finds equal are the same.
-use Rattle.std.proofs.Common.{◌≡◌, true, rules}
+use Rattle.std.proofs.Common.{◌≡◌, true, rules, arith}
+use Rattle.std.proofs.lemmas.Grind.{common_steps}
 use denote.Enum.Bare.{same_true}
 use Rattle.std.proofs.lemmas.Bool.{and_parts}
 use Rattle.sab_report_text.specs.declared.text.lines.Lines.{Lines}
@@ -24,8 +25,4 @@ pub same_verdict_format : (x y : VerdictFormat) → (verdict_format.ghosts).eq x
 same_verdict_format = same_true verdict_format_type (search rules)
 
 pub same_report_form : (x y : ReportForm) → (report_form.ghosts).eq x y ≡ true → x ≡ y
-same_report_form x y e =
-    let parts = and_parts _ _ e in
-    let format = same_format x.format y.format parts.0 in
-    let lines = same_lines x.lines y.lines parts.1 in
-    λ i. record { format = format i; lines = lines i }
+same_report_form x y e = grind (arith, common_steps, and_parts, same_format, same_lines)

@@ -1,5 +1,6 @@
 -- Texts that go through a chunk to a writer, and the lines of agents among them.
-use Rattle.std.proofs.Common.{◌≡◌, ℕ, ◌+◌, List, [], ◌++◌, length, Option, Some, None, Result, OnOk, refl, sym, append_assoc, append-nil, add-one, drop-cons, drop, get_or, slice_index_or, ◌<◌}
+use Rattle.std.proofs.Common.{◌≡◌, ℕ, ◌+◌, List, [], ◌++◌, length, Option, Some, None, Result, OnOk, refl, sym, append_assoc, append-nil, add-one, drop-cons, drop, get_or, slice_index_or, ◌<◌, arith}
+use Rattle.std.proofs.lemmas.Grind.{common_steps}
 use Rattle.std.proofs.lemmas.Result.{on_ok_weaker}
 use Rattle.std.specs.Io.KnownBytes.{Appends, Keeps, append_known}
 use Rattle.sab_plan.specs.declared.progress.Progress.{Progress}
@@ -38,9 +39,7 @@ pub standings_after : (column : ℕ) (a b y : Option (List ℕ)) (chunk : List �
     → Keeps (append_known b (chunk ++ standing_line column names k (get_or ps k d) (slice_index_or ss k None))) y
     → Appends a (append_known y (standing_lines column names ss (k + 1) (drop (k + 1) ps))) all
 standings_after column a b y chunk names ss ps k d all h p q =
-    left_after a b y chunk (standing_line column names k (get_or ps k d) (slice_index_or ss k None))
-    (standing_lines column names ss (k + 1) (drop (k + 1) ps)) all
-    (rw (standings_left column names ss ps k d h) at p) q
+    grind (arith, common_steps, left_after, standing_line, get_or, slice_index_or, standing_lines, drop, standings_left)
 
 out : (x b c : Option (List ℕ)) (chunk text : List ℕ) → Appends x (append_known b chunk) text → Appends b c chunk
     → Appends x c text

@@ -1,5 +1,6 @@
 -- The longest text of a report, as loops find it, and that no text is longer.
 use Rattle.std.proofs.Common.{◌≡◌, ℕ, zero, suc, ◌<◌, ◌≤◌, ◌+◌, List, [], ◌∷◌, length, max, Some, slice_get, arith, add-one, drop-cons, drop, get_or, take, replicate, ap, ◌∙◌}
+use Rattle.std.proofs.lemmas.Grind.{common_steps}
 use Rattle.std.proofs.lemmas.List.{take-replicate}
 use Rattle.std.proofs.Math.Nat.{le-max_left}
 use Rattle.sab_plan.specs.declared.entry.Entry.{Entry}
@@ -26,10 +27,7 @@ agents_left agents a d m h = rw (drop-cons agents a d, add-one) (max_assoc m _ _
 entry_fits : (i : ℕ) (journal : List Entry) (k : ℕ) (e : Entry) → slice_get journal k ≡ Some e
     → length (entry_text (i + k) e) ≤ longest_entry i journal
 entry_fits i [] k e h = absurd (cc)
-entry_fits i (f ∷ journal) zero e h =
-    let z : i + 0 ≡ i = omega arith in
-    let same : f ≡ e = cc in
-    rw (z, ← same) (le-max_left _ _)
+entry_fits i (f ∷ journal) zero e h = grind (arith, common_steps, le-max_left)
 entry_fits i (f ∷ journal) (suc k) e h =
     let z : i + suc k ≡ i + 1 + k = omega arith in
     let rest = entry_fits (i + 1) journal k e h in
@@ -38,10 +36,7 @@ entry_fits i (f ∷ journal) (suc k) e h =
 agent_fits : (i : ℕ) (agents : List Progress) (a : ℕ) (p : Progress) → slice_get agents a ≡ Some p
     → length (agent_text (i + a) p) ≤ longest_agent i agents
 agent_fits i [] a p h = absurd (cc)
-agent_fits i (q ∷ agents) zero p h =
-    let z : i + 0 ≡ i = omega arith in
-    let same : q ≡ p = cc in
-    rw (z, ← same) (le-max_left _ _)
+agent_fits i (q ∷ agents) zero p h = grind (arith, common_steps, le-max_left)
 agent_fits i (q ∷ agents) (suc a) p h =
     let z : i + suc a ≡ i + 1 + a = omega arith in
     let rest = agent_fits (i + 1) agents a p h in

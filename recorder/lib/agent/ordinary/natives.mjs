@@ -12,7 +12,9 @@ import util from "node:util";
 import v8 from "node:v8";
 import vm from "node:vm";
 import zlib from "node:zlib";
-import { apply, getOwnPropertyDescriptor, is, ownKeys, put, tagOf, uncurried } from "../../primordials.mjs";
+import {
+  apply, getOwnPropertyDescriptor, is, isMadeStandIn, ownKeys, put, tagOf, uncurried,
+} from "../../primordials.mjs";
 import { refused } from "./context.mjs";
 import {
   constructing, copying, copyingGiven, looking, madePrivate, refusing, refusingGiven, writing,
@@ -162,6 +164,8 @@ function watchValues() {
   put(v8, "DefaultDeserializer", constructing(v8.DefaultDeserializer, madePrivate));
   replace(util, "isDeepStrictEqual", copying);
   replaceEach(util.types, ownKeys(util.types).filter((name) => startsWith(name, "is")), looking);
+  replace(util.types, "isProxy", (looks) =>
+    methodOf((self, given) => !isMadeStandIn(given[0]) && apply(looks, self, given), looks));
 }
 
 /** A context has typed arrays of its own. Code that was compiled before may lie in recorded memory. */

@@ -1,16 +1,16 @@
 // Learns agents as automata. An edge is learned by calling the agent's function alone, with the answers of a history
 // that leads to its node. Two histories are one node only if all that the agent keeps is the same.
 
+import { AGAIN } from "../../../script/choices.mjs";
 import { leftOpen } from "../../agent/answer.mjs";
 import { choicesBy } from "../../agent/choosing.mjs";
-import { defineProperty } from "../../primordials.mjs";
 import { CantShow } from "../state/object-kinds.mjs";
 import { DONE, DOES, isCall, isChoice, isOwnAct, nodeOf } from "../search/nodes.mjs";
 import { nodeText } from "../search/node-texts.mjs";
-import { AGAIN } from "../../../script/choices.mjs";
 import { CantLearn, askedEnd, isSame, keyOf } from "./asked-nodes.mjs";
 import { accessed, cantText } from "./asking.mjs";
 import { needRound } from "./clock-rounds.mjs";
+import { putNumber } from "./given-number.mjs";
 import { PART } from "./learning-progress.mjs";
 import { namesRewritten, thrownText } from "./thrown.mjs";
 
@@ -181,8 +181,7 @@ export class Learner {
     this.agent = agent;
     const { count, args } = agents;
     const given = { buffers: [...asker.buffers], agent, agents: count, args: [...args], ...this.choices };
-    const noticed = { get: this.number, set: this.changesNumber, enumerable: true, configurable: true };
-    if (agents.isShared) defineProperty(given, "agent", noticed);
+    if (agents.isShared) putNumber(given, this.number, this.changesNumber);
     return asker.watched(PART.AGENT, () => this.#ended(run, () => fn(given)));
   }
 

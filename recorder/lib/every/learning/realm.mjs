@@ -19,6 +19,7 @@ import { knowPromises } from "../state/promises.mjs";
 import { watchWeak } from "../state/weak-entries.mjs";
 import { standForIterators } from "../state/shown-iterators.mjs";
 import { checkEngineWrites } from "./engine-writes.mjs";
+import { showNumber } from "./given-number.mjs";
 import { knowNext } from "./iterators.mjs";
 import { NodePlatform } from "./node-platform.mjs";
 
@@ -59,6 +60,7 @@ export function installRealm(asker) {
   }));
   watchInstalled();
   checkEngineWrites(refuse);
+  showNumber();
   // An async function of an agent that is broken off leaves a promise, and nobody waits for it.
   process.on("unhandledRejection", () => {});
   syncBuiltinESMExports();

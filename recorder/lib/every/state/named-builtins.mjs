@@ -10,6 +10,9 @@ import { intlConstructors } from "./intl-objects.mjs";
 import { intrinsics } from "./intrinsics.mjs";
 import { ofMatches } from "./match-iteration.mjs";
 
+// Agents find another that says of a stand-in that it is no proxy.
+const { isProxy } = types;
+
 /** Prototypes of which objects keep nothing that isn't shown. */
 const PLAIN = [
   Object, Array, Map, Set, WeakMap, WeakSet, Function, Date, RegExp, ArrayBuffer, SharedArrayBuffer, Error, RangeError,
@@ -101,11 +104,11 @@ export class NamedBuiltins {
     for (const [name, module] of Object.entries(modules)) this.add(module, name);
     for (let at = 0; at < this.queue.length; at += 1) {
       const [object, name] = this.queue[at];
-      if (!types.isProxy(object)) this.#addMembers(object, name);
+      if (!isProxy(object)) this.#addMembers(object, name);
     }
     const objects = this.queue.map(([object]) => object);
     this.queue = [];
-    this.had = objects.filter((object) => !types.isProxy(object)).map(known);
+    this.had = objects.filter((object) => !isProxy(object)).map(known);
   }
 
   /** @param {object} object @param {string} name */

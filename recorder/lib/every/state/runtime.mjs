@@ -1,10 +1,10 @@
 // What rewritten modules tell about themselves while they run: their frames, the names that these have, and what their
 // functions capture.
 
+import { types } from "node:util";
 import {
   apply, construct, defineProperty, getPrototypeOf, hasOwn, proxyOf, weakHas, weakSet,
 } from "../../primordials.mjs";
-import { types } from "node:util";
 import { noteClass } from "./first-prototypes.mjs";
 import { Installed, numberOf } from "./installed.mjs";
 import { iterable, keysIn } from "./loop-steps.mjs";
@@ -51,6 +51,7 @@ export class Environment {
 /** What stands in a frame for a value that can't be shown. */
 export const UNKNOWN_VALUE = Object.freeze({ isUnknown: true });
 
+const { isProxy } = types;
 const { Error: EngineError } = globalThis;
 const { stackTraceLimit } = EngineError;
 
@@ -253,7 +254,7 @@ function constructible(value, name) {
  */
 function method(value, name) {
   const fn = callable(value, name);
-  if (!types.isProxy(fn) && !hasOwn(fn, "call") && getPrototypeOf(fn) === Function.prototype) return fn;
+  if (!isProxy(fn) && !hasOwn(fn, "call") && getPrototypeOf(fn) === Function.prototype) return fn;
   return { call: (/** @type {unknown} */ self, /** @type {unknown[]} */ ...given) => apply(fn, self, given) };
 }
 

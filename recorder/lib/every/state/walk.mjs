@@ -3,7 +3,7 @@
 import { types } from "node:util";
 import { anyWatchedOf } from "../../agent/ordinary/watched.mjs";
 import { blockNumber } from "../../agent/ordinary/context.mjs";
-import { slotOf } from "../../primordials.mjs";
+import { getOwnPropertyDescriptor, slotOf } from "../../primordials.mjs";
 import { hexOf } from "../search/raw-elements.mjs";
 import { boundOf } from "./bound-functions.mjs";
 import { hadOtherPrototype } from "./first-prototypes.mjs";
@@ -25,11 +25,13 @@ import { weakEntriesOf } from "./weak-entries.mjs";
  * were shown
  */
 
+// Agents find another that says of a stand-in that it is no proxy.
+const { isProxy } = types;
 const TypedArray = Reflect.getPrototypeOf(Int8Array.prototype) ?? Int8Array.prototype;
 const OF_ARRAYS = ["length", "byteOffset", "buffer"].map((name) => slotOf(TypedArray, name));
 const OF_VIEWS = ["byteLength", "byteOffset", "buffer"].map((name) => slotOf(DataView.prototype, name));
-const tagOf = /** @type {PropertyDescriptor} */ (Reflect.getOwnPropertyDescriptor(TypedArray, Symbol.toStringTag)).get;
-const stackOfErrors = /** @type {PropertyDescriptor} */ (Reflect.getOwnPropertyDescriptor(new Error("stack"), "stack"));
+const tagOf = /** @type {PropertyDescriptor} */ (getOwnPropertyDescriptor(TypedArray, Symbol.toStringTag)).get;
+const stackOfErrors = /** @type {PropertyDescriptor} */ (getOwnPropertyDescriptor(new Error("stack"), "stack"));
 const entriesOf = Map.prototype.entries;
 const valuesOf = Set.prototype.values;
 
@@ -215,7 +217,7 @@ export class Walk {
     const watched = anyWatchedOf(object);
     const isMemory = watched === undefined && (types.isAnyArrayBuffer(object) || ArrayBuffer.isView(object));
     if (watched !== undefined) this.#watched(watched);
-    else if (types.isProxy(object)) throw new CantShow("a proxy");
+    else if (isProxy(object)) throw new CantShow("a proxy");
     else if (typeof object === "function") this.#function(object);
     else if (isMemory) this.#memory(object);
     else this.#content(object);
@@ -264,10 +266,10 @@ export class Walk {
 
   /** @param {Function} fn @returns {boolean} whether its prototype is as the engine has made it */
   #hasBarePrototype(fn) {
-    const own = /** @type {PropertyDescriptor} */ (Reflect.getOwnPropertyDescriptor(fn, "prototype"));
+    const own = /** @type {PropertyDescriptor} */ (getOwnPropertyDescriptor(fn, "prototype"));
     const prototype = own.value;
     if (typeof prototype !== "object" || prototype === null || !own.writable) return false;
-    const maker = Reflect.getOwnPropertyDescriptor(prototype, "constructor");
+    const maker = getOwnPropertyDescriptor(prototype, "constructor");
     const isOwn = Reflect.getPrototypeOf(prototype) !== Object.prototype || !Reflect.isExtensible(prototype);
     if (isOwn || Reflect.ownKeys(prototype).length > 1 || maker?.value !== fn) return false;
     if (maker.enumerable || !maker.writable || !maker.configurable) return false;
@@ -393,7 +395,7 @@ export class Walk {
   /** @param {object} error with a stack of its own */
   #stack(error) {
     const { value, get, set, writable, enumerable, configurable } =
-      /** @type {PropertyDescriptor} */ (Reflect.getOwnPropertyDescriptor(error, "stack"));
+      /** @type {PropertyDescriptor} */ (getOwnPropertyDescriptor(error, "stack"));
     const isPlain = get === stackOfErrors.get && set === stackOfErrors.set && (get !== undefined || writable === true);
     if (!isPlain || enumerable || !configurable) throw new CantShow("an error whose stack was changed");
     this.hasReadStack = true;
@@ -411,7 +413,7 @@ export class Walk {
 
   /** @param {object} object @param {string | symbol} key */
   #property(object, key) {
-    const descriptor = /** @type {PropertyDescriptor} */ (Reflect.getOwnPropertyDescriptor(object, key));
+    const descriptor = /** @type {PropertyDescriptor} */ (getOwnPropertyDescriptor(object, key));
     const { value, get, set, writable, enumerable, configurable } = descriptor;
     this.value(key);
     this.out.push(`${writable ? "" : "r"}${enumerable ? "" : "e"}${configurable ? "" : "c"}.`);
@@ -427,7 +429,7 @@ export class Walk {
 
 /** @param {Function} fn @returns {string} what it is called, if that is a text: no code of agents runs for it */
 function functionText(fn) {
-  const name = Reflect.getOwnPropertyDescriptor(fn, "name")?.value;
+  const name = getOwnPropertyDescriptor(fn, "name")?.value;
   return typeof name === "string" && name !== "" ? `the function ${name}` : "a function";
 }
 
@@ -438,5 +440,5 @@ function functionText(fn) {
  */
 function mayBeThere(key) {
   if (typeof key === "symbol" || typeof key === "function") return true;
-  return isUnnamed(key) || (!types.isProxy(key) && Array.isArray(key) && !Reflect.isExtensible(key));
+  return isUnnamed(key) || (!isProxy(key) && Array.isArray(key) && !Reflect.isExtensible(key));
 }

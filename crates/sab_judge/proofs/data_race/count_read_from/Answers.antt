@@ -1,4 +1,5 @@
 -- Of the bytes of one last writer more it is known from whom they are read.
+use Rattle.std.proofs.lemmas.Grind.{common_steps}
 use Rattle.std.proofs.Common.{◌≡◌, ◌+◌, true, arith}
 use Rattle.sab_judge.specs.Event.{event_at, reads_byte}
 use Rattle.sab_judge.specs.Readers.{HaveWriter}
@@ -10,11 +11,7 @@ use Rattle.sab_judge.proofs.Written.{past_ordered}
 use Rattle.sab_judge.proofs.data_race.count_read_from.Goals as goal
 
 pub loop-byte-init : goal.loop-byte-init
-loop-byte-init c = record {
-  low = omega (arith, c.start-byte.ensures);
-  high = omega (arith, c.start-byte.ensures);
-  noted = none_noted c.args.trace.now c.args.readers.now c.requires.readers (omega (arith, c.start-byte.ensures));
-}
+loop-byte-init c = grind (arith, common_steps, none_noted, c.start-byte.ensures, c.requires.readers)
 
 pub last_writer-held-requires-clause-order : goal.last_writer-held-requires-clause-order
 last_writer-held-requires-clause-order c =
@@ -65,10 +62,8 @@ loop-byte-preserved c =
     }
 
 pub returns-clause-readers : goal.returns-clause-readers
-returns-clause-readers c = record {
-  count = c.loop-byte.invariant.noted.all;
-  before = c.loop-byte.invariant.noted.before;
-}
+returns-clause-readers c =
+    grind (arith, common_steps, c.loop-byte.invariant.noted.all, c.loop-byte.invariant.noted.before)
 
 pub returns-clause-counted : goal.returns-clause-counted
 returns-clause-counted c =

@@ -1,4 +1,5 @@
 -- A byte is read from its last writer.
+use Rattle.std.proofs.lemmas.Grind.{common_steps}
 use Rattle.std.proofs.Common.{◌≡◌, ◌+◌, ◌-◌, ◌<◌, ℕ, Option, Some, inl, inr, refl, sym, subst, ◌∙◌, arith}
 use Rattle.std.proofs.lemmas.Bool.{false≢true, cases_lt}
 use Rattle.sab_judge.specs.Readers.{HaveWriter}
@@ -8,10 +9,7 @@ use Rattle.sab_judge.proofs.Written.{past_ordered}
 use Rattle.sab_judge.proofs.data_race.reads_byte_from.Goals as goal
 
 pub loop-byte-init : goal.loop-byte-init
-loop-byte-init c = record {
-  low = omega (arith, c.start-byte.ensures);
-  unread = λ b low high reads. absurd (omega (arith, low, high, c.start-byte.ensures));
-}
+loop-byte-init c = grind (arith, common_steps, c.start-byte.ensures)
 
 pub last_writer-held-requires-clause-order : goal.last_writer-held-requires-clause-order
 last_writer-held-requires-clause-order c =

@@ -1,4 +1,5 @@
 -- The bytes of one last writer more are known.
+use Rattle.std.proofs.lemmas.Grind.{common_steps}
 use Rattle.std.proofs.Common.{◌+◌, inl, inr, arith}
 use Rattle.std.proofs.lemmas.Bool.{cases_lt}
 use Rattle.sab_judge.specs.Clock.{KnowsMore}
@@ -9,12 +10,7 @@ use Rattle.sab_judge.proofs.Written.{past_ordered}
 use Rattle.sab_judge.proofs.reads.learned_at_each.Goals as goal
 
 pub loop-byte-init : goal.loop-byte-init
-loop-byte-init c = record {
-  low = omega (arith, c.start-byte.ensures);
-  more = λ b. omega arith;
-  only = c.requires.only;
-  read = λ b low high m alike reads. absurd (omega (arith, low, high, c.start-byte.ensures));
-}
+loop-byte-init c = grind (arith, common_steps, c.start-byte.ensures, c.requires.only)
 
 pub last_writer-held-requires-clause-order : goal.last_writer-held-requires-clause-order
 last_writer-held-requires-clause-order c =

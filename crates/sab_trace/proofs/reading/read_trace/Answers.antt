@@ -1,4 +1,5 @@
-use Rattle.std.proofs.Common.{IfSome}
+use Rattle.std.proofs.lemmas.Grind.{common_steps}
+use Rattle.std.proofs.Common.{IfSome, arith}
 use Rattle.sab_trace.specs.Reading.{IsRefusedBy}
 use Rattle.sab_trace.proofs.Pieces.{read_on, refused_on, failed_on, exit_with}
 use Rattle.sab_trace.proofs.reading.read_trace.Goals as goal
@@ -10,9 +11,7 @@ returns-in_default-clause-err g c =
 
 pub loop-n-preserved : goal.loop-n-preserved
 loop-n-preserved g c =
-    read_on (g.R.Read.remaining c.args.r.now) (g.R.Read.remaining c.loop-n.r) (g.R.Read.remaining c.read.new.self) _
-    c.loop-n.trace c.loop-n.line c.read_piece.new.trace c.read_piece.new.line c.loop-n.invariant
-    c.in-Ok.ensures.bytes.0 c.in_ok-read_piece.ensures.ok
+    grind (arith, common_steps, read_on, c.loop-n.invariant, c.in-Ok.ensures.bytes.0, c.in_ok-read_piece.ensures.ok)
 
 pub returns-in_err-read_piece-clause-err : goal.returns-in_err-read_piece-clause-err
 returns-in_err-read_piece-clause-err g c =

@@ -1,3 +1,4 @@
+use Rattle.std.proofs.lemmas.Grind.{common_steps}
 use Rattle.std.proofs.Common.{◌==◌, length, ap, sym, ◌∙◌, arith}
 use Rattle.sab_refusal.proofs.OfSyntax.Stacks.{length-stack}
 use Rattle.sab_refusal.proofs.syntax.brackets.Brackets.is_full.Goals as goal
@@ -8,10 +9,4 @@ returns-clause-value c =
     (arith, c.self.invariant.0, c.self.invariant.1)))) ∙ ap (λ l. length l == 127) c.self.view_is
 
 pub returns-clause-few : goal.returns-clause-few
-returns-clause-few c =
-    omega (
-      arith,
-      length-stack c.self.inside.len c.self.inside.brackets (omega
-          (arith, c.self.invariant.0, c.self.invariant.1)),
-      ap length c.self.view_is,
-    )
+returns-clause-few c = grind (arith, common_steps, length-stack, length, c.self.invariant.0, c.self.invariant.1)

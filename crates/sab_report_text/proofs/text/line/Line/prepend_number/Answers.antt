@@ -1,13 +1,11 @@
-use Rattle.std.proofs.Common.{rules, length, drop, ap, ◌∙◌, length-drop, length-append}
+use Rattle.std.proofs.lemmas.Grind.{common_steps}
+use Rattle.std.proofs.Common.{rules, length, drop, ap, ◌∙◌, length-drop, length-append, arith}
 use Rattle.std.specs.Fmt.{decimal}
 use Rattle.sab_report_text.proofs.OfText.Digits.{number_short}
 use Rattle.sab_report_text.proofs.text.line.Line.prepend_number.Goals as goal
 
 pub write_digits-self-inside-requires : goal.write_digits-self-inside-requires
-write_digits-self-inside-requires c =
-    let room = length-drop c.self.inside.start c.self.inside.bytes in
-    let short = number_short c.args.n c.ranges.n.fits in
-    search (rules, room, short)
+write_digits-self-inside-requires c = grind (arith, common_steps, length-drop, number_short)
 
 pub returns-clause-len : goal.returns-clause-len
 returns-clause-len c =
