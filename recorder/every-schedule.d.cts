@@ -38,6 +38,8 @@ export interface FoundBySchedule {
   notShown: string | null;
   /** What time must pass in that run. */
   onlyIf: string | null;
+  /** Whether two agents draw the same random number in the schedule that is shown: of all numbers that is rare. */
+  drewSame: boolean;
 }
 
 /** What is reported about every schedule of a module of agents. */

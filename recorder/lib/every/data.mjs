@@ -1,9 +1,10 @@
 // What is reported about every schedule of a module of agents, as an object of JSON.
 
+import { returnedBy } from "../../script/choices.mjs";
 import { FinalStates } from "../run/ending/final-state.mjs";
-
 import { adviceOf } from "./advice.mjs";
 
+/** @typedef {import("../../script/choices.mjs").AgentChoice} AgentChoice */
 /** @typedef {import("./every.mjs").EveryResult} EveryResult */
 /** @typedef {import("./learning/learning-report.mjs").LearningReport} LearningReport */
 
@@ -21,6 +22,7 @@ import { adviceOf } from "./advice.mjs";
  * @property {string[] | null} detail how the real run by that schedule ended; null: it isn't shown
  * @property {string | null} notShown why it isn't shown
  * @property {string | null} onlyIf what time must pass in that run
+ * @property {boolean} drewSame whether two agents draw the same random number in the schedule that is shown
  */
 
 /**
@@ -103,9 +105,16 @@ function commonOf(open, { realRuns, made, notRun, isProved, notProved, isCut, is
  * @param {import("./showing.mjs").ShownFinding} [shown]
  * @returns {FoundData}
  */
-function dataOfFinding({ kind, text, states, acts, changes, isEarly }, shown) {
+function dataOfFinding({ kind, text, states, acts, changes, isEarly, choices }, shown) {
   const end = endOf(shown?.isSame ? shown.outcome : undefined);
-  return { kind, text, states, acts, changes, isEarly, runs: 0, seed: null, ...end, notShown: shown?.why ?? null };
+  const by = { acts, changes, isEarly, drewSame: haveDrawnSame(choices) };
+  return { kind, text, states, ...by, runs: 0, seed: null, ...end, notShown: shown?.why ?? null };
+}
+
+/** @param {AgentChoice[][]} agents their choices @returns {boolean} whether two have drawn the same random number */
+function haveDrawnSame(agents) {
+  const drawn = agents.map((choices) => choices.filter(([does]) => does === "random").map(returnedBy));
+  return drawn.some((own, agent) => drawn.slice(agent + 1).some((other) => own.some((one) => other.includes(one))));
 }
 
 /** @param {import("../seeds/job.mjs").CheckedOutcome} [outcome] @returns {Pick<FoundData, "detail" | "onlyIf">} */
@@ -114,7 +123,7 @@ const endOf = (outcome) => ({ detail: outcome?.detail.split("\n") ?? null, onlyI
 /** @param {import("./only-runs.mjs").OnlyRun} found @returns {FoundData} */
 function dataOfRuns({ kind, text, runs, outcome }) {
   const { seed, onlyIf } = outcome;
-  const byRun = { states: 0, runs, seed, acts: 0, changes: 0, isEarly: onlyIf !== undefined };
+  const byRun = { states: 0, runs, seed, acts: 0, changes: 0, isEarly: onlyIf !== undefined, drewSame: false };
   return { kind, text, ...byRun, ...endOf(outcome), notShown: null };
 }
 

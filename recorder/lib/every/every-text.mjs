@@ -13,6 +13,8 @@ const ALIKE = "states that differ only by an exchange of like agents counted as 
 
 const FRESHENED = "the modules keep something from run to run, so each real run has loaded them anew";
 
+const DREW_SAME = "two agents draw the same random number there";
+
 /** What agents can do wrong, in the words of the first line. */
 const WORDS = Object.freeze({
   deadlock: "deadlock", threw: "throw", race: "race", check: "fail check", "no way out": "go on for ever",
@@ -61,11 +63,12 @@ function foundLines({ found, notCompared, realRuns }) {
 
 /** @param {FoundData} found @param {number} made how many real runs */
 function findingLines(found, made) {
-  const { detail, kind, notShown, onlyIf, text } = found;
+  const { detail, drewSame, kind, notShown, onlyIf, text } = found;
   const what = text === "" || text === detail?.[0] ? kind : `${kind}: ${text}`;
   const lines = detail === null ? [`not shown by a real run: ${notShown}`] : detail.slice(0, 4);
   const how = found.seed === null ? bySearch(found) : byRuns(found, made);
-  return [`${what}, ${how}`, ...lines.map(indented), ...(onlyIf === null ? [] : [indented(onlyIf)])];
+  const rests = [...(onlyIf === null ? [] : [onlyIf]), ...(drewSame ? [DREW_SAME] : [])];
+  return [`${what}, ${how}`, ...[...lines, ...rests].map(indented)];
 }
 
 /** @param {FoundData} found by the search */

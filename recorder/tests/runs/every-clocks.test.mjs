@@ -143,6 +143,11 @@ test("a random number is the least, one in the middle or the greatest", async (c
   const numbers = data.finals.map(({ text }) => Number(/INSIDE (\d+)/.exec(text)?.[1]));
   assert.deepEqual(numbers.sort((one, other) => one - other), [50, 52, 53, 60, 62, 63, 70, 72, 73]);
   assert.match(everyText(data), /\n {2}of random numbers only the least, one in the middle and the greatest were /);
+  const alike = `Atomics.add(words, 1, Math.floor(Math.random() * 9) + 1);
+  if (Atomics.load(words, 1) === 18) throw 18;`;
+  const same = await everySchedule({ ...FEW_WORKERS, module: moduleOf(context, agents(alike)), seeds: 1 });
+  assert.deepEqual(same.found.map(({ drewSame, notShown }) => [drewSame, notShown]), [[true, null]]);
+  assert.match(everyText(same), /\n {4}two agents draw the same random number there\n/);
   const bytes = `import crypto from "node:crypto";\n${agents("Atomics.store(words, 1, crypto.randomBytes(1)[0]);")}`;
   await assert.rejects(learned(context, bytes), refusedInALine(/it asks for random bytes, at agents\.mjs:6:34/));
 });

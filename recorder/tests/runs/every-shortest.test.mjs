@@ -3,8 +3,10 @@
 import assert from "node:assert/strict";
 import { readFileSync, readdirSync } from "node:fs";
 import { test } from "node:test";
+import { actorOf, chosenIn } from "../../lib/every/search/chosen-acts.mjs";
 import { programOf } from "../../lib/every/search/file.mjs";
 import { sortAgents } from "../../lib/every/search/likes.mjs";
+import { DOES } from "../../lib/every/search/nodes.mjs";
 import { Search } from "../../lib/every/search/search.mjs";
 import { shortestTo } from "../../lib/every/search/shortest.mjs";
 import { everySchedule } from "../../recorder.mjs";
@@ -31,7 +33,7 @@ function isEarly(world, agent) {
  * @param {Search} search that has run
  * @returns {Costs[]} by states
  */
-function leastCosts({ actors, count, ends, starts, targets, world }) {
+function leastCosts({ count, ends, starts, taken, targets, world }) {
   /** @type {Map<number, Costs>[]} of each state by the agent that acted last, as the state has it; -1: none did */
   const known = Array.from({ length: count }, () => new Map());
   known[0].set(-1, [0, 0, 0]);
@@ -40,7 +42,7 @@ function leastCosts({ actors, count, ends, starts, targets, world }) {
     for (let state = 0; state < count; state += 1) {
       world.load(state);
       for (let at = starts.items[state]; at < starts.items[state + 1]; at += 1) {
-        const agent = actors.items[at];
+        const agent = actorOf(taken.items[at]);
         const to = known[targets.items[at]];
         for (const [last, [early, changes, acts]] of [...known[state]]) {
           const isChange = last !== agent && last !== -1;
@@ -59,17 +61,18 @@ function leastCosts({ actors, count, ends, starts, targets, world }) {
 
 /**
  * @param {Search} search
- * @param {number[]} agents that act
+ * @param {number[]} way the acts
  * @returns {{ costs: Costs, state: number }} where they lead
  */
-function followed({ world }, agents) {
+function followed({ world }, way) {
   world.restart();
   /** @type {Costs} */
-  const costs = [0, 0, agents.length];
-  agents.forEach((agent, at) => {
+  const costs = [0, 0, way.length];
+  way.forEach((act, at) => {
+    const agent = actorOf(act);
     if (isEarly(world, agent)) costs[0] += 1;
-    if (at > 0 && agents[at - 1] !== agent) costs[1] += 1;
-    assert.ok(world.step(agent));
+    if (at > 0 && actorOf(way[at - 1]) !== agent) costs[1] += 1;
+    assert.ok(world.step(agent, chosenIn(act)));
   });
   sortAgents(world, world.nodes.map((_, agent) => agent));
   return { costs, state: world.save() };
@@ -80,9 +83,9 @@ function compare(search) {
   const least = leastCosts(search);
   const ways = shortestTo(search, search.count, (state) => [`${state}`]);
   assert.equal(ways.size, search.count);
-  for (const [name, { agents, changes, isEarly: hasEarly, state }] of ways) {
+  for (const [name, { way, changes, isEarly: hasEarly, state }] of ways) {
     assert.equal(`${state}`, name);
-    const { costs, state: reached } = followed(search, agents);
+    const { costs, state: reached } = followed(search, way);
     assert.deepEqual([reached, costs, changes, hasEarly], [state, least[state], least[state][1], least[state][0] > 0]);
   }
 }
@@ -96,6 +99,8 @@ test("of each state of the examples the schedule is the least one", () => {
   });
   const whole = searches.filter(({ isClosed, lost }) => isClosed && lost === undefined);
   assert.ok(whole.length >= 8, `${whole.length} of ${searches.length} are compared`);
+  const chooses = ({ world: { program } }) => program.nodes.some(({ does }) => does === DOES.CHOOSE);
+  assert.ok(whole.some(chooses), "one of them chooses");
   for (const search of whole) compare(search);
 });
 

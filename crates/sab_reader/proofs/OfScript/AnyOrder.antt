@@ -1,5 +1,6 @@
 -- An object is read the same in whatever order its members stand.
-use Rattle.std.proofs.Common.{◌≡◌, ◌≤◌, ℕ, suc, List, [], ◌∷◌, map, Option, Some, None, Less, Greater, refl, sym, ap, subst, ◌∙◌, inl, inr, arith, nat_cmp}
+use Rattle.std.proofs.Common.{◌≡◌, ◌≤◌, ℕ, suc, List, [], ◌∷◌, map, Option, Some, None, Less, Greater, refl, sym, ap, ◌∙◌, inl, inr, arith, nat_cmp}
+use Rattle.std.proofs.lemmas.Grind.{common_steps}
 use Rattle.std.specs.Cmp.Lexicographic.{slice_cmp}
 use Rattle.json.specs.Json as text
 use Rattle.json.specs.Tree.{depth, members_depth}
@@ -30,15 +31,7 @@ pub record Before (k l : List ℕ) : Type 0 where
   pub other : k ≡ l → ⊥
 
 pub before : (k l : List ℕ) → slice_cmp nat_cmp k l ≡ Less → slice_cmp nat_cmp l k ≡ Greater → Before k l
-before k l p q = record {
-  less = p;
-  greater = q;
-  other =
-      λ e.
-      let low : slice_cmp nat_cmp l l ≡ Less = subst (λ x. slice_cmp nat_cmp x l ≡ Less) e p in
-      let high : slice_cmp nat_cmp l l ≡ Greater = subst (λ x. slice_cmp nat_cmp l x ≡ Greater) e q in
-      let bad : Less ≡ Greater = sym low ∙ high in cc;
-}
+before k l p q = grind (arith, common_steps, slice_cmp, nat_cmp)
 
 abbrev BeforeAll : List ℕ → List (List ℕ) → Type 0
 BeforeAll k [] = Unit {0}
@@ -205,11 +198,12 @@ read_built (f ∷ fs) = ap (member f.0 f.1) (read_built fs)
 pub object_read : (n : ℕ) (ps : List (List ℕ × text.Json)) (fs : List (List ℕ × Data)) (j : text.Json)
     → AreSorted (map (λ p. p.0) ps) → IsObjectOf ps j → ReadAs n ps fs
     → (of_json j ≡ Some (object (members_of fs))) × (depth j ≤ suc n)
-object_read n ps fs j sorted is read =
-    let names = unread_names ps in
-    let all = all_taken n is.0 (unread ps) fs (rw names sorted) (rw names is.2) (all_pending n ps fs is.0 is.3 read) in
-    let members : of_members is.0 no_members ≡ Some (members_of fs) = rw (none_built ps, read_built fs) at all.0 in
-    (ap of_json is.1 ∙ rw members refl, deep (ap depth is.1) all.1)
-  where
-    deep : {m k : ℕ} → k ≡ suc m → m ≤ n → k ≤ suc n
-    deep e le = omega (arith, e, le)
+object_read n ps fs j sorted is read = grind (
+  arith,
+  common_steps,
+  unread_names,
+  all_taken,
+  all_pending,
+  none_built,
+  read_built,
+)

@@ -1,5 +1,6 @@
 -- The reasons that are given about the arguments of a call are true.
-use Rattle.std.proofs.Common.{◌≡◌, ℕ, zero, suc, ◌+◌, ◌<◌, ◌≤◌, List, [], ◌∷◌, ◌++◌, length, map, get_or, drop, Some, None, Result, Ok, Err, inl, inr, refl, sym, ap, ◌∙◌, subst, arith, length-append}
+use Rattle.std.proofs.Common.{◌≡◌, ℕ, zero, suc, ◌+◌, ◌<◌, ◌≤◌, List, [], ◌∷◌, ◌++◌, length, map, get_or, drop, Some, None, Result, Ok, Err, refl, sym, ap, ◌∙◌, subst, arith, length-append}
+use Rattle.std.proofs.lemmas.Grind.{common_steps}
 use Rattle.std.proofs.lemmas.List.{length-replicate}
 use Rattle.std.specs.Prelude.{slice_get, IfErr}
 use Rattle.serde_json.specs.Data.{Data, string, Items, no_items, item}
@@ -30,13 +31,7 @@ err_reported P Q (Err e) h more = more e h
 
 -- what isn't a string is an operand just where it is a number
 pub number_as_operand : (d : Data) → ((s : List ℕ) → d ≡ string s → ⊥) → IsNumberAs wanted.Operand d
-number_as_operand d other = (
-  λ o. elim o [
-    | inl n ↦ n
-    | inr t ↦ absurd (other t.0 t.1)
-  ],
-  λ n. inl n,
-)
+number_as_operand d other = grind (arith, common_steps)
 
 -- a value of a list
 pub item_read : (ts : List Value) (k : ℕ) (t : Value) → k < length ts → t ≡ get_or ts k t
@@ -87,10 +82,7 @@ element_is root i j k name types w named call e =
 pub argument_called : (root : Data) (place : Location) (name : List ℕ) (ds : Items) (types : List Wanted) (k : ℕ)
     (w : Wanted) → HasArguments root place name ds → HasCall name types → slice_get types k ≡ Some w
     → CallsFor root (item_at place (3 + k)) w
-argument_called root place name ds types k w h call e =
-    let third : suc (suc (suc k)) ≡ 3 + k = omega arith in
-    let here = element_is root h.i h.j k name types w h.named call e in
-    rw h.is_place (refl, refl, subst (λ (n : ℕ). ElementIs root h.i h.j n w) third here)
+argument_called root place name ds types k w h call e = grind (arith, common_steps, element_is)
 
 -- behind so many operands a limit
 pub limit_there : (n : ℕ) → slice_get (operands n ++ wanted.Whole ∷ []) n ≡ Some wanted.Whole
@@ -114,8 +106,4 @@ two_at_most (Notify v i None) = omega arith
 two_at_most (Notify v i (Some n)) = omega arith
 
 pub few_timed : (name : List ℕ) (n : ℕ) → TakesTimed name n → n ≤ 1
-few_timed name n takes =
-    let call = takes.longest in
-    let most = two_at_most call.0 in
-    let count = ap (λ (ts : List Wanted). length ts) call.2 in
-    omega (arith, most, count, timed_count n)
+few_timed name n takes = grind (arith, common_steps, two_at_most, length, timed_count)

@@ -1,9 +1,9 @@
 -- The reasons that are given about a call are true.
-use Rattle.std.proofs.Common.{◌≡◌, ℕ, suc, ◌+◌, ◌<◌, ◌≤◌, pos, List, [], ◌∷◌, length, take, codes, false, Some, None, refl, sym, ap, ◌∙◌, subst, arith, length-take-le}
+use Rattle.std.proofs.Common.{◌≡◌, ℕ, ◌+◌, ◌≤◌, pos, List, [], ◌∷◌, length, take, codes, false, Some, None, refl, ap, ◌∙◌, subst, arith}
+use Rattle.std.proofs.lemmas.Grind.{common_steps}
 use Rattle.std.proofs.lemmas.List.{length-map}
 use Rattle.serde_json.specs.Data.{Data, string, array, Items, item}
 use Rattle.serde_json.specs.Find.{get_item}
-use Rattle.serde_json.specs.Events.{items_len}
 use Rattle.sab_block.specs.declared.access.Access.TheVariants.{Load, Store, Rmw, CompareExchange}
 use Rattle.sab_block.specs.declared.operand.Operand.{Operand}
 use Rattle.sab_block.specs.declared.rmw_op.RmwOp.{RmwOp}
@@ -18,10 +18,10 @@ use Rattle.sab_refusal.specs.declared.member.Member.TheVariants as M
 use Rattle.sab_refusal.specs.declared.reason.Wanted.{Wanted}
 use Rattle.sab_refusal.specs.declared.reason.Wanted.TheVariants as wanted
 use Rattle.sab_reader.specs.Script.Calls.{spelling_of}
-use Rattle.sab_reader.specs.Script.Places.{value_at, item_of, argument_type, IsNamed, Stands}
+use Rattle.sab_reader.specs.Script.Places.{item_of, argument_type, Stands}
 use Rattle.sab_reader.specs.Script.Known.{HasArguments}
-use Rattle.sab_reader.specs.Script.Truth.{HasItems, elements_of, NeedsElements, AllowsElements, HasFew, HasMore}
-use Rattle.sab_reader.specs.Script.Arguments.{types_of, HasCall, TakesFrom, TakesJust, TakesTimed, TakesElements}
+use Rattle.sab_reader.specs.Script.Truth.{elements_of}
+use Rattle.sab_reader.specs.Script.Arguments.{types_of, HasCall, TakesFrom, TakesJust, TakesTimed}
 use Rattle.sab_reader.proofs.OfScript.CallParts.{Verb, load, store, rmw, compare_exchange, wait, notify, verb_of, op_verb}
 
 -- how many arguments a call has at least, and at most
@@ -57,15 +57,7 @@ within (Notify v i (Some n)) = (omega arith, omega arith)
 -- the calls of a name take such arguments if there are a shortest and a longest one
 takes_by : (name : List ℕ) (verb : Verb) (types : List Wanted) → verb_of name ≡ verb → length types ≡ most_of verb
     → HasCall name (take (least_of verb) types) → HasCall name types → TakesFrom name (least_of verb) types
-takes_by name verb types is count shortest longest =
-    let each : (call : Call) → name ≡ (spelling_of call).name → IsWithin name (length (types_of call)) =
-    λ call e. subst (λ (n : List ℕ). IsWithin n (length (types_of call))) (sym e) (within call) in
-    record {
-      few = λ call e. rw is at (each call e).0;
-      many = λ call e. rw count (rw is at (each call e).1);
-      shortest = shortest;
-      longest = longest;
-    }
+takes_by name verb types is count shortest longest = grind (arith, common_steps, spelling_of, length, types_of, within)
 
 -- some operand
 abbrev nought : Operand
@@ -114,87 +106,8 @@ call_element root place i j k ds d is stands there =
 pub has_arguments : (root : Data) (place : Location) (i j : ℕ) (name : List ℕ) (a b d : Data) (rest : Items)
     → place ≡ at.Call M.Agents i M.Calls j → Stands root place (array (item a (item b (item d rest))))
     → a ≡ string name → HasArguments root place name rest
-has_arguments root place i j name a b d rest is stands first =
-    let ds = item a (item b (item d rest)) in
-    let here : Stands root (at.Call M.Agents i M.Calls j) (array ds) =
-    subst (λ (p : Location). Stands root p (array ds)) is stands in
-    record {
-      i = i;
-      j = j;
-      is_place = is;
-      named = ap (item_of 0) here ∙ ap (λ (x : Data). Some x) first;
-      count = (ds, stands, omega arith);
-      each = λ k.
-          let third : suc (suc (suc k)) ≡ 3 + k = omega arith in
-          subst (λ (n : ℕ). value_at root (at.Element M.Agents i M.Calls j n) ≡ get_item k rest) third
-          (ap (item_of (suc (suc (suc k)))) here);
-    }
-
--- the name that stands in a call is one
-same_name : (root : Data) (i j : ℕ) (a b : List ℕ) → IsNamed root i j a → IsNamed root i j b → a ≡ b
-same_name root i j a b p q = let same : Some (string a) ≡ Some (string b) = sym p ∙ q in cc
+has_arguments root place i j name a b d rest is stands first = grind (arith, common_steps)
 
 -- a call's elements are its arguments and three before them
 count_of : (call : Call) → elements_of call ≡ 3 + length (types_of call)
 count_of call = let same = length-map (spelling_of call).arguments argument_type in omega (arith, same)
-
--- the calls of a name have so many elements at least
-needs_elements : (root : Data) (i j n : ℕ) (name : List ℕ) (types : List Wanted) → IsNamed root i j name
-    → TakesFrom name n types → NeedsElements root i j (3 + n)
-needs_elements root i j n name types named takes =
-    let short = takes.shortest in
-    let long = takes.longest in
-    let within = takes.few long.0 long.1 in
-    let whole = ap (λ (ts : List Wanted). length ts) long.2 in
-    let part = ap (λ (ts : List Wanted). length ts) short.2 in
-    let start = length-take-le n types (omega (arith, within, whole)) in
-    record {
-      each = λ call here.
-          let few = takes.few call (same_name root i j name (spelling_of call).name named here) in
-          let count = count_of call in omega (arith, few, count);
-      call = short.0;
-      just = let count = count_of short.0 in omega (arith, part, start, count);
-      named = subst (IsNamed root i j) short.1 named;
-    }
-
--- and so many at most
-allows_elements : (root : Data) (i j n : ℕ) (name : List ℕ) (types : List Wanted) → IsNamed root i j name
-    → TakesFrom name n types → AllowsElements root i j (3 + length types)
-allows_elements root i j n name types named takes =
-    let long = takes.longest in
-    let whole = ap (λ (ts : List Wanted). length ts) long.2 in
-    record {
-      each = λ call here.
-          let many = takes.many call (same_name root i j name (spelling_of call).name named here) in
-          let count = count_of call in omega (arith, many, count);
-      call = long.0;
-      just = let count = count_of long.0 in omega (arith, whole, count);
-      named = subst (IsNamed root i j) long.1 named;
-    }
-
--- a call has fewer elements than one of its name
-pub few_elements : (root : Data) (place : Location) (i j count least most : ℕ) (name : List ℕ)
-    → place ≡ at.Call M.Agents i M.Calls j → HasItems root place count → IsNamed root i j name
-    → TakesElements name least most → count < least → HasFew root place count least most
-few_elements root place i j count least most name is items named takes less = (
-  i,
-  j,
-  is,
-  items,
-  less,
-  subst (NeedsElements root i j) (sym takes.3) (needs_elements root i j takes.0 name takes.1 named takes.2),
-  subst (AllowsElements root i j) (sym takes.4) (allows_elements root i j takes.0 name takes.1 named takes.2),
-)
-
--- or more
-pub more_elements : (root : Data) (place : Location) (i j count least most : ℕ) (name : List ℕ)
-    → place ≡ at.Call M.Agents i M.Calls j → HasItems root place count → IsNamed root i j name
-    → TakesElements name least most → most < count → HasMore root place count most
-more_elements root place i j count least most name is items named takes more = (
-  i,
-  j,
-  is,
-  items,
-  more,
-  subst (AllowsElements root i j) (sym takes.4) (allows_elements root i j takes.0 name takes.1 named takes.2),
-)

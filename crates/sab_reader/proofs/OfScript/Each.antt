@@ -1,5 +1,6 @@
 -- Items that spell the elements of a list.
 use Rattle.std.proofs.Common.{◌≡◌, ℕ, zero, suc, ◌+◌, ◌<◌, List, [], ◌∷◌, ◌++◌, length, get_or, drop, refl, ap, arith, append_assoc, append-nil, add-one, drop-cons}
+use Rattle.std.proofs.lemmas.Grind.{common_steps}
 use Rattle.std.proofs.Math.Seq.{drop-length}
 use Rattle.serde_json.specs.Data.{Data, Items, no_items, item}
 use Rattle.serde_json.specs.View.{view, items_view}
@@ -31,10 +32,7 @@ each_none S ts = λ rest h. h
 
 pub each_more : {X : Type 0} (S : Data → X → Type 0) (ts : List Value) (i : ℕ) (xs : List X) (t : Value) (x : X)
     → i < length ts → t ≡ get_or ts i t → EachSoFar S ts i xs → S (view t) x → EachSoFar S ts (i + 1) (xs ++ x ∷ [])
-each_more S ts i xs t x lt e h s = λ rest r.
-    let front : SpellsEach S (items_view (drop i ts)) (x ∷ rest) =
-    let r' = rw add-one at r in rw (drop-cons ts i t, ← e) (s, r') in
-    rw append_assoc (h (x ∷ rest) front)
+each_more S ts i xs t x lt e h s = grind (arith, common_steps, items_view, drop, add-one, drop-cons, append_assoc)
 
 pub each_all : {X : Type 0} (S : Data → X → Type 0) (ts : List Value) (i : ℕ) (xs : List X) → i ≡ length ts
     → EachSoFar S ts i xs → SpellsEach S (items_view ts) xs

@@ -1,5 +1,6 @@
 -- What is reported at the exits of the readers.
-use Rattle.std.proofs.Common.{◌≡◌, Option, Some, None, Result, Ok, Err, refl, inl, inr}
+use Rattle.std.proofs.Common.{◌≡◌, Option, Some, None, Result, Ok, Err, refl, arith}
+use Rattle.std.proofs.lemmas.Grind.{common_steps}
 use Rattle.std.specs.Prelude.{IsErrAnd, IfErr}
 use Rattle.std.specs.Option.{ok_or}
 use Rattle.std.proofs.lemmas.Result.{err_from_is_err_and}
@@ -30,10 +31,4 @@ none_reported P None e reported = reported refl
 
 -- a value that isn't null is a whole number or null just where it is a number
 pub number_as_optional : (d : Data) → (d ≡ null → ⊥) → IsNumberAs wanted.WholeOrNull d
-number_as_optional d some = (
-  λ o. elim o [
-    | inl n ↦ n
-    | inr e ↦ absurd (some e)
-  ],
-  λ n. inl n,
-)
+number_as_optional d some = grind (arith, common_steps)

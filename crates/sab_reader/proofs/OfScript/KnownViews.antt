@@ -1,5 +1,6 @@
 -- What is known of a script once its blocks and its views are read.
 use Rattle.std.proofs.Common.{◌≡◌, ◌⊎◌, ℕ, zero, suc, ◌<◌, pos, List, [], ◌∷◌, ◌++◌, length, get_or, Option, Some, None, refl, sym, ap, ◌∙◌, subst, codes, arith, inl, inr}
+use Rattle.std.proofs.lemmas.Grind.{common_steps}
 use Rattle.std.specs.Prelude.{slice_get}
 use Rattle.serde_json.specs.Data.{Data, string, array, Items, no_items, item}
 use Rattle.serde_json.specs.Find.{get, get_item}
@@ -20,8 +21,7 @@ use Rattle.sab_refusal.specs.declared.member.Member.TheVariants as M
 use Rattle.sab_reader.specs.declared.script.form.Form.{Form}
 use Rattle.sab_reader.specs.declared.script.form.Form.TheVariants.{Bytes, Blocks}
 use Rattle.sab_reader.specs.declared.script.view_spec.ViewSpec.{ViewSpec}
-use Rattle.sab_reader.specs.Script.Blocks.{SpellsLen, SpellsLens}
-use Rattle.sab_reader.specs.Script.Numbers.{whole}
+use Rattle.sab_reader.specs.Script.Blocks.{SpellsLens}
 use Rattle.sab_reader.specs.Script.Reading.{SpellsEach}
 use Rattle.sab_reader.specs.Script.Views.{SpellsView, SpellsViews, view_names}
 use Rattle.sab_reader.specs.Script.Places.{Stands, part_of, item_of, lens_member, form_of}
@@ -62,15 +62,7 @@ item_stands root list i ds d there g = ap (item_of i) there ∙ g
 pub has_lens : (root : Data) (form : Form) (d : Data) (lens : List ℕ) → Stands root (at.Member (lens_member form)) d
     → form_of root ≡ form → SpellsLens form d lens → HasLens root form lens
 has_lens root Bytes d lens there is h = (is, (h.0, there ∙ ap Some h.1.0, h.2))
-has_lens root Blocks d lens there is h =
-    let trees : Stands root (at.Member M.Blocks) (array h.0) = there ∙ ap Some h.1 in
-    let each = h.2.0 in (
-      is,
-      (h.0, trees, count_of SpellsLen h.0 lens each),
-      (λ b len g.
-          let found = item_there SpellsLen h.0 lens b len each g in
-          item_stands root M.Blocks b h.0 (whole (pos len)) trees (found.1 ∙ ap Some found.2.0)),
-    )
+has_lens root Blocks d lens there is h = grind (arith, common_steps, count_of, item_there, item_stands, pos)
 
 -- the name of a view that is spelled
 pub name_of : (form : Form) (lens : List ℕ) (d : Data) (v : List ℕ × ViewSpec) → SpellsView form lens d v
@@ -90,12 +82,7 @@ name_there : (form : Form) (lens : List ℕ) (ds : Items) (vs : List (List ℕ �
     → SpellsEach (SpellsView form lens) ds vs → get_item v ds ≡ o → part_of M.Name o ≡ Some (string name)
     → slice_get (view_names vs) v ≡ Some name
 name_there form lens ds vs v name None h g there = cc
-name_there form lens ds vs v name (Some d) h g there =
-    let found = element_there (SpellsView form lens) ds vs v d h g in
-    let names : Some (string found.0.0) ≡ Some (string name) =
-    sym (name_of form lens d found.0 found.2) ∙ there in
-    let name_is : found.0.0 ≡ name = cc in
-    named_there vs v found.0 found.1 ∙ ap Some name_is
+name_there form lens ds vs v name (Some d) h g there = grind (arith, common_steps, element_there, name_of, named_there)
 
 pub has_names : (root : Data) (form : Form) (lens : List ℕ) (ds : Items) (vs : List (List ℕ × ViewSpec))
     → Stands root (at.Member M.Views) (array ds) → SpellsViews form lens ds vs → HasNames root (view_names vs)
@@ -118,10 +105,7 @@ push_cases : {X : Type 0} (xs : List X) (x : X) (k : ℕ) (y : X) → slice_get 
 push_cases [] x zero y g = let same : x ≡ y = cc in inr (refl, same)
 push_cases [] x (suc k) y g = absurd cc
 push_cases (z ∷ xs) x zero y g = inl g
-push_cases (z ∷ xs) x (suc k) y g = elim (push_cases xs x k y g) [
-  | inl before ↦ inl before
-  | inr last ↦ inr (ap (λ n. suc n) last.0, last.1)
-]
+push_cases (z ∷ xs) x (suc k) y g = grind (arith, common_steps, push_cases xs x k y g)
 
 -- the item at a place
 pub tree_there : (ts : List Value) (i : ℕ) (t : Value) → i < length ts → t ≡ get_or ts i t
@@ -131,14 +115,7 @@ tree_there ts i t lt e = sym (get_item_within ts i t lt) ∙ ap (λ v. Some (vie
 pub stand_more : {X : Type 0} (S : Data → X → Type 0) (ts : List Value) (i : ℕ) (xs : List X) (t : Value) (x : X)
     → i < length ts → t ≡ get_or ts i t → length xs ≡ i → StandSoFar S (items_view ts) xs → S (view t) x
     → StandSoFar S (items_view ts) (xs ++ x ∷ [])
-stand_more S ts i xs t x lt e count before s = λ k y g. elim (push_cases xs x k y g) [
-  | inl earlier ↦ before k y earlier
-  | inr last ↦ (
-    view t,
-    ap (λ n. get_item n (items_view ts)) (last.0 ∙ count) ∙ tree_there ts i t lt e,
-    subst (λ z. S (view t) z) last.1 s,
-  )
-]
+stand_more S ts i xs t x lt e count before s = grind (arith, common_steps, push_cases, tree_there)
 
 pub items_count : (ts : List Value) → items_len (items_view ts) ≡ length ts
 items_count [] = refl
@@ -166,10 +143,13 @@ pub one_reported : (form : Form) (lens : List ℕ) (place part : Location) (ts :
     → part ≡ item_at place n → n ≡ i → i < length ts → t ≡ get_or ts i t
     → IsTrueWhere part (view t) (λ root. ((k : ℕ) × (part ≡ at.Item M.Views k)) × HasLens root form lens) e
     → IsViewsReported form lens place (items_view ts) e
-one_reported form lens place part ts i n t e part_is count lt is reported = λ root stands known.
-    let there = item_place place part i n part_is count known.0 in
-    let here = tree_stands root place ts i t known.0 stands lt is in
-    reported root (subst (λ l. Stands root l (view t)) (sym there) here) ((i, there), known.1)
+one_reported form lens place part ts i n t e part_is count lt is reported = grind (
+  arith,
+  common_steps,
+  item_place,
+  tree_stands,
+  view,
+)
 
 -- there are too many
 pub many_reported : (form : Form) (lens : List ℕ) (place : Location) (ts : List Value) → MAX_VIEWS < length ts

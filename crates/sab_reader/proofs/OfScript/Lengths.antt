@@ -1,5 +1,6 @@
 -- How many items there are.
 use Rattle.std.proofs.Common.{◌≡◌, ℤ, List, [], ◌∷◌, length, Option, Some, None, ◌≤◌, arith, get_or, drop, take, ◌-◌, sym, length-drop}
+use Rattle.std.proofs.lemmas.Grind.{common_steps}
 use Rattle.std.proofs.lemmas.List.{take_all}
 use Rattle.serde_json.specs.Data.{Data, Items, item}
 use Rattle.serde_json.specs.View.{view, items_view}
@@ -26,11 +27,7 @@ pub three_items : (ts : List Value) (a b d : Value) → 3 ≤ length ts → a �
 three_items [] a b d h p q r = absurd (omega arith)
 three_items (t ∷ []) a b d h p q r = absurd (omega arith)
 three_items (t ∷ s ∷ []) a b d h p q r = absurd (omega arith)
-three_items (t ∷ s ∷ u ∷ ts) a b d h p q r =
-    let one : t ≡ a = sym p in
-    let two : s ≡ b = sym q in
-    let three : u ≡ d = sym r in
-    λ i. item (view (one i)) (item (view (two i)) (item (view (three i)) (items_view ts)))
+three_items (t ∷ s ∷ u ∷ ts) a b d h p q r = grind (arith, common_steps, item, view, items_view)
 
 pub three_long : (ts : List Value) (a b d : Data) (rest : Items) → items_view ts ≡ item a (item b (item d rest))
     → 3 ≤ length ts
@@ -70,8 +67,5 @@ pub two_arguments : (ts : List Value) (t s : Value) (a b : Argument) → length 
     → SpellsArguments (items_view ts) (a ∷ b ∷ [])
 two_arguments [] t s a b two p q first second = absurd (omega arith)
 two_arguments (u ∷ []) t s a b two p q first second = absurd (omega arith)
-two_arguments (u ∷ v ∷ []) t s a b two p q first second =
-    let one : u ≡ t = sym p in
-    let other : v ≡ s = sym q in
-    (rw one first, (rw other second, tt))
+two_arguments (u ∷ v ∷ []) t s a b two p q first second = grind (arith, common_steps)
 two_arguments (u ∷ v ∷ w ∷ ts) t s a b two p q first second = absurd (omega arith)

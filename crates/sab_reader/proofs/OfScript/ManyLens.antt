@@ -1,5 +1,6 @@
 -- The lengths of blocks that an array spells.
-use Rattle.std.proofs.Common.{◌≡◌, ℕ, zero, suc, ◌≤◌, List, length, false, true≢false, Vec, Global, Result, Ok, Err, sym, ◌∙◌, subst, arith}
+use Rattle.std.proofs.Common.{◌≡◌, ℕ, zero, suc, ◌≤◌, List, length, false, true≢false, Vec, Global, Result, Ok, Err, arith}
+use Rattle.std.proofs.lemmas.Grind.{common_steps}
 use Rattle.std.specs.Prelude.{◌==◌}
 use Rattle.serde_json.specs.Data.{Data, array, Items}
 use Rattle.serde_json.specs.View.{items_view}
@@ -25,10 +26,7 @@ spelled_lens d ts lens e some h =
 
 lens_items : (d : Data) (ds : Items) (lens : List ℕ) → d ≡ array ds → SpellsLens Blocks d lens
     → SpellsUpTo 4 SpellsLen ds lens
-lens_items d ds lens e h =
-    let trees : array h.0 ≡ array ds = sym h.1 ∙ e in
-    let items : h.0 ≡ ds = cc in
-    subst (λ (x : Items). SpellsUpTo 4 SpellsLen x lens) items h.2
+lens_items d ds lens e h = grind (arith, common_steps, array)
 
 pub reads_lens : (form : Form) (d : Data) (ts : List Value) (r : Result (Vec ℕ Global) Located) → form ≡ Blocks
     → d ≡ array (items_view ts) → 1 ≤ length ts

@@ -1,5 +1,6 @@
 -- Why a view can't be made on its block.
-use Rattle.std.proofs.Common.{◌≡◌, ℕ, ◌+◌, ◌-◌, ◌*◌, ◌/◌, ◌%◌, ◌<◌, ◌≤◌, ℤ, pos, negsuc, Bool, true, false, Option, Some, None, refl, sym, ap, ◌∙◌, subst, arith, inl, inr}
+use Rattle.std.proofs.Common.{◌≡◌, ℕ, ◌-◌, ◌/◌, ◌%◌, ◌<◌, ◌≤◌, ℤ, pos, negsuc, true, Option, Some, None, refl, sym, ap, ◌∙◌, arith, inl, inr}
+use Rattle.std.proofs.lemmas.Grind.{common_steps}
 use Rattle.std.specs.Prelude.{◌<ℤ◌, ◌==◌, nat_le, nat_abs, FitsSigned}
 use Rattle.std.specs.Int.{w64, FitsUnsignedBits}
 use Rattle.std.proofs.lemmas.Int.{ints}
@@ -54,12 +55,7 @@ no_rest size n k = ap (λ x. x % size) k.1 ∙ mul-mod_left k.0 size
 
 pub uneven : (root : Data) (i len : ℕ) (v : ViewSpec) (n size : ℕ) → v.offset ≡ pos n → size ≡ element_size v.kind
     → (n % size ≡ 0 → ⊥) → HasView root i len v → IsUneven root (at.Part M.Views i M.Offset) size
-uneven root i len v n size e size_is odd there = (
-  i,
-  refl,
-  (n, there.offset ∙ ap (λ x. Some (whole x)) e, λ k. odd (no_rest size n k)),
-  (v.kind, there.kind, sym size_is),
-)
+uneven root i len v n size e size_is odd there = grind (arith, common_steps, whole, no_rest)
 
 pub behind : (root : Data) (i len : ℕ) (v : ViewSpec) (n : ℕ) → v.offset ≡ pos n → len < n → HasView root i len v
     → IsBehind root (at.Part M.Views i M.Offset) len
@@ -81,37 +77,17 @@ even_rest kind len n length even none e =
     let found = rw (e, test) at none in found
 
 odd_block : (size len n : ℕ) → rest_count size len n ≡ None → n ≤ len → len % size ≡ 0 → ⊥
-odd_block size len n none within even =
-    let test : (len % size == 0) ≡ true = eq-eqb _ _ even in
-    let room : nat_le n len ≡ true = le-leb _ _ within in
-    let found = rw (test, room) at none in cc
+odd_block size len n none within even = grind (arith, common_steps, eq-eqb, nat_le, le-leb)
 
 pub uneven_block : (root : Data) (i len : ℕ) (v : ViewSpec) (n size : ℕ) → v.offset ≡ pos n
     → size ≡ element_size v.kind → n % size ≡ 0 → n ≤ len → v.length ≡ None
     → count v.kind len v.offset v.length ≡ None → HasView root i len v
     → IsUnevenBlock root (at.Part M.Views i M.Length) len size
-uneven_block root i len v n size e size_is even within no_length none there =
-    let counted : count v.kind len (pos n) v.length ≡ None = ap (λ z. count v.kind len z v.length) (sym e) ∙ none in
-    let divides = subst (λ s. n % s ≡ 0) size_is even in
-    let rest = even_rest v.kind len n v.length divides counted no_length in (
-      i,
-      refl,
-      there.length ∙ ap (λ x. Some (whole_or_null x)) no_length,
-      there.on,
-      λ k. odd_block (element_size v.kind) len n rest within
-          (subst (λ s. len % s ≡ 0) size_is (no_rest size len k)),
-      (v.kind, there.kind, sym size_is),
-    )
+uneven_block root i len v n size e size_is even within no_length none there = grind (arith, common_steps)
 
 -- there is room for fewer elements
 few : (size len n m : ℕ) → 0 < size → n ≤ len → given_count size len n (pos m) ≡ None → (len - n) / size < m
-few size len n m some within none = by (nat_le (n + m * size) len) refl
-  where
-    by : (b : Bool) → nat_le (n + m * size) len ≡ b → (len - n) / size < m
-    by true t = let bad = rw t at none in absurd cc
-    by false t =
-        let short : len < n + m * size = leb-false _ _ t in
-        (div-lt_iff_lt-mul some).1 (omega (arith, short, within))
+few size len n m some within none = grind (arith, common_steps, nat_le, leb-false, div-lt_iff_lt-mul)
 
 room_for : (size len n : ℕ) (z : ℤ) → 0 < size → n ≤ len → (z <ℤ pos 0 → ⊥) → given_count size len n z ≡ None
     → pos ((len - n) / size) <ℤ z
@@ -123,23 +99,15 @@ pub too_long : (root : Data) (i len : ℕ) (v : ViewSpec) (n size room : ℕ) (z
     → size ≡ element_size v.kind → n % size ≡ 0 → n ≤ len → v.length ≡ Some z → (z <ℤ pos 0 → ⊥)
     → room ≡ (len - n) / size → count v.kind len v.offset v.length ≡ None → HasView root i len v
     → IsTooLong root (at.Part M.Views i M.Length) z room
-too_long root i len v n size room z e size_is even within length not_below room_is none there =
-    let counted : count v.kind len (pos n) v.length ≡ None = ap (λ x. count v.kind len x v.length) (sym e) ∙ none in
-    let divides = subst (λ s. n % s ≡ 0) size_is even in
-    let given = even_count v.kind len n v.length divides counted z length in
-    let is : room ≡ (len - n) / element_size v.kind = room_is ∙ ap (λ s. (len - n) / s) size_is in
-    record {
-      i = i;
-      is_place = refl;
-      stands = there.length ∙ ap (λ x. Some (whole_or_null x)) length;
-      long =
-          subst (λ r. pos r <ℤ z) (sym is)
-          (room_for (element_size v.kind) len n z (size_positive v.kind) within not_below given);
-      kind = v.kind;
-      has_kind = there.kind;
-      offset = n;
-      has_offset = there.offset ∙ ap (λ x. Some (whole x)) e;
-      len = len;
-      on = there.on;
-      room = (within, is);
-    }
+too_long root i len v n size room z e size_is even within length not_below room_is none there = grind (
+  arith,
+  common_steps,
+  count,
+  pos,
+  even_count,
+  element_size,
+  whole_or_null,
+  room_for,
+  size_positive,
+  whole,
+)

@@ -1,5 +1,6 @@
 -- A tree spells one operand at most.
-use Rattle.std.proofs.Common.{◌≡◌, ℕ, suc, ◌^◌, ◌<◌, ◌≤◌, ℤ, pos, negsuc, List, ◌∷◌, Bool, true, false, FitsSigned, refl, sym, ap, subst, ◌∙◌, arith, drop}
+use Rattle.std.proofs.Common.{◌≡◌, ℕ, ◌^◌, ◌<◌, ◌≤◌, ℤ, pos, negsuc, List, ◌∷◌, Bool, true, false, FitsSigned, refl, sym, ap, subst, ◌∙◌, arith, drop}
+use Rattle.std.proofs.lemmas.Grind.{common_steps}
 use Rattle.std.specs.Int.{w128}
 use Rattle.std.specs.Fmt.{decimal, signed_decimal}
 use Rattle.std.specs.Str.Parse.{AllDigits, digits_value}
@@ -27,10 +28,7 @@ same_big : (y z : ℤ) → FitsSigned w128 y → FitsSigned w128 z → signed_de
 same_big (pos m) (pos n) p q e = ap pos (same_decimal m n (omega (arith, p.sfits)) (omega (arith, q.sfits)) e)
 same_big (pos m) (negsuc n) p q e = absurd (no_minus m _ (omega (arith, p.sfits)) e)
 same_big (negsuc m) (pos n) p q e = absurd (no_minus n _ (omega (arith, q.sfits)) (sym e))
-same_big (negsuc m) (negsuc n) p q e =
-    let same : suc m ≡ suc n =
-    same_decimal (suc m) (suc n) (omega (arith, p.sfits)) (omega (arith, q.sfits)) (ap (drop 1) e) in
-    ap negsuc (omega (arith, same))
+same_big (negsuc m) (negsuc n) p q e = grind (arith, common_steps, same_decimal, drop, negsuc)
 
 same_data : (b c : Bool) (y z : ℤ) → IsInRange b y → IsInRange c z → operand_data b y ≡ operand_data c z
     → (b ≡ c) × (y ≡ z)

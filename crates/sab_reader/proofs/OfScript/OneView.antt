@@ -1,5 +1,6 @@
 -- A tree spells one view at most, and a description is of one view.
 use Rattle.std.proofs.Common.{◌≡◌, ℕ, ◌+◌, ◌*◌, ◌≤◌, zero, suc, ◌<◌, pos, List, [], ◌∷◌, length, Option, Some, None, refl, sym, ap, ◌∙◌, arith, is_some}
+use Rattle.std.proofs.lemmas.Grind.{common_steps}
 use Rattle.std.specs.Prelude.{IsTrue, slice_get}
 use Rattle.std.proofs.Props.{props}
 use mathlib.Core.HLevel.{is_prop→PathP}
@@ -32,36 +33,17 @@ block_same Blocks b c m n p q e =
 -- views with one description, on one block
 same_described : (v w : List ℕ × ViewSpec) → description_of v.0 v.1 ≡ description_of w.0 w.1 → v.1.block ≡ w.1.block
     → v ≡ w
-same_described v w e block =
-    let word : string (kind_name v.1.kind) ≡ string (kind_name w.1.kind) = cc in
-    let kind_text : kind_name v.1.kind ≡ kind_name w.1.kind = cc in
-    let kind = same_kind v.1.kind w.1.kind kind_text in
-    let lengths : whole_or_null v.1.length ≡ whole_or_null w.1.length = cc in
-    let length = same_optional v.1.length w.1.length lengths in
-    let names : string v.0 ≡ string w.0 = cc in
-    let name : v.0 ≡ w.0 = cc in
-    let offsets : whole v.1.offset ≡ whole w.1.offset = cc in
-    let offset = same_whole v.1.offset w.1.offset offsets in
-    λ i. (name i, record { kind = kind i; offset = offset i; length = length i; block = block i })
+same_described v w e block = grind (arith, common_steps, same_kind, length, same_optional, same_whole)
 
 pub same_view : (form : Form) (lens : List ℕ) (d : Data) (v w : List ℕ × ViewSpec) → SpellsView form lens d v
     → SpellsView form lens d w → v ≡ w
-same_view form lens d v w p q =
-    let trees = sym p.tree ∙ q.tree in
-    let rest : p.rest ≡ q.rest = rest_same form v.1.block w.1.block p.rest q.rest trees in
-    let block = block_same form v.1.block w.1.block p.rest q.rest p.block q.block trees in
-    same_described v w (sym p.description.members ∙ rest ∙ q.description.members) block
+same_view form lens d v w p q = grind (arith, common_steps, rest_same, block_same, same_described, description)
 
 -- the values of a description's members
 pub description_parts : (lens : List ℕ) (rest : Members) (k l n o : Data) → rest ≡ description k l n o
     → (v : List ℕ × ViewSpec) → SpellsDescription lens rest v
     → (k ≡ string (kind_name v.1.kind)) × (l ≡ whole_or_null v.1.length) × (n ≡ string v.0) × (o ≡ whole v.1.offset)
-description_parts lens rest k l n o e v h =
-    let same : description k l n o ≡ description_of v.0 v.1 = sym e ∙ h.members in
-    let kind : k ≡ string (kind_name v.1.kind) = cc in
-    let length : l ≡ whole_or_null v.1.length = cc in
-    let name : n ≡ string v.0 = cc in
-    let offset : o ≡ whole v.1.offset = cc in (kind, length, name, offset)
+description_parts lens rest k l n o e v h = grind (arith, common_steps, length)
 
 pub same_text : (a b : List ℕ) → string a ≡ string b → a ≡ b
 same_text a b e = cc
@@ -93,15 +75,6 @@ block_part form lens d m e v h =
     let same : object m ≡ object (with_block form v.1.block h.rest) = sym e ∙ h.tree in
     let members : m ≡ with_block form v.1.block h.rest = cc in
     ((v.1.block, h.rest), (members, on_there lens v.1 (slice_get lens v.1.block) refl h.description.made))
-
--- a view is spelled where its description is
-pub description_part : (form : Form) (lens : List ℕ) (d : Data) (b : ℕ) (m : Members) → d ≡ object (with_block form b m)
-    → IsBlockIn form b → (v : List ℕ × ViewSpec) → SpellsView form lens d v
-    → SpellsDescription lens m v × (v.1.block ≡ b)
-description_part form lens d b m e has v h =
-    let trees = sym h.tree ∙ e in
-    let rest : h.rest ≡ m = rest_same form v.1.block b h.rest m trees in
-    (rw (← rest) h.description, block_same form v.1.block b h.rest m h.block has trees)
 
 same_made : (lens : List ℕ) (v : ViewSpec) (p q : PlanView) → IsDescribed lens v p → IsDescribed lens v q → p ≡ q
 same_made lens v p q g h =

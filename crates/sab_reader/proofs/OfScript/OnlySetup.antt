@@ -1,5 +1,6 @@
 -- A tree spells one setup at most.
-use Rattle.std.proofs.Common.{◌≡◌, ℕ, pos, List, length, sym, ap, subst, ◌∙◌}
+use Rattle.std.proofs.Common.{◌≡◌, ℕ, pos, List, length, sym, subst, ◌∙◌, arith}
+use Rattle.std.proofs.lemmas.Grind.{common_steps}
 use Rattle.std.specs.Str.{bytes_eq}
 use Rattle.std.specs.List.{IsDistinct}
 use Rattle.serde_json.specs.Data.{Data, boolean, array, Items}
@@ -22,15 +23,8 @@ use Rattle.sab_reader.proofs.OfScript.WholeScript.{Restated, restated, same_lens
 -- moves
 
 same_move : (m n : ℕ) (d : Data) (x y : Move) → SpellsMove m d x → SpellsMove n d y → x ≡ y
-same_move m n d (Step a) (Step b) p q =
-    let tree : whole (pos a) ≡ whole (pos b) = sym p.0 ∙ q.0 in
-    let same : pos a ≡ pos b = same_whole (pos a) (pos b) tree in
-    let number : a ≡ b = cc in ap (λ n. Step n) number
-same_move m n d (TimeUp a) (TimeUp b) p q =
-    let trees : move_tree (TimeUp a) ≡ move_tree (TimeUp b) = sym p.0 ∙ q.0 in
-    let tree : whole (pos a) ≡ whole (pos b) = cc in
-    let same : pos a ≡ pos b = same_whole (pos a) (pos b) tree in
-    let number : a ≡ b = cc in ap (λ n. TimeUp n) number
+same_move m n d (Step a) (Step b) p q = grind (arith, common_steps, whole, pos, same_whole)
+same_move m n d (TimeUp a) (TimeUp b) p q = grind (arith, common_steps, move_tree, whole, pos, same_whole)
 same_move m n d (Step a) (TimeUp b) p q =
     let trees : move_tree (Step a) ≡ move_tree (TimeUp b) = sym p.0 ∙ q.0 in cc
 same_move m n d (TimeUp a) (Step b) p q =

@@ -1,5 +1,6 @@
 -- What a part of a spelling spells.
-use Rattle.std.proofs.Common.{◌≡◌, ℕ, List, codes, pos, refl, sym, ap, ◌∙◌}
+use Rattle.std.proofs.Common.{◌≡◌, ℕ, List, codes, pos, refl, sym, ap, ◌∙◌, arith}
+use Rattle.std.proofs.lemmas.Grind.{common_steps}
 use Rattle.serde_json.specs.Data.{Data, object, Members, no_members, member}
 use Rattle.sab_plan.specs.declared.schedule.Move.{Move}
 use Rattle.sab_plan.specs.declared.schedule.Move.TheVariants.{Step, TimeUp}
@@ -16,10 +17,7 @@ pub timeout_part : (agents : ℕ) (d x : Data) (rest : Members) → d ≡ object
     → (m : Move) → SpellsMove agents d m → (a : ℕ) × SpellsPosition agents x a
 timeout_part agents d x rest e (Step a) h =
     let bad : object (member (codes "timeout") x rest) ≡ whole (pos a) = sym e ∙ h.0 in cc
-timeout_part agents d x rest e (TimeUp a) h =
-    let same : object (member (codes "timeout") x rest) ≡ object (member (codes "timeout") (whole (pos a)) no_members) =
-    sym e ∙ h.0 in
-    let part : x ≡ whole (pos a) = cc in (a, (part, h.1))
+timeout_part agents d x rest e (TimeUp a) h = grind (arith, common_steps, object, member, codes, whole, pos, no_members)
 
 pub on_err : {X E P : Type 0} (r : Result X E) → P → OnErr r P
 on_err (Ok x) p = tt
@@ -167,10 +165,4 @@ same_form Blocks Blocks e = refl
 -- an object of a script has one form, and one value for each member
 pub script_parts : (f g : Form) (a l s v b m t w : Data) → script_object f a l s v ≡ script_object g b m t w
     → (f ≡ g) × (a ≡ b) × (l ≡ m) × (s ≡ t) × (v ≡ w)
-script_parts f g a l s v b m t w e =
-    let name : lens_name f ≡ lens_name g = cc in
-    let one : a ≡ b = cc in
-    let two : l ≡ m = cc in
-    let three : s ≡ t = cc in
-    let four : v ≡ w = cc in
-    (same_form f g name, one, two, three, four)
+script_parts f g a l s v b m t w e = grind (arith, common_steps, lens_name, same_form)

@@ -1,5 +1,6 @@
 -- The places of names.
-use Rattle.std.proofs.Common.{◌≡◌, ℕ, zero, suc, List, [], ◌∷◌, get_or, map, Bool, true, false, Option, Some, None, refl, ap, sym, ◌∙◌, is_some}
+use Rattle.std.proofs.Common.{◌≡◌, ℕ, zero, suc, List, [], ◌∷◌, get_or, map, Bool, true, false, Option, Some, None, refl, ap, sym, ◌∙◌, is_some, arith}
+use Rattle.std.proofs.lemmas.Grind.{common_steps}
 use Rattle.std.specs.Prelude.{String, string_bytes, slice_get}
 use Rattle.std.specs.Option.{option_map}
 use Rattle.std.specs.List.{position}
@@ -35,10 +36,7 @@ name_found (e ∷ es) n i p =
 pub name_missing : (es : List (String Global × ViewSpec)) (n : List ℕ) (v : ℕ)
     → lookup (λ k. bytes_eq n (string_bytes k)) es ≡ None → slice_get (names_of (named es)) v ≡ Some n → ⊥
 name_missing [] n v l g = cc
-name_missing (e ∷ es) n zero l g =
-    let same : n ≡ string_bytes e.0 = cc in
-    let test : bytes_eq n (string_bytes e.0) ≡ true = (bytes_eq-Decides n (string_bytes e.0)).1 same in
-    let bad = rw test at l in cc
+name_missing (e ∷ es) n zero l g = grind (arith, common_steps, string_bytes, bytes_eq, bytes_eq-Decides)
 name_missing (e ∷ es) n (suc v) l g = by (bytes_eq n (string_bytes e.0)) refl (λ rest. name_missing es n v rest g)
   where
     by : (b : Bool) → bytes_eq n (string_bytes e.0) ≡ b → (lookup (λ k. bytes_eq n (string_bytes k)) es ≡ None → ⊥) → ⊥

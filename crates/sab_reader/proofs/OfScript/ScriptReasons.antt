@@ -26,10 +26,6 @@ pub form_blocks : {T : Type 0} (f : T → Data) (o : Option T) (found : Option D
 form_blocks f (Some x) found e is = absurd (true≢false is)
 form_blocks f None found e is = ap form_by (sym e)
 
-pub form_of_script : (form : Form) (root a l s v : Data) → root ≡ script_object form a l s v → form_of root ≡ form
-form_of_script Bytes root a l s v e = ap form_of e
-form_of_script Blocks root a l s v e = ap form_of e
-
 -- what stands in its members
 pub agents_stand : (form : Form) (root a l s v : Data) → root ≡ script_object form a l s v
     → Stands root (at.Member M.Agents) a

@@ -1,5 +1,6 @@
 -- A value that nests less deep than it may is read at a lower limit too.
 use Rattle.std.proofs.Common.{◌≡◌, ℕ, zero, suc, ◌≤◌, max, List, [], ◌∷◌, length, Option, Some, None, option_and_then, refl, ap, ◌∙◌, arith}
+use Rattle.std.proofs.lemmas.Grind.{common_steps}
 use Rattle.std.specs.Prelude.{⊤}
 use Rattle.json.specs.Token.{Token}
 use Rattle.json.specs.Lex.{tokens}
@@ -27,14 +28,7 @@ and_more : {B : Type 0} (g : B → ℕ) (n : ℕ) (h : Json → B → B)
     → KeptTo g n (option_and_then (λ q. parse_map (h q.0) (more q.1)) o)
     (option_and_then (λ q. parse_map (h q.0) (less q.1)) p)
 and_more g n h is more less below None p k = tt
-and_more {B = B} g n h is more less below (Some q) p k = go (more q.1) (below q.1)
-  where
-    go : (r : Option (B × List Token)) → KeptTo g n r (less q.1)
-        → KeptTo g n (parse_map (h q.0) r) (option_and_then (λ x. parse_map (h x.0) (less x.1)) p)
-    go None x = tt
-    go (Some b) x = λ le.
-        let first : depth q.0 ≤ n = omega (arith, is q.0 b.0, le) in
-        let others : g b.0 ≤ n = omega (arith, is q.0 b.0, le) in rw (k first) (ap (parse_map (h q.0)) (x others))
+and_more {B = B} g n h is more less below (Some q) p k = grind (arith, common_steps, parse_map, option_and_then, depth)
 
 module _ (n : ℕ) (p q : Parse Json) (below : BelowTo depth n p q) where
   item_turn : (more less : Parse Items) → BelowTo items_depth n more less → (ts : List Token) (o : Option (List Token))

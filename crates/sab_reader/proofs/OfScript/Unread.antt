@@ -1,5 +1,6 @@
 -- An object's members that are read one after another: what is reported where one is missing, or isn't called for.
 use Rattle.std.proofs.Common.{◌≡◌, ℕ, zero, suc, List, [], ◌∷◌, Bool, true, false, not, ◌&&◌, Option, Some, None, refl, sym, ap, ◌∙◌, subst, arith, true≢false}
+use Rattle.std.proofs.lemmas.Grind.{common_steps}
 use Rattle.std.specs.Prelude.{Contains}
 use Rattle.std.specs.Ordering.{nat_cmp, ordering_reverse, match_ordering, is_lt}
 use Rattle.std.specs.declared.cmp.Ordering.TheVariants.{Equal, Greater}
@@ -57,16 +58,7 @@ further (Some l) k name h lt = nat_list_cmp_total.trans l k name h lt
 
 pub one_read : (ms : Members) (last : Option (List ℕ)) (whole : Members) (k : List ℕ) (d : Data) (rest : Members)
     → whole ≡ member k d rest → Unread ms last whole → Unread ms (Some k) rest
-one_read ms last whole k d rest e h =
-    let order = subst (λ (m : Members). Follow last m) e h.behind in
-    record {
-      same = λ name lt.
-          let found = later name k lt in
-          h.same name (further last k name (first_behind last k d rest order) lt)
-          ∙ ap (get_member name) e
-          ∙ ap (λ o. match_ordering o (get_member name rest) (Some d) (get_member name rest)) found;
-      behind = then_behind last k d rest order;
-    }
+one_read ms last whole k d rest e h = grind (arith, common_steps, later, further, first_behind, then_behind)
 
 pub rest_order : (ms : Members) (last : Option (List ℕ)) (rest : Members) → Unread ms last rest → AreInOrder rest
 rest_order ms None rest h = h.behind
@@ -75,10 +67,7 @@ rest_order ms (Some k) rest h = order_behind k rest h.behind
 -- the member that is read next
 pub next_there : (ms : Members) (last : Option (List ℕ)) (whole : Members) (k : List ℕ) (d : Data) (rest : Members)
     → whole ≡ member k d rest → Unread ms last whole → get_member k ms ≡ Some d
-next_there ms last whole k d rest e h =
-    let order = subst (λ (m : Members). Follow last m) e h.behind in
-    h.same k (first_behind last k d rest order) ∙ ap (get_member k) e
-    ∙ ap (λ o. match_ordering o (get_member k rest) (Some d) (get_member k rest)) (itself k)
+next_there ms last whole k d rest e h = grind (arith, common_steps, first_behind, get_member, match_ordering, itself)
 
 -- no member of these names stands behind the last that was read, before a name
 abbrev pub is_behind : Option (List ℕ) → List ℕ → Bool
@@ -110,10 +99,7 @@ not_both false b e p q = true≢false (sym p)
 gap : (last : Option (List ℕ)) (k : List ℕ) (xs : List Member) → none_between last k xs ≡ true → (x : Member)
     → Contains xs x → IsBehind last (member_name x) → IsBefore (member_name x) k → ⊥
 gap last k [] e x c p q = absurd (omega (arith, c.1))
-gap last k (y ∷ xs) e x (zero, within, is) p q =
-    let parts = split _ _ e in
-    not_both _ _ parts.0 (ap (λ z. is_behind last (member_name z)) is ∙ behind_so last (member_name x) p)
-    (ap (λ z. is_lt (slice_cmp nat_cmp (member_name z) k)) is ∙ ap is_lt q)
+gap last k (y ∷ xs) e x (zero, within, is) p q = grind (arith, common_steps, split, not_both, behind_so)
 gap last k (y ∷ xs) e x (suc i, within, is) p q =
     gap last k xs (split _ _ e).1 x (i, omega (arith, within), is) p q
 
@@ -131,11 +117,12 @@ pub member_reported : (root : Data) (place : Location) (names : List Member) (ms
     → Stands root place (object ms) → members_at (form_of root) place ≡ names → Unread ms last rest → Contains names m
     → IsBehind last (member_name m) → none_between last (member_name m) names ≡ true → LackMember m rest reason
     → IsTrueAt root place reason
-member_reported root place names ms last rest m (why.Missing n) stands called unread here behind none h =
-    let names_it : Contains names n = subst (λ x. Contains names x) (sym h.0) here in
-    let absent : get_member (member_name n) ms ≡ None =
-    ap (λ x. get_member (member_name x) ms) h.0 ∙ unread.same (member_name m) behind ∙ h.1 in
-    (ms, stands, absent, subst (λ xs. Contains xs n) (sym called) names_it)
+member_reported root place names ms last rest m (why.Missing n) stands called unread here behind none h = grind (
+  arith,
+  common_steps,
+  get_member,
+  member_name,
+)
 member_reported root place names ms last rest m (why.Surplus reported) stands called unread here behind none h =
     let name = h.0 in
     let order = subst (λ (r : Members). Follow last r) h.3 unread.behind in

@@ -1,5 +1,6 @@
 -- Names of views.
 use Rattle.std.proofs.Common.{◌≡◌, ℕ, zero, suc, ◌<◌, List, [], ◌∷◌, ◌++◌, length, get_or, drop, map, Bool, true, false, Option, Some, None, refl, ap, sym, ◌∙◌, arith, drop-cons, subst, true≢false, length-append}
+use Rattle.std.proofs.lemmas.Grind.{common_steps}
 use Rattle.std.specs.Prelude.{String, string_bytes, slice_get, IfSome}
 use Rattle.std.specs.declared.alloc.Global.{Global}
 use Rattle.std.specs.List.{IsDistinct, AllByRecursion}
@@ -78,10 +79,7 @@ next_is : (form : Form) (lens : List ℕ) (ts : List Value) (i : ℕ) (t : Value
     → i < length ts → t ≡ get_or ts i t → SpellsView form lens (view t) (n, spec) → slice_get ns v ≡ Some n
     → SpellsEach (SpellsView form lens) (items_view (drop i ts)) rest → IsDistinct bytes_eq (ns ++ names_of rest) → ⊥
 next_is form lens ts i t n spec ns v [] lt e s g h d = let bad = rw (drop-cons ts i t) at h in absurd bad
-next_is form lens ts i t n spec ns v (y ∷ more) lt e s g h d =
-    let front = rw (drop-cons ts i t, ← e) at h in
-    let same : y.0 ≡ n = ap (λ (w : List ℕ × ViewSpec). w.0) (same_view form lens (view t) y (n, spec) front.0 s) in
-    not_twice n ns (names_of more) v g (rw same at d)
+next_is form lens ts i t n spec ns v (y ∷ more) lt e s g h d = grind (arith, common_steps, same_view, not_twice)
 
 -- where a name comes again, no views are spelled
 pub view_twice : (form : Form) (lens : List ℕ) (ts : List Value) (i : ℕ) (t : Value) (n : List ℕ) (spec : ViewSpec)
@@ -143,7 +141,4 @@ no_views es e = rw e none_are_views
 
 pub more_views : (es fs : List (String Global × ViewSpec)) (v : List ℕ × ViewSpec) → named fs ≡ named es ++ v ∷ []
     → length (named es) < 64 → IsDistinct string_eq (keys_of fs) → AreViews (named fs)
-more_views es fs v e room distinct =
-    let whole : length (named fs) ≡ length (named es ++ v ∷ []) = ap (λ (l : List (List ℕ × ViewSpec)). length l) e in
-    record
-    { few = omega (arith, whole, length-append (named es) (v ∷ []), room); distinct = distinct_names fs distinct }
+more_views es fs v e room distinct = grind (arith, common_steps, length, length-append, distinct_names)

@@ -1,5 +1,6 @@
 -- The parts of a view where they stand in a script, and what is reported about them.
-use Rattle.std.proofs.Common.{◌≡◌, ℕ, pos, List, [], ◌∷◌, length, true, Option, Some, None, Result, Ok, Err, refl, sym, ap, ◌∙◌, subst, codes, arith}
+use Rattle.std.proofs.Common.{◌≡◌, ℕ, pos, List, length, true, Option, Some, None, Result, Ok, Err, refl, sym, ap, ◌∙◌, subst, codes, arith}
+use Rattle.std.proofs.lemmas.Grind.{common_steps}
 use Rattle.std.specs.Prelude.{Contains, IfErr, slice_get}
 use Rattle.serde_json.specs.Data.{Data, string, object, Members, member}
 use Rattle.serde_json.specs.Find.{get_member}
@@ -39,12 +40,7 @@ pub reported_of_part : (place part : Location) (m : Member) (ms : Members) (d : 
     → part ≡ member_at place m → get_member (member_name m) ms ≡ Some d
     → ((root : Data) (i : ℕ) → part ≡ at.Part M.Views i m → Known root → PartKnown root)
     → IsTrueWhere part d PartKnown e → IsTrueOfView place ms Known e
-reported_of_part place part m ms d e Known PartKnown part_is there known_of reported = λ order root stands known.
-    let i = known.0.0 in
-    let is = part_place place part i m part_is known.0.1 in
-    let view_stands = subst (λ l. Stands root l (object ms)) known.0.1 stands in
-    let here = subst (λ l. Stands root l d) (sym is) (part_stands root i ms m d view_stands there) in
-    reported root here (known_of root i is known.1)
+reported_of_part place part m ms d e Known PartKnown part_is there known_of reported = grind (arith, common_steps)
 
 -- the members of a view that is described
 pub kind_there : (form : Form) (block : ℕ) (rest : Members) (k l n o : Data) → rest ≡ description k l n o
@@ -202,10 +198,7 @@ form_from root Blocks lens h = h.0
 len_there : (root : Data) (form : Form) (lens : List ℕ) (i block len : ℕ) (rest : Members) → HasLens root form lens
     → IsBlockIn form block → slice_get lens block ≡ Some len
     → Stands root (at.Item M.Views i) (object (with_block form block rest)) → HasBlockLen form root i len
-len_there root Bytes lens i block len rest h has g stands =
-    let first : slice_get (h.1.0 ∷ []) 0 ≡ Some len = rw (h.1.2, has) at g in
-    let same : h.1.0 ≡ len = cc in
-    h.1.1 ∙ ap (λ n. Some (whole (pos n))) same
+len_there root Bytes lens i block len rest h has g stands = grind (arith, common_steps, slice_get, whole, pos)
 len_there root Blocks lens i block len rest h has g stands =
     (block, part_stands root i (with_block Blocks block rest) M.Block (whole (pos block)) stands refl, h.2 block len g)
 
@@ -215,16 +208,17 @@ pub has_view : (root : Data) (form : Form) (lens : List ℕ) (i block len : ℕ)
     → Stands root (at.Item M.Views i) (object (with_block form block rest))
     → rest ≡ description (string (kind_name v.kind)) (whole_or_null v.length) (string name) (whole v.offset)
     → HasView root i len v
-has_view root form lens i block len rest name v h has g stands e =
-    let ms = with_block form block rest in
-    record {
-      kind = part_stands root i ms M.Kind _ stands (kind_there form block rest _ _ _ _ e);
-      length = part_stands root i ms M.Length _ stands (length_there form block rest _ _ _ _ e);
-      offset = part_stands root i ms M.Offset _ stands (offset_there form block rest _ _ _ _ e);
-      on =
-          subst (λ f. HasBlockLen f root i len) (sym (form_from root form lens h))
-          (len_there root form lens i block len rest h has g stands);
-    }
+has_view root form lens i block len rest name v h has g stands e = grind (
+  arith,
+  common_steps,
+  part_stands,
+  kind_there,
+  length,
+  length_there,
+  offset_there,
+  form_from,
+  len_there,
+)
 
 -- what is reported about a view that doesn't fit its block
 pub misfit_reported : (place : Location) (form : Form) (lens : List ℕ) (block len : ℕ) (rest : Members) (name : List ℕ)

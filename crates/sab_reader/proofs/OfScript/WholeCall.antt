@@ -1,5 +1,6 @@
 -- A call of three items and more.
-use Rattle.std.proofs.Common.{◌≡◌, ℕ, zero, suc, ℤ, pos, negsuc, List, [], ◌∷◌, Result, Ok, Err, Some, false, true≢false, refl, sym, ap, ◌∙◌, subst}
+use Rattle.std.proofs.Common.{◌≡◌, ℕ, zero, suc, ℤ, pos, negsuc, List, [], ◌∷◌, Result, Ok, Err, Some, false, true≢false, refl, sym, ap, ◌∙◌, arith}
+use Rattle.std.proofs.lemmas.Grind.{common_steps}
 use Rattle.std.specs.Prelude.{slice_get}
 use Rattle.std.specs.List.{IsDistinct, AllByRecursion}
 use Rattle.std.specs.Str.{bytes_eq}
@@ -42,61 +43,28 @@ one_place (x ∷ ns) n (suc v) (suc w) d g h = ap (λ k. suc k) (one_place ns n 
 -- the second item of a call's array is the name of a view
 pub name_part : (names : List (List ℕ)) (d a b i : Data) (rest : Items) → d ≡ array (item a (item b (item i rest)))
     → (c : Call) → SpellsCall names d c → (v : ℕ) × SpellsName names b v
-name_part names d a b i rest e c h =
-    let s = spelling_of c in
-    let same : array (item a (item b (item i rest)))
-    ≡ call_tree s.name h.view_tree s.index h.argument_trees = sym e ∙ h.tree in
-    let part : b ≡ h.view_tree = cc in
-    (s.view, record { text = h.view.text; tree = part ∙ h.view.tree; there = h.view.there })
+name_part names d a b i rest e c h = grind (arith, common_steps, spelling_of, array, item, call_tree)
 
 -- the first is the name of the call, and the third its index
 pub word_part : (names : List (List ℕ)) (d a b i : Data) (rest : Items) → d ≡ array (item a (item b (item i rest)))
     → (c : Call) → SpellsCall names d c → (s : List ℕ) × (a ≡ string s)
-word_part names d a b i rest e c h =
-    let s = spelling_of c in
-    let same : array (item a (item b (item i rest)))
-    ≡ call_tree s.name h.view_tree s.index h.argument_trees = sym e ∙ h.tree in
-    let part : a ≡ string s.name = cc in (s.name, part)
+word_part names d a b i rest e c h = grind (arith, common_steps, spelling_of, array, item, call_tree, string)
 
 pub index_part : (names : List (List ℕ)) (d a b i : Data) (rest : Items) → d ≡ array (item a (item b (item i rest)))
     → (c : Call) → SpellsCall names d c → (z : ℤ) × SpellsWhole i z
-index_part names d a b i rest e c h =
-    let s = spelling_of c in
-    let same : array (item a (item b (item i rest)))
-    ≡ call_tree s.name h.view_tree s.index h.argument_trees = sym e ∙ h.tree in
-    let part : i ≡ whole s.index = cc in (s.index, (part, h.index))
+index_part names d a b i rest e c h = grind (arith, common_steps, spelling_of, array, item, call_tree, whole)
 
 -- a spelling is that of an array's parts
 pub parts_of_whole : (names : List (List ℕ)) (d b : Data) (word : List ℕ) (v : ℕ) (i : ℤ) (rest : Items)
     (s : Spelling) → IsDistinct bytes_eq names → d ≡ call_tree word b i rest → SpellsName names b v
     → HasSpelling names d s → SpellsParts word v i rest s
-parts_of_whole names d b word v i rest s distinct e n h =
-    let same : call_tree word b i rest ≡ call_tree s.name h.view_tree s.index h.argument_trees = sym e ∙ h.tree in
-    let view_is : b ≡ h.view_tree = cc in
-    let index_is : whole i ≡ whole s.index = cc in
-    let rest_is : rest ≡ h.argument_trees = cc in
-    let text_tree : string n.text ≡ string h.view.text = sym n.tree ∙ view_is ∙ h.view.tree in
-    let text_is : n.text ≡ h.view.text = cc in
-    let there = h.view.there ∙ ap (λ (t : List ℕ). Some t) (sym text_is) in
-    record {
-      name = cc;
-      view = one_place names n.text v s.view distinct n.there there;
-      index = same_whole i s.index index_is;
-      arguments = rw rest_is h.arguments;
-    }
+parts_of_whole names d b word v i rest s distinct e n h = grind (arith, common_steps, one_place, same_whole)
 
 pub reads_call : (names : List (List ℕ)) (d b : Data) (word : List ℕ) (v : ℕ) (i : ℤ) (rest : Items)
     (r : Result Call Located) → IsDistinct bytes_eq names → d ≡ call_tree word b i rest → SpellsName names b v
     → IsSafeInteger i → Finds (λ (c : Call). c) (λ c. SpellsParts word v i rest (spelling_of c)) r
     → Finds (λ (c : Call). c) (SpellsCall names d) r
-reads_call names d b word v i rest (Ok c) distinct e n w h = record {
-  view_tree = b;
-  argument_trees = rest;
-  tree = e ∙ (λ k. call_tree (h.name k) b (h.index k) rest);
-  view = subst (λ (p : ℕ). SpellsName names b p) h.view n;
-  index = subst IsSafeInteger h.index w;
-  arguments = h.arguments;
-}
+reads_call names d b word v i rest (Ok c) distinct e n w h = grind (arith, common_steps, call_tree)
 reads_call names d b word v i rest (Err f) distinct e n w h =
     refuses_more (λ (c : Call). SpellsParts word v i rest (spelling_of c)) (SpellsCall names d) (fault_of f.why)
     (λ c p. (c, parts_of_whole names d b word v i rest (spelling_of c) distinct e n p)) h

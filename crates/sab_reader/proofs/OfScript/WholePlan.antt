@@ -1,5 +1,6 @@
 -- What was read makes a plan.
-use Rattle.std.proofs.Common.{◌≡◌, ℕ, suc, ◌<◌, ◌≤◌, List, [], ◌∷◌, length, Some, refl, sym, ap, ◌∙◌}
+use Rattle.std.proofs.Common.{◌≡◌, ℕ, suc, ◌<◌, ◌≤◌, List, [], ◌∷◌, length, Some, refl, sym, ap, ◌∙◌, arith}
+use Rattle.std.proofs.lemmas.Grind.{common_steps}
 use Rattle.std.specs.Prelude.{All, slice_get}
 use Rattle.std.proofs.lemmas.List.{length-map}
 use Rattle.std.proofs.lemmas.List.Elements.{All-nil, All-cons}
@@ -15,7 +16,7 @@ use Rattle.sab_reader.specs.declared.script.view_spec.ViewSpec.{ViewSpec}
 use Rattle.sab_reader.specs.Script.Blocks.{SpellsLens}
 use Rattle.sab_reader.specs.Script.Reading.{SpellsEach}
 use Rattle.sab_reader.specs.Script.Views.{SpellsViews, AreDescribed, view_names}
-use Rattle.sab_reader.specs.Script.Calls.{spelling_of, SpellsCall}
+use Rattle.sab_reader.specs.Script.Calls.{SpellsCall}
 use Rattle.sab_reader.specs.Script.Agents.{SpellsScript, SpellsScripts}
 use Rattle.sab_reader.proofs.OfScript.CallParts.{spelled_view}
 use Rattle.sab_reader.proofs.OfScript.OneView.{there}
@@ -42,20 +43,14 @@ fit_block : (lens : List ℕ) (vs : List (List ℕ × ViewSpec)) (ps : List Plan
 fit_block lens [] [] h = All-nil (λ (p : PlanView). slice_get lens p.block ≡ Some (block_len_of p.view))
 fit_block lens [] (p ∷ ps) h = absurd h
 fit_block lens (v ∷ vs) [] h = absurd h
-fit_block lens (v ∷ vs) (p ∷ ps) h =
-    All-cons (λ (p : PlanView). slice_get lens p.block ≡ Some (block_len_of p.view)) p ps
-    (ap (slice_get lens) h.0.block ∙ h.0.there ∙ ap (λ (n : ℕ). Some n) (sym h.0.view.block_len_is))
-    (fit_block lens vs ps h.1)
+fit_block lens (v ∷ vs) (p ∷ ps) h = grind (arith, common_steps, there, fit_block lens vs ps h.1)
 
 calls_named : (names : List (List ℕ)) (ds : Items) (cs : List Call) → SpellsEach (SpellsCall names) ds cs
     → All (λ call. view_of call < length names) cs
 calls_named names no_items [] h = All-nil (λ call. view_of call < length names)
 calls_named names no_items (c ∷ cs) h = absurd h
 calls_named names (item d ds) [] h = absurd h
-calls_named names (item d ds) (c ∷ cs) h =
-    All-cons (λ call. view_of call < length names) c cs
-    (rw (← spelled_view c) (there names (spelling_of c).view h.0.view.text h.0.view.there))
-    (calls_named names ds cs h.1)
+calls_named names (item d ds) (c ∷ cs) h = grind (arith, common_steps, spelled_view, there, calls_named names ds cs h.1)
 
 scripts_named : (names : List (List ℕ)) (ds : Items) (ss : List ScriptParts) → SpellsEach (SpellsScript names) ds ss
     → All (λ (s : ScriptParts). All (λ call. view_of call < length names) s.calls) ss

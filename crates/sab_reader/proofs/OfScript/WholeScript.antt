@@ -1,5 +1,6 @@
 -- The parts of a script.
 use Rattle.std.proofs.Common.{◌≡◌, ℕ, ◌≤◌, List, [], ◌∷◌, length, sym, ap, ◌∙◌, subst, pos, arith, All}
+use Rattle.std.proofs.lemmas.Grind.{common_steps}
 use Rattle.std.proofs.lemmas.List.Elements.{All-nil, All-cons}
 use Rattle.serde_json.specs.Data.{Data, array, Items, no_items, item}
 use Rattle.serde_json.specs.View.{items_view}
@@ -13,8 +14,8 @@ use Rattle.sab_reader.specs.Script.Reading.{SpellsEach}
 use Rattle.sab_reader.specs.Script.Setup.{Spells, SetupParts, script_object}
 use Rattle.sab_reader.specs.Script.Blocks.{SpellsLen, SpellsLens}
 use Rattle.sab_reader.specs.Script.Numbers.{whole}
-use Rattle.sab_reader.specs.Script.Views.{SpellsView, SpellsViews, AreDescribed, view_names}
-use Rattle.sab_reader.specs.Script.Agents.{SpellsScript, SpellsScripts}
+use Rattle.sab_reader.specs.Script.Views.{SpellsViews, AreDescribed, view_names}
+use Rattle.sab_reader.specs.Script.Agents.{SpellsScripts}
 use Rattle.sab_reader.specs.Script.Schedule.{SpellsSchedule}
 use Rattle.sab_reader.proofs.OfScript.Each.{length-each, each_same}
 use Rattle.sab_reader.proofs.OfScript.ViewNames.{names_same}
@@ -36,19 +37,7 @@ same_items x y e = cc
 pub restated : (d : Data) (form : Form) (agents : Items) (lens_tree : Data) (moves views : Items)
     → d ≡ script_object form (array agents) lens_tree (array moves) (array views) → (p : SetupParts) → Spells d p
     → Restated form agents lens_tree moves views p
-restated d form agents lens_tree moves views e p h =
-    let q = script_parts form h.form (array agents) lens_tree (array moves) (array views) (array h.agent_trees)
-    h.lens_tree (array h.move_trees) (array h.view_trees) (sym e ∙ h.tree) in
-    let agents_are : agents ≡ h.agent_trees = same_items agents h.agent_trees q.1 in
-    let moves_are : moves ≡ h.move_trees = same_items moves h.move_trees q.3 in
-    let views_are : views ≡ h.view_trees = same_items views h.view_trees q.4 in
-    record {
-      lens = rw (q.0, q.2) h.lens;
-      views = rw (q.0, views_are) h.views;
-      described = h.described;
-      agents = rw agents_are h.agents;
-      schedule = rw moves_are h.schedule;
-    }
+restated d form agents lens_tree moves views e p h = grind (arith, common_steps, script_parts, array, same_items)
 
 -- a length has one tree
 same_len : (d : Data) (m n : ℕ) → SpellsLen d m → SpellsLen d n → m ≡ n
@@ -85,31 +74,26 @@ lens_part d form agents l moves views e p h = (p.plan.lens, (restated d form age
 pub views_part : (d : Data) (form : Form) (agents : Items) (l : Data) (moves views : Items) (lens : List ℕ)
     → d ≡ script_object form (array agents) l (array moves) (array views) → SpellsLens form l lens → (p : SetupParts)
     → Spells d p → (vs : List (List ℕ × ViewSpec)) × SpellsViews form lens views vs
-views_part d form agents l moves views lens e own p h =
-    let r = restated d form agents l moves views e p h in
-    let same : lens ≡ p.plan.lens = same_lens form l lens p.plan.lens own r.lens in
-    (p.views, rw same r.views)
+views_part d form agents l moves views lens e own p h = grind (arith, common_steps, restated, same_lens)
 
 pub agents_part : (d : Data) (form : Form) (agents : Items) (l : Data) (moves : Items) (vt : List Value) (lens : List ℕ)
     (vs : List (List ℕ × ViewSpec))
     → d ≡ script_object form (array agents) l (array moves) (array (items_view vt)) → SpellsLens form l lens
     → SpellsViews form lens (items_view vt) vs → (p : SetupParts) → Spells d p
     → (ss : List ScriptParts) × SpellsScripts (view_names vs) agents ss
-agents_part d form agents l moves vt lens vs e own views p h =
-    let r = restated d form agents l moves (items_view vt) e p h in
-    let same : lens ≡ p.plan.lens = same_lens form l lens p.plan.lens own r.lens in
-    let each : SpellsEach (SpellsView form lens) (items_view vt) p.views = rw same r.views.each in
-    let names : view_names vs ≡ view_names p.views = names_same form lens vt vs p.views views.each each in
-    (p.plan.scripts, rw names r.agents)
+agents_part d form agents l moves vt lens vs e own views p h = grind (
+  arith,
+  common_steps,
+  restated,
+  items_view,
+  same_lens,
+  view_names,
+  names_same,
+)
 
 pub schedule_part : (d : Data) (form : Form) (ts : List Value) (l : Data) (moves views : Items) (names : List (List ℕ))
     (ss : List ScriptParts)
     → d ≡ script_object form (array (items_view ts)) l (array moves) (array views)
     → SpellsScripts names (items_view ts) ss → (p : SetupParts) → Spells d p
     → (ms : List Move) × SpellsSchedule (length ss) moves ms
-schedule_part d form ts l moves views names ss e agents p h =
-    let r = restated d form (items_view ts) l moves views e p h in
-    let own = length-each (SpellsScript names) ts ss agents.0 in
-    let other = length-each (SpellsScript (view_names p.views)) ts p.plan.scripts r.agents.0 in
-    let count : length ss ≡ length p.plan.scripts = own ∙ sym other in
-    (p.schedule, rw count r.schedule)
+schedule_part d form ts l moves views names ss e agents p h = grind (arith, common_steps, restated, length-each, length)

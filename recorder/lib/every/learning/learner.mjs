@@ -1,12 +1,12 @@
 // Learns agents as automata. An edge is learned by calling the agent's function alone, with the answers of a history
 // that leads to its node. Two histories are one node only if all that the agent keeps is the same.
 
+import { AGAIN } from "../../../script/choices.mjs";
 import { leftOpen } from "../../agent/answer.mjs";
 import { choicesBy } from "../../agent/choosing.mjs";
 import { CantShow } from "../state/object-kinds.mjs";
 import { DONE, DOES, isCall, isChoice, isOwnAct, nodeOf } from "../search/nodes.mjs";
 import { nodeText } from "../search/node-texts.mjs";
-import { AGAIN } from "../../../script/choices.mjs";
 import { CantLearn, askedEnd, isSame, keyOf } from "./asked-nodes.mjs";
 import { accessed, cantText } from "./asking.mjs";
 import { needRound } from "./clock-rounds.mjs";

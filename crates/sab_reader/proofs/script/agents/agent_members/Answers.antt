@@ -1,4 +1,5 @@
-use Rattle.std.proofs.Common.{◌≡◌, ℕ, refl}
+use Rattle.std.proofs.lemmas.Grind.{common_steps}
+use Rattle.std.proofs.Common.{◌≡◌, ℕ, arith}
 use Rattle.serde_json.specs.Data.{Data}
 use Rattle.serde_json.specs.View.{view, members_view}
 use Rattle.sab_refusal.specs.declared.location.Location.{Location}
@@ -14,9 +15,7 @@ Known place root = (i : ℕ) × (place ≡ at.Item M.Agents i)
 
 pub returns-in_err-rest-clause-reported : goal.returns-in_err-rest-clause-reported
 returns-in_err-rest-clause-reported c =
-    exit_reported (IsTrueWhere c.args.at (view c.args.tree.now) (Known c.args.at)) c.from_residual.result
-    c.in_err-rest.field-0.0 c.from_residual.ensures.1
-    (λ root stands known. c.in_err-rest.ensures.reported root stands (rw known.1 refl))
+    grind (arith, common_steps, exit_reported, view, c.from_residual.ensures.1, c.in_err-rest.ensures.reported)
 
 pub returns-in_err-block-clause-reported : goal.returns-in_err-block-clause-reported
 returns-in_err-block-clause-reported c =

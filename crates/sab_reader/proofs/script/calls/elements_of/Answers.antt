@@ -1,4 +1,5 @@
-use Rattle.std.proofs.Common.{[], ◌∷◌, refl}
+use Rattle.std.proofs.lemmas.Grind.{common_steps}
+use Rattle.std.proofs.Common.{[], ◌∷◌, refl, arith}
 use Rattle.sab_block.specs.declared.rmw_op.RmwOp.TheVariants.{Exchange, Add, Sub, And, Or, Xor}
 use Rattle.sab_refusal.specs.declared.reason.Wanted.TheVariants as wanted
 use Rattle.sab_reader.proofs.OfScript.CallParts.{no_name}
@@ -39,7 +40,4 @@ pub returns-in-notify : goal.returns-in-notify
 returns-in-notify c = rw c.in-notify.is (0, wanted.Whole ∷ [], takes_notify, refl, refl)
 
 pub returns-in_default : goal.returns-in_default
-returns-in_default c =
-    let n = c.in_default in
-    no_name c.args.name.now n.not-load n.not-store n.not-exchange n.not-add n.not-sub n.not-and n.not-or n.not-xor
-    n.not-compareExchange n.not-wait n.not-notify
+returns-in_default c = grind (arith, common_steps, no_name)

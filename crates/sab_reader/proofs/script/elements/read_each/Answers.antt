@@ -1,3 +1,4 @@
+use Rattle.std.proofs.lemmas.Grind.{common_steps}
 use Rattle.std.proofs.Common.{◌≡◌, ℕ, arith}
 use Rattle.serde_json.specs.Data.{array}
 use Rattle.sab_refusal.specs.Location.{item_at}
@@ -16,9 +17,7 @@ returns-then-trees-most-clause-found g c = λ xs h.
 
 pub returns-in_err-elements-clause-found : goal.returns-in_err-elements-clause-found
 returns-in_err-elements-clause-found g c =
-    exit_memory (λ elements. elements.items)
-    (SpellsUpTo c.args.most (g.R.Reader.Spells c.args.reader.now) (items_view c.args.trees.now))
-    c.from_residual.result c.from_residual.ensures.1
+    grind (arith, common_steps, exit_memory, items_view, c.from_residual.ensures.1)
 
 pub returns-in_err-read-clause-found : goal.returns-in_err-read-clause-found
 returns-in_err-read-clause-found g c =
@@ -31,19 +30,10 @@ returns-in_err-read-clause-found g c =
     c.tree-item.is h.0)
 
 pub returns-clause-found : goal.returns-clause-found
-returns-clause-found g c =
-    let S = g.R.Reader.Spells c.args.reader.now in
-    let each = each_all S c.args.trees.now c.loop-tree.tree-index c.loop-tree.elements.items (omega arith)
-    c.loop-tree.invariant.read in
-    (each, let count = length-each S c.args.trees.now c.loop-tree.elements.items each in omega arith)
+returns-clause-found g c = grind (arith, common_steps, each_all, length-each, c.loop-tree.invariant.read)
 
 pub returns-then-trees-most-clause-reported : goal.returns-then-trees-most-clause-reported
-returns-then-trees-most-clause-reported g c =
-    λ root stands known. (
-      has_many c.args.unit root c.args.at c.args.trees.now known.0 stands,
-      known.1,
-      c.if-trees-most.true,
-    )
+returns-then-trees-most-clause-reported g c = grind (arith, common_steps, has_many)
 
 pub returns-in_err-elements-clause-reported : goal.returns-in_err-elements-clause-reported
 returns-in_err-elements-clause-reported g c =

@@ -1,3 +1,4 @@
+use Rattle.std.proofs.lemmas.Grind.{common_steps}
 use Rattle.std.proofs.Common.{◌≡◌, length, refl, ap, ◌∙◌, arith, rules}
 use Rattle.sab_refusal.specs.declared.location.Location.TheVariants as at
 use Rattle.serde_json.specs.View.{view, items_view}
@@ -19,9 +20,7 @@ use Rattle.sab_reader.proofs.script.setup.locate_setup.Goals as goal
 
 pub returns-in_err-form-clause-spelled : goal.returns-in_err-form-clause-spelled
 returns-in_err-form-clause-spelled c =
-    let d = view c.args.tree.now in
-    exit_refuses (λ (s : SetupParts). s) (Spells d) (Spells d) c.from_residual.result c.in_err-form.field-0.0
-    c.from_residual.ensures.1 c.in_err-form.ensures.err (λ p h. (p, h))
+    grind (arith, common_steps, view, exit_refuses, c.from_residual.ensures.1, c.in_err-form.ensures.err)
 
 pub returns-in_err-lens-clause-spelled : goal.returns-in_err-lens-clause-spelled
 returns-in_err-lens-clause-spelled c =

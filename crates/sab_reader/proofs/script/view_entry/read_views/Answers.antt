@@ -1,3 +1,4 @@
+use Rattle.std.proofs.lemmas.Grind.{common_steps}
 use Rattle.std.proofs.Common.{◌≡◌, ℕ, List, [], ◌∷◌, arith, true, is_some, ap, length-append}
 use Rattle.serde_json.specs.View.{view, items_view}
 use Rattle.sab_reader.specs.declared.script.view_spec.ViewSpec.{ViewSpec}
@@ -34,12 +35,7 @@ returns-in-Some-clause-read c =
     c.loop-tree.invariant.read c.in_ok-name.ensures.read c.position.ensures.some some
 
 pub returns-clause-read : goal.returns-clause-read
-returns-clause-read c = record {
-  each =
-      each_all (SpellsView c.args.form c.args.lens.now) c.args.trees.now c.loop-tree.tree-index c.loop-tree.views
-      (omega arith) c.loop-tree.invariant.read;
-  views = c.loop-tree.invariant.views;
-}
+returns-clause-read c = grind (arith, common_steps, each_all, c.loop-tree.invariant.read, c.loop-tree.invariant.views)
 
 pub loop-tree-preserved : goal.loop-tree-preserved
 loop-tree-preserved c =
