@@ -9,6 +9,7 @@ import traceback
 
 from .crates import Proving, why_refused
 from .figures import EDITS, PROOFS, TESTS, of_kind
+from .keys import KnownEdits
 from .kit import rt, rtlib
 from .lanes import Task
 from .libraries import library_sum
@@ -182,21 +183,28 @@ class Proofs:
 
     def try_edits(self, crate, files, alone):
         """Tries a crate's edits, except those that are known to be refused, and counts them."""
-        path, begun, extra = self.paths[proving_of(crate).made], time.monotonic(), self.sums_of_static(crate)
-        sums = {os.path.basename(file): sum_of(self.scripts, alone, rtlib.sum_of(file), *extra) for file in files}
-        kept = self.store.results(path)
-        results = {name: Result(*kept[sums[name]]) for name in sums if sums[name] in kept}
-        known, left = len(results), [file for file in files if os.path.basename(file) not in results]
+        begun, known = time.monotonic(), self.known_edits(crate, files, alone)
+        results, left = known.results(), known.left(files)
         for name, result in self.trial_of(crate, left, alone).results() if left else ():
             results[name] = result
             if result.kind == REFUSED:
-                kept[sums[name]] = result
-                self.store.keep_results(path, kept)
-        for name in sums:
+                known.keep(name, result)
+        for name in map(os.path.basename, files):
             self.report(f"{crate.name}/{name}", results[name])
-        self.tally.add_edits(len(files), known)
-        self.tally.say(f"tried: {len(files)} edits of {crate.name} ({known} known, {time.monotonic() - begun:.0f} s)")
+        count = len(files) - len(left)
+        self.tally.add_edits(len(files), count)
+        self.tally.say(f"tried: {len(files)} edits of {crate.name} ({count} known, {time.monotonic() - begun:.0f} s)")
         return True
+
+    def known_edits(self, crate, files, alone):
+        """Returns which edits of a crate are known to be refused."""
+        how = [self.scripts, alone, *self.sums_of_static(crate)]
+        sums = {os.path.basename(file): sum_of(how, rtlib.sum_of(file)) for file in files}
+        known = KnownEdits(self.store, crate, self.paths[proving_of(crate).made], sums)
+        left = known.left(files)
+        if left and not alone:
+            known.find_by_keys(self.trial_of(crate, left, alone), sum_of(self.sums.base, crate.said, how))
+        return known
 
     def trial_of(self, crate, files, alone):
         """Returns the trial of some edits of a crate."""

@@ -12,9 +12,12 @@ from .kit import kit_sum, rt, rtlib, stop
 
 # So many versions of a crate are kept: those that were used last. A crate with tests has two for each of its states.
 MOST_VERSIONS = 3
+# So many results of a crate's edits are kept by their keys: the last ones.
+MOST_RESULTS = 5000
 # How the name of a folder begins that isn't whole yet. If it is older than a day, it was broken off.
 NEW, DAY = ".new-", 24 * 3600
-# The file beside a library that has the results of its edits.
+# The file that has the results of edits: beside a library those that were tried beside it, and in the folder of a crate
+# those of all its versions.
 RESULTS = "edits.json"
 
 
@@ -82,6 +85,10 @@ class Store:
     def path(self, name, key):
         return f"{self.folder}/{name}/{key[:32]}"
 
+    def path_of(self, crate):
+        """Returns the folder of all versions of a crate."""
+        return f"{self.folder}/{crate.name}"
+
     def find(self, name, key):
         """Returns the folder of what was kept of a crate under a key, or None."""
         path = self.path(name, key)
@@ -117,15 +124,20 @@ class Store:
             shutil.rmtree(room, ignore_errors=True)
 
     def results(self, path):
-        """Returns the results of a crate's edits, by their sums, as `keep_results` has written them."""
+        """Returns the results of edits in a folder, as `keep_results` has written them."""
         try:
             with open(f"{path}/{RESULTS}", encoding="utf-8") as it:
                 return json.load(it)
         except (OSError, ValueError):
             return {}
 
+    def add_results(self, path, results):
+        """Adds results of edits to those of a folder, and forgets the oldest if there are too many."""
+        kept = {**self.results(path), **results}
+        self.keep_results(path, dict([*kept.items()][-MOST_RESULTS:]))
+
     def keep_results(self, path, results):
-        """Writes the results of a crate's edits beside what was proved about it."""
+        """Writes the results of edits into a folder, by sums of what decides them."""
         with tempfile.NamedTemporaryFile("w", dir=path, delete=False, encoding="utf-8") as it:
             json.dump(results, it)
         os.replace(it.name, f"{path}/{RESULTS}")
@@ -133,7 +145,8 @@ class Store:
     def prune(self):
         """Removes all but the last versions of each crate that was used."""
         for folder in {os.path.dirname(path) for path in self.used}:
-            found = sorted((f"{folder}/{it}" for it in os.listdir(folder)), key=os.path.getmtime, reverse=True)
+            paths = [f"{folder}/{it}" for it in os.listdir(folder) if os.path.isdir(f"{folder}/{it}")]
+            found = sorted(paths, key=os.path.getmtime, reverse=True)
             whole = [path for path in found if NEW not in path]
             broken_off = [path for path in found if NEW in path and os.path.getmtime(path) < time.time() - DAY]
             for path in [*whole[MOST_VERSIONS:], *broken_off]:
