@@ -1,5 +1,5 @@
-// What stands for `again` and `choose` of an agent that is learned: each may be named and handed on, and is refused
-// when it is called.
+// What stands for `again` and `choose` of an agent that is learned: each looks as in a run, and is refused when it is
+// called.
 
 import { StandIns } from "./stand-ins.mjs";
 
@@ -11,5 +11,7 @@ const NOT_YET = "--all can't yet try choices";
  */
 export function noChoices(refuse) {
   const standIns = new StandIns((what) => refuse(`${what}, and ${NOT_YET}`));
-  return { again: standIns.of(() => {}, "again"), choose: standIns.of(() => {}, "choose") };
+  const choices = { again: () => {}, choose: (/** @type {unknown} */ _count) => {} };
+  const { again, choose } = choices;
+  return { again: standIns.of(again, "again", ["apply"]), choose: standIns.of(choose, "choose", ["apply"]) };
 }
