@@ -17,6 +17,7 @@ export const {
 } = Reflect;
 export const { create, freeze, is } = Object;
 export const { isArray } = Array;
+export const { stringify } = JSON;
 export const hasOwn = uncurried(Object.prototype.hasOwnProperty);
 export const toUpperCase = uncurried(String.prototype.toUpperCase);
 

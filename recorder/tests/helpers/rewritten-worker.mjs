@@ -5,7 +5,7 @@ import { parentPort, workerData } from "node:worker_threads";
 import { AgentModules } from "../../lib/every/learning/agent-modules.mjs";
 import { NodePlatform } from "../../lib/every/learning/node-platform.mjs";
 import { beginInstalled } from "../../lib/every/state/installed.mjs";
-import { takeStep } from "../../lib/every/state/loop-steps.mjs";
+import { knownSteps, ownSteps, takeStep } from "../../lib/every/state/loop-steps.mjs";
 import { Runtime } from "../../lib/every/state/runtime.mjs";
 
 const PRELUDE = new URL("../../lib/every/state/prelude.mjs", import.meta.url).href;
@@ -38,9 +38,10 @@ function rewrittenExports(url) {
   runtime.installed = beginInstalled();
   const own = new AgentModules(PLATFORM);
   own.take(PRELUDE);
-  const { elementsOf, othersSteps } = /** @type {any} */ (own.made(runtime.calls).get(PRELUDE));
+  const { elementsOf, iterable, othersSteps, takeSteps } = /** @type {any} */ (own.made(runtime.calls).get(PRELUDE));
   takeStep(othersSteps.next);
-  runtime.calls.elementsOf = elementsOf;
+  takeSteps(knownSteps, ownSteps);
+  Object.assign(runtime.calls, { elementsOf, iterable });
   const graph = new AgentModules(PLATFORM);
   graph.take(url, true);
   return graph.made(runtime.calls).get(url) ?? {};

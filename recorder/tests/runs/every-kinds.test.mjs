@@ -25,8 +25,8 @@ const NEVER_ALONE = [
 
 /** What has no frame, or is rewritten before its kind is looked up. */
 const NEVER_WRITTEN = [
-  "ArrowFunctionExpression", "AwaitExpression", "ClassDeclaration", "ClassExpression", "FunctionDeclaration",
-  "FunctionExpression", "Property", "YieldExpression",
+  "ArrowFunctionExpression", "ClassDeclaration", "ClassExpression", "FunctionDeclaration", "FunctionExpression",
+  "Property", "YieldExpression",
 ];
 
 const WALKER = `const { base } = require("internal/deps/acorn/acorn-walk/dist/walk");

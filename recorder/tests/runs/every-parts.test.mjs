@@ -119,6 +119,45 @@ test("a file that node takes as CommonJS is refused by name", async (context) =>
   }
 });
 
+test("emitters, and JSON of an object with a toJSON, do what the engine's do, and can be shown", async (context) => {
+  const module = moduleOf(context, `import assert from "node:assert";
+import { EventEmitter } from "node:events";
+export const setup = { agents: 2, buffers: [8] };
+class Lock extends EventEmitter {
+  constructor(words) { super(); this.words = words; }
+  lock() {
+    while (Atomics.compareExchange(this.words, 0, 0, 1) !== 0) Atomics.wait(this.words, 0, 1, 5);
+    this.emit("got", this, 1);
+  }
+  free() { Atomics.store(this.words, 0, 0); Atomics.notify(this.words, 0); return this.emit("free"); }
+  toJSON(key) {
+    this.lock();
+    const { 1: count } = this.words;
+    this.free();
+    return { count, key, toJSON: () => 5, at: new Date(0) };
+  }
+}
+export default ({ buffers }) => {
+  const words = new Int32Array(buffers[0]), lock = new Lock(words), said = [];
+  const once = function (...given) { said.push("once", given.length); lock.off("got", last); };
+  const last = () => said.push("last");
+  lock.once("got", once).on("got", function (self, n) { said.push(this === self, n); words[1] += n; }).on("got", last);
+  lock.lock();
+  assert.strictEqual(lock.free(), false);
+  assert.deepStrictEqual(said, ["once", 2, true, 1, "last"]);
+  const { count, key, at, toJSON } = JSON.parse(JSON.stringify(lock, null, 1));
+  assert.ok(count >= 2 && count <= 4);
+  assert.deepStrictEqual([key, at, toJSON], ["", "1970-01-01T00:00:00.000Z", undefined]);
+  assert.strictEqual(JSON.stringify({ toJSON: (key) => new Date(0) }), "{}");
+  assert.strictEqual(JSON.stringify({ toJSON() {} }), undefined);
+  assert.throws(() => lock.emit("error", new RangeError("mine")), /^RangeError: mine/);
+  assert.throws(() => lock.on("bad", () => { throw new URIError("its"); }).emit("bad"), /^URIError: its/);
+};
+`);
+  const { closed, found, hidden } = await everySchedule({ ...FEW_WORKERS, module, seeds: 2 });
+  assert.deepEqual({ closed, found, hidden }, { closed: true, found: [], hidden: [] });
+});
+
 test("what `check` finds is the same in a real run, except for numbers", async (context) => {
   const fails = `import assert from "node:assert/strict";
 ${COUNTS}const lock = {};

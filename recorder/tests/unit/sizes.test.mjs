@@ -39,6 +39,7 @@ const FILES = readdirSync(RECORDER, { recursive: true, encoding: "utf8" })
 /** The files with more lines, and why each is one. */
 const LONG = Object.freeze({
   "lib/every/rewriting/live.mjs": "one class goes over a tree backward: each kind of tree leads to others of it",
+  "lib/every/state/prelude.mjs": "what stands for the engine's functions is one module: it is rewritten as a whole",
   "lib/every/state/walk.mjs": "the walk of values is one class: what it shows of each kind goes into one text",
   "lib/program/loop/loop.mjs": "an event loop is one class with what it serves: its methods share what it chooses by",
 });

@@ -1,5 +1,6 @@
 // What an agent asks for, as a node of an automaton has it.
 
+import { stringify } from "../../primordials.mjs";
 import { CALLS, SIZES } from "../../../script/kinds.mjs";
 import { engineCall } from "../../agent/engine.mjs";
 import { isIndexWithin } from "../../agent/effects.mjs";
@@ -121,4 +122,4 @@ function isSameList(one, other) {
 /** @param {AskedNode} asked @returns {string} the same only for what `isSame` says */
 export const keyOf = ({ does, kind, block, byte, size, operands, limit, error, outside, returns, written, text }) =>
   [does, kind, block, byte, size, operands.map((value) => `${value}`).join("_"), limit, error, outside?.index, returns,
-    written?.join("_"), text === undefined ? "" : JSON.stringify(text)].join(".");
+    written?.join("_"), text === undefined ? "" : stringify(text)].join(".");

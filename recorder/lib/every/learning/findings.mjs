@@ -47,6 +47,9 @@ const byLength = (one, other) =>
 /** @param {string} text @returns {string} without its numbers */
 const plain = (text) => text.replace(/-?\d+/g, "#");
 
+/** @param {string} text @returns {StateFinding} */
+const threwText = (text) => ({ key: `threw ${plain(text)}`, kind: "threw", text });
+
 export class Findings {
   /**
    * @param {import("./learned.mjs").Learned} learned
@@ -120,7 +123,9 @@ export class Findings {
     world.load(state);
     const { texts, isDeadlock, isFinal } = endingHere(search);
     /** @type {StateFinding[]} */
-    const here = [...texts].map((text) => ({ key: `threw ${plain(text)}`, kind: "threw", text }));
+    const here = [];
+    // In most states nobody has thrown, and what a set gives to a list takes time here.
+    if (texts.size > 0) here.push(...[...texts].map(threwText));
     if (isDeadlock) here.push(this.#deadlock());
     const problem = isFinal ? this.problems.get(world.memory) : undefined;
     if (problem !== undefined) here.push({ key: `check ${plain(problem)}`, kind: "check", text: problem });

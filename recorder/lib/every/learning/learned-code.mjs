@@ -148,8 +148,7 @@ export function loadCode(url, asker, platform, flaw) {
   removeLoops();
   own.take(PRELUDE);
   const prelude = /** @type {any} */ (own.made(runtime.calls).get(PRELUDE));
-  installLoops(prelude);
-  runtime.calls.elementsOf = prelude.elementsOf;
+  installLoops(prelude, runtime.calls);
   const graph = new AgentModules(platform);
   graph.take(url, true);
   const builtins = new NamedBuiltins();

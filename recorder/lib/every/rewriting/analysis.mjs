@@ -4,7 +4,7 @@
 import { Refused } from "../../options/refused.mjs";
 import { Info, Scope, newId } from "./scopes.mjs";
 import { ownNameIn } from "./naming.mjs";
-import { hasExpressions, isMethod, runsCode } from "./tree.mjs";
+import { givesMembers, hasExpressions, isMethod, runsCode } from "./tree.mjs";
 import { VISITS } from "./visits.mjs";
 
 /** @typedef {import("./tree.mjs").Tree} Tree */
@@ -137,7 +137,8 @@ export class Analysis {
     this.infos.set(tree, info);
     this.own.set(tree, own);
     this.functions.push(info);
-    info.isHidden = tree.generator || tree.async;
+    // What comes after an `await` is done when the agent has ended, and such an agent is refused.
+    info.isHidden = tree.generator;
     const named = tree.type === "ArrowFunctionExpression" ? [] : ["this", "arguments", "new.target"];
     for (const name of named) own.declare(name, "pseudo");
     for (const parameter of tree.params) own.declareAll(parameter, "param");
@@ -274,7 +275,7 @@ export class Analysis {
     else {
       this.visitPattern(left, here, false);
       // What is taken apart is nowhere else.
-      this.hidden.push([left.start, right.start]);
+      if (!givesMembers(left)) this.hidden.push([left.start, right.start]);
     }
     this.visit(right, here);
   }

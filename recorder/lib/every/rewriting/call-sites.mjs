@@ -18,6 +18,8 @@ import { isConstant, isFunction } from "./tree.mjs";
  * @property {number[]} kept the values that are kept in the frame
  * @property {boolean} isAccess whether only a getter, a setter or their like can have been called there
  * @property {boolean} isKeyed whether a key may have been made a text there before that
+ * @property {boolean} isNamed whether nothing is called there except for members that the code names: no value is made
+ * a number or a text
  * @property {boolean} isAccessor whether the function is written as a getter or a setter
  * @property {StepTarget} [step] what gets the value of the step of a loop that is made there; nothing else is
  */
@@ -28,11 +30,16 @@ import { isConstant, isFunction } from "./tree.mjs";
 const CALLERS = new Set([
   "Identifier", "MemberExpression", "CallExpression", "NewExpression", "ThisExpression", "AssignmentExpression",
   "UpdateExpression", "TaggedTemplateExpression", "PrivateIdentifier", "Super", "StepToName", "StepToPattern",
-  "NameOfMember",
+  "NameOfMember", "BeginOfSteps",
 ]);
 
 /** What calls a getter, a setter, or a trap of a proxy. */
 const ACCESSES = new Set(["MemberExpression", "UpdateExpression", "AssignmentExpression", "NameOfMember"]);
+
+/** @type {CallSite} */
+const NOTHING = Object.freeze({
+  fn: 0, makes: false, alive: [], kept: [], isAccess: false, isKeyed: false, isNamed: false, isAccessor: false,
+});
 
 export class CallSites {
   /** @param {import("./analysis.mjs").Analysis} analysis */
@@ -65,13 +72,13 @@ export class CallSites {
       from <= offset && offset < to && !(from <= info.start && info.end <= to));
     if (isHidden) return unknown("a place with values that aren't shown");
     if (info.usesSuper) return unknown("a method of an object in a function, with `super`");
-    const { alive, isAccess, isKeyed, step } = this.#aliveAt(info, offset);
+    const { alive, isAccess, isKeyed, isNamed, step } = this.#aliveAt(info, offset);
     if (typeof alive === "string") return unknown(`a call by ${alive}`);
     for (const one of info.needed) alive.add(one);
     const shown = [...alive].filter(({ isShown }) => isShown);
     const kept = info.temporaries.filter(({ from, to }) => from <= offset && offset < to);
     return {
-      fn: info.id, makes: info.makes, kept: kept.map(({ id }) => id), isAccess, isKeyed,
+      fn: info.id, makes: info.makes, kept: kept.map(({ id }) => id), isAccess, isKeyed, isNamed,
       isAccessor: info.isAccessor, step,
       alive: shown.map(placeOf).sort(([a, b], [c, d]) => a - c || b - d),
     };
@@ -86,8 +93,8 @@ export class CallSites {
   /**
    * @param {Info} info
    * @param {number} offset
-   * @returns {{ alive: Set<Binding> | string, isAccess: boolean, isKeyed: boolean, step?: StepTarget }} what is alive
-   * after the calls that can be going on there, or what it is instead
+   * @returns {{ alive: Set<Binding> | string, isAccess: boolean, isKeyed: boolean, isNamed: boolean,
+   * step?: StepTarget }} what is alive after the calls that can be going on there, or what it is instead
    */
   #aliveAt(info, offset) {
     info.alive ??= /** @type {Map<Tree, Set<Binding>>} */ (aliveIn(info, this.analysis));
@@ -98,6 +105,7 @@ export class CallSites {
     let isCall = false;
     let isAccess = true;
     let isKeyed = false;
+    let isNamed = true;
     /** @type {StepTarget | undefined} */
     let step;
     for (const [tree, out] of info.alive) {
@@ -106,6 +114,7 @@ export class CallSites {
       if (canCallAt(tree, offset, this.analysis.source)) {
         isCall = true;
         isAccess &&= ACCESSES.has(tree.type);
+        isNamed &&= reachesByName(tree);
         for (const one of out) alive.add(one);
       }
       isKeyed ||= makesKey(tree, offset);
@@ -114,7 +123,7 @@ export class CallSites {
     }
     const isCaller = least === undefined || CALLERS.has(least.type);
     const other = isCaller ? "something that isn't known" : /** @type {Tree} */ (least).type;
-    return { alive: isCaller && isCall ? alive : other, isAccess, isKeyed, step };
+    return { alive: isCaller && isCall ? alive : other, isAccess, isKeyed, isNamed, step };
   }
 }
 
@@ -138,7 +147,7 @@ function canCallAt(tree, offset, source) {
     case "MemberExpression": case "UpdateExpression": return true;
     case "SpreadElement": return offset === tree.argument.start;
     case "StepToName": case "StepToPattern": return offset < tree.end;
-    case "NameOfMember": return offset === tree.start;
+    case "BeginOfSteps": case "NameOfMember": return offset === tree.start;
     case "AssignmentExpression": return offset < tree.right.start;
     default: return false;
   }
@@ -173,6 +182,17 @@ function makesKey({ type, argument, end, left, right, object, operator, computed
   return offset < right.start && (operator !== "=" || left.end <= offset);
 }
 
+/**
+ * What gets the length of an array is made a number.
+ * @param {Tree} tree
+ * @returns {boolean} whether it reads or writes a member that it names, and makes nothing of what it reads or writes
+ */
+function reachesByName({ type, left, computed, property }) {
+  if (type === "NameOfMember") return true;
+  if (type === "MemberExpression") return !computed && property.name !== "length";
+  return type === "AssignmentExpression" && left.type === "MemberExpression" && reachesByName(left);
+}
+
 /** @param {Binding} binding @returns {[number, number]} */
 const placeOf = ({ scope, index }) => [scope.id, index];
 
@@ -182,8 +202,7 @@ const placeOf = ({ scope, index }) => [scope.id, index];
  * @returns {CallSite}
  */
 const constructorOf = ({ id }) =>
-  ({ fn: id, makes: true, alive: [], kept: [], isAccess: false, isKeyed: false, isAccessor: false });
+  ({ ...NOTHING, fn: id, makes: true });
 
 /** @param {string} why @returns {CallSite} */
-const unknown = (why) =>
-  ({ unknown: why, fn: 0, makes: false, alive: [], kept: [], isAccess: false, isKeyed: false, isAccessor: false });
+const unknown = (why) => ({ ...NOTHING, unknown: why });

@@ -3,7 +3,9 @@
 import { positionOutsideComments } from "./comments.mjs";
 import { NAME_OF_KEY } from "./function-names.mjs";
 import { engineName, keyOfShorthand } from "./naming.mjs";
-import { childrenOf, givesMembers, hasOptional, isClass, isConstant, isMethod, isPattern, runsCode } from "./tree.mjs";
+import {
+  childrenOf, givesMembers, goesThrough, hasOptional, isClass, isConstant, isMethod, isPattern, runsCode,
+} from "./tree.mjs";
 
 /** @typedef {import("./tree.mjs").Tree} Tree */
 /** @typedef {import("./scopes.mjs").Info} Info */
@@ -33,6 +35,7 @@ const asPattern = (writer, tree) => writer.writeAll(childrenOf(tree), null);
 export const EXPRESSIONS = {
   ArrayPattern: asPattern,
   AssignmentPattern: asPattern,
+  AwaitExpression: inside,
   ConditionalExpression: inside,
   Identifier: nothing,
   Literal: nothing,
@@ -214,8 +217,7 @@ function writeCallOfMember(writer, tree, info) {
  * @param {Tree | null} value
  */
 function beginIterating(writer, pattern, value) {
-  if (pattern.type !== "ArrayPattern" || value?.type === "ArrayExpression" || !runsCode(value)) return;
-  writer.within(/** @type {Tree} */ (value), "$R.iterable((", "))");
+  if (goesThrough(pattern, value)) writer.within(/** @type {Tree} */ (value), "$R.iterable((", "))");
 }
 
 const LOGICAL = new Set(["||=", "&&=", "??="]);
@@ -227,7 +229,10 @@ function writeAssignment(writer, tree, info) {
   if (left.type === "MemberExpression" && !writer.analysis.unused.has(tree)) hide(writer, tree.start, right.start);
   const binary = operator === "=" || LOGICAL.has(operator) ? undefined : operator.slice(0, -1);
   if (isPattern(left)) {
-    beginIterating(writer, left, right);
+    // Else the whole is worth what there was, and no iterator.
+    if (writer.analysis.unused.has(tree)) beginIterating(writer, left, right);
+    else if (goesThrough(left, right)) hide(writer, right.start, right.end);
+    if (givesMembers(left)) writer.within(right, `(${writer.room(info, left.start, left.end)} = (`, "))");
     writer.writeAll([left, right], info);
   } else if (left.type === "Identifier") {
     if (binary !== undefined) {

@@ -1,6 +1,6 @@
 // Which names of a function it can still read itself after an expression was evaluated: backward over its tree.
 
-import { givesMembers, isFunction, isMethod, namesIn } from "./tree.mjs";
+import { givesMembers, goesThrough, isFunction, isMethod, namesIn } from "./tree.mjs";
 
 /** @typedef {import("./tree.mjs").Tree} Tree */
 /** @typedef {import("./scopes.mjs").Binding} Binding */
@@ -114,7 +114,8 @@ export const LIVE_BEFORE = {
   SpreadElement: ofArgument,
   Super: name,
   SwitchStatement: (live, tree, out) => live.outside(tree, live.switched(tree, out)),
-  TaggedTemplateExpression: inOrder(({ tag, quasi }) => [tag, quasi]),
+  // Nothing makes texts of the values that a tag gets.
+  TaggedTemplateExpression: inOrder(({ tag, quasi: { expressions } }) => [tag, ...expressions]),
   TemplateLiteral: inOrder(({ expressions }) => expressions),
   ThisExpression: name,
   ThrowStatement: (live, { argument }) => live.before(argument, live.caught),
@@ -240,7 +241,12 @@ class Liveness {
       if (LOGICAL.has(operator)) return this.read(left, union(out, this.before(right, out)));
       return this.read(left, this.before(right, written));
     }
-    if (left.type !== "MemberExpression") return this.before(right, this.pattern(left, out));
+    if (left.type !== "MemberExpression") {
+      const begins = this.pattern(left, out);
+      this.#noteSteps(left, right, begins);
+      if (givesMembers(left)) this.#noteMembers(left, union(out, begins));
+      return this.before(right, begins);
+    }
     this.note(left, out);
     // `o.x += v` reads o.x before v.
     if (operator !== "=") this.note(left, this.before(right, out));
@@ -288,8 +294,14 @@ class Liveness {
       const written = tree.init === null && kind === "var" ? [] : this.#declared(tree.id);
       const begins = this.pattern(tree.id, this.#unwritten(alive, written));
       if (givesMembers(tree.id)) this.#noteMembers(tree.id, union(alive, begins));
+      this.#noteSteps(tree.id, tree.init, begins);
       return this.before(tree.init, begins);
     }, out);
+  }
+
+  /** @param {Tree} pattern @param {Tree | null} value @param {Alive} out what may be read where it is taken apart */
+  #noteSteps(pattern, value, out) {
+    if (value !== null && goesThrough(pattern, value)) this.note(this.#standIn(value, "BeginOfSteps"), out);
   }
 
   /** @param {Tree} pattern @param {Alive} out what may still be read where it gives a name a member */
@@ -351,8 +363,8 @@ class Liveness {
 
   /** @param {Tree} tree @param {Alive} out */
   each(tree, out) {
-    const { left, right, body } = tree;
-    return this.before(right, this.loop(out, (head, target) => {
+    const { left, right, body, type: kind } = tree;
+    const begins = this.loop(out, (head, target) => {
       target.again = head;
       const alive = this.before(body, head);
       const isDeclared = left.type === "VariableDeclaration";
@@ -361,7 +373,9 @@ class Liveness {
       const { type } = isDeclared ? left.declarations[0].id : left;
       this.note(this.#standIn(left, type === "Identifier" ? "StepToName" : "StepToPattern"), again);
       return again;
-    }));
+    });
+    if (kind === "ForOfStatement") this.note(this.#standIn(right, "BeginOfSteps"), begins);
+    return this.before(right, begins);
   }
 
   /**

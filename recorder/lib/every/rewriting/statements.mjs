@@ -27,10 +27,10 @@ export const WITHOUT_FRAME = {
   },
   SwitchStatement: writeSwitch,
   ForStatement: writeFor,
-  ForOfStatement: (writer, tree, info) => writeEach(writer, tree, info, "iterated"),
+  ForOfStatement: (writer, tree, info) => writeEach(writer, tree, info, (room) => `(${room} = $R.iterable((`),
   ForInStatement: (writer, tree, info) => {
     if (info !== null) makeOfList(writer, tree);
-    writeEach(writer, tree, info, "keysIn");
+    writeEach(writer, tree, info, (room) => `($R.keysIn($f, ${room.slice("$f.t[".length, -1)}, (`);
   },
   DoWhileStatement: writeLoop,
   WhileStatement: writeLoop,
@@ -142,13 +142,13 @@ function makeOfList({ edits, source }, { left }) {
  * @param {CodeWriter} writer
  * @param {Tree} tree
  * @param {Info | null} info
- * @param {"iterated" | "keysIn"} how it gets what it goes through
+ * @param {(room: string) => string} begins what stands before that which it goes through, and puts it into the frame
  */
-function writeEach(writer, tree, info, how) {
+function writeEach(writer, tree, info, begins) {
   const { body, left, right } = tree;
   if (info !== null) {
     const room = writer.room(info, right.end, tree.end, [left.start, left.end]);
-    writer.within(right, `$R.${how}($f, ${room.slice("$f.t[".length, -1)}, (`, "))");
+    writer.within(right, begins(room), ")))");
     // What the loop has got is nowhere else while other code runs there.
     if (runsCode(left)) writer.analysis.hidden.push([left.start, left.end]);
   }

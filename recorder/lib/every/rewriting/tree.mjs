@@ -19,10 +19,12 @@ export const isMethod = ({ type, method, kind }) => type === "Property" && (meth
 export function childrenOf(tree) {
   /** @type {Tree[]} */
   const found = [];
-  for (const key of Object.keys(tree)) {
-    const value = tree[key];
-    if (Array.isArray(value)) found.push(...value.filter((one) => typeof one?.type === "string"));
-    else if (typeof value?.type === "string") found.push(value);
+  const keys = Object.keys(tree);
+  // Where agents are learned, a loop over a list and a list that is spread take time.
+  for (let at = 0; at < keys.length; at += 1) {
+    const value = tree[keys[at]];
+    const values = Array.isArray(value) ? value : [value];
+    for (let by = 0; by < values.length; by += 1) if (typeof values[by]?.type === "string") found.push(values[by]);
   }
   return found;
 }
@@ -73,6 +75,15 @@ export function hasExpressions(pattern) {
 export const givesMembers = ({ type, properties }) => type === "ObjectPattern"
   && properties.every((/** @type {Tree} */ { type: kind, computed, value }) => kind === "Property" && !computed
     && (value.left ?? value).type === "Identifier" && !runsCode(value));
+
+/**
+ * @param {Tree} pattern or a name
+ * @param {Tree | null} value
+ * @returns {boolean} whether the pattern goes through what code may make, and the engine would say that it asks for the
+ * iterator at the place of a call in that code
+ */
+export const goesThrough = (pattern, value) =>
+  pattern.type === "ArrayPattern" && value?.type !== "ArrayExpression" && runsCode(value);
 
 /** @param {Tree | null} pattern @returns {string[]} the names that it declares */
 export function namesIn(pattern) {

@@ -46,7 +46,6 @@ export const VISITS = {
   AssignmentPattern: visitPattern,
   AwaitExpression: (one, tree, here) => {
     if (here.within === null) one.refuse(tree, "`await` at the top level");
-    one.hide(here.within);
     one.visit(tree.argument, here);
   },
   BinaryExpression: visitInside,

@@ -20,42 +20,43 @@ import { DOES, isCall, isEnd } from "./nodes.mjs";
 // More than there are nodes, and lists of them.
 const MANY = 2 ** 26;
 
+/** @type {Conflict[]} most states have none */
+const NONE = [];
+
 export class Conflicts {
   /** @param {import("./world.mjs").World} world */
   constructor(world) {
     this.world = world;
-    /** @type {Map<string, number>} numbers of what an agent may have open, by node and recent accesses */
+    /** @type {Map<number, number>} numbers of what an agent may have open, by node and recent accesses */
     this.numbers = new Map();
+    /** @type {number[]} those of the agents of the world's state */
+    this.ofAgents = [];
     /** @type {Open[][]} by these numbers */
     this.opens = [];
     /** @type {Map<number, Pair[]>} by two of these numbers */
     this.pairs = new Map();
   }
 
-  /** @returns {Conflict[]} those of the world's state */
+  /** @returns {readonly Conflict[]} those of the world's state */
   here() {
-    const { world } = this;
-    /** @type {Conflict[]} */
-    const found = [];
+    const { ofAgents, world } = this;
+    let found = NONE;
+    for (let agent = 0; agent < world.count; agent += 1) ofAgents[agent] = this.#numberOf(agent);
     for (let one = 1; one < world.count; one += 1) {
-      const number = this.#numberOf(one);
       for (let other = 0; other < one; other += 1) {
-        const pairs = this.#pairsOf(number, this.#numberOf(other));
+        const pairs = this.#pairsOf(ofAgents[one], ofAgents[other]);
         for (let at = 0; at < pairs.length; at += 1) {
-          const [first, second] = pairs[at];
-          if (this.#isOne(pairs[at])) found.push({ one: first.node, other: second.node, agents: [one, other] });
+          const { 0: first, 1: second } = pairs[at];
+          if (!this.#writes(first) && !this.#writes(second)) continue;
+          if (found.length === 0) found = [];
+          found.push({ one: first.node, other: second.node, agents: [one, other] });
         }
       }
     }
     return found;
   }
 
-  /** @param {Pair} pair that touches a byte @returns {boolean} whether one of the two writes in this state */
-  #isOne([one, other]) {
-    return this.#writes(one) || this.#writes(other);
-  }
-
-  /** @param {Open} open @returns {boolean} */
+  /** @param {Open} open @returns {boolean} whether it writes in this state */
   #writes({ node, writes }) {
     if (node.does !== DOES.COMPARE_EXCHANGE) return writes;
     return rawAt(this.world.bytes, node.at, node.size) === node.raw[0];
@@ -65,7 +66,7 @@ export class Conflicts {
   #numberOf(agent) {
     const { world } = this;
     const isOut = world.waits(agent) || world.wasWoken(agent) || this.#cantBlock(agent);
-    const key = `${world.nodes[agent].id}.${world.recent[agent]}.${isOut ? 1 : 0}`;
+    const key = 2 * (world.nodes[agent].id * MANY + world.recent[agent]) + (isOut ? 1 : 0);
     let number = this.numbers.get(key);
     if (number === undefined) {
       number = this.opens.length;
@@ -95,8 +96,12 @@ export class Conflicts {
     let found = this.pairs.get(key);
     if (found === undefined) {
       found = [];
-      for (const each of this.opens[one]) {
-        for (const another of this.opens[other]) if (mayConflict(each, another)) found.push([each, another]);
+      const ones = this.opens[one];
+      const others = this.opens[other];
+      for (let at = 0; at < ones.length; at += 1) {
+        for (let by = 0; by < others.length; by += 1) {
+          if (mayConflict(ones[at], others[by])) found.push([ones[at], others[by]]);
+        }
       }
       this.pairs.set(key, found);
     }
@@ -114,7 +119,8 @@ function openOf(node) {
 
 /** @param {Open} one @param {Open} other @returns {boolean} whether they conflict if those write that may */
 function mayConflict(one, other) {
-  const [{ at, block, size }, { at: from, block: place, size: length }] = [one.node, other.node];
+  const { at, block, size } = one.node;
+  const { at: from, block: place, size: length } = other.node;
   if (block !== place || at >= from + length || from >= at + size || !(one.writes || other.writes)) return false;
   return !(one.isAtomic && other.isAtomic && at === from && size === length);
 }

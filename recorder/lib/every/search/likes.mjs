@@ -15,13 +15,13 @@ export const likesOf = ({ agents }) => agents.map(({ canBlock, root }) =>
 export function sortAgents(world, names) {
   const { count, hasLikes, likes, lists } = world;
   if (!hasLikes) return;
-  const line = [...lists.members(world.line)];
+  const line = lists.members(world.line).slice();
   let isSorted = true;
   for (let at = 0; at < count; at += 1) {
     for (let other = at + 1; other < count; other += 1) {
       if (likes[other] !== likes[at] || !comesBefore(world, line, other, at)) continue;
       exchange(world, line, at, other);
-      [names[at], names[other]] = [names[other], names[at]];
+      swap(names, at, other);
       isSorted = false;
     }
   }
@@ -40,7 +40,8 @@ function comesBefore(world, line, one, other) {
   if (nodes[one] !== nodes[other]) return nodes[one].id < nodes[other].id;
   const wasWoken = world.wasWoken(one);
   if (wasWoken !== world.wasWoken(other)) return !wasWoken;
-  const [place, against] = [line.indexOf(one), line.indexOf(other)];
+  const place = line.indexOf(one);
+  const against = line.indexOf(other);
   if (place !== against) return place >= 0 && (against < 0 || place < against);
   return recent[one] !== recent[other] && isBefore(lists.members(recent[one]), lists.members(recent[other]));
 }
@@ -53,13 +54,26 @@ function isBefore(one, other) {
   return one.length < other.length;
 }
 
+/**
+ * Where agents are learned, a pattern of a list takes time.
+ * @param {unknown[]} list
+ * @param {number} one
+ * @param {number} other
+ */
+function swap(list, one, other) {
+  const before = list[one];
+  list[one] = list[other];
+  list[other] = before;
+}
+
 /** @param {World} world @param {number[]} line @param {number} one @param {number} other */
 function exchange(world, line, one, other) {
   const { nodes, recent } = world;
-  [nodes[one], nodes[other]] = [nodes[other], nodes[one]];
-  [recent[one], recent[other]] = [recent[other], recent[one]];
+  swap(nodes, one, other);
+  swap(recent, one, other);
   if (world.wasWoken(one) !== world.wasWoken(other)) world.woken ^= (1 << one) | (1 << other);
-  const [place, against] = [line.indexOf(one), line.indexOf(other)];
+  const place = line.indexOf(one);
+  const against = line.indexOf(other);
   if (place >= 0) line[place] = other;
   if (against >= 0) line[against] = one;
 }

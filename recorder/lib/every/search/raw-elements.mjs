@@ -45,7 +45,7 @@ export function rawOf(size, value) {
  * @param {Raw} old
  * @returns {Raw}
  */
-export function changed({ does, size, raw: [x, y] }, old) {
+export function changed({ does, size, raw: { 0: x, 1: y } }, old) {
   if (does === DOES.LOAD) return old;
   if (does === DOES.STORE || does === DOES.EXCHANGE) return x;
   if (does === DOES.COMPARE_EXCHANGE) return old === x ? y : old;

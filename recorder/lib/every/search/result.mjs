@@ -17,6 +17,12 @@ import { actorOf, chosenIn } from "./chosen-acts.mjs";
 /** @typedef {FoundStates & { memory: number }} FoundFinal */
 /** @typedef {FoundStates & { unknown: import("./world.mjs").Unknown }} FoundUnknown */
 
+/** What most states have: no text, and no conflict. @type {ReadonlySet<string>} */
+const NO_TEXTS = new Set();
+
+/** @type {ReadonlyMap<string, Conflict>} */
+const NO_PAIRS = new Map();
+
 /** Finds the kinds of the states of a search that has run. */
 export class Kinds {
   /** @param {Search} search */
@@ -62,7 +68,9 @@ export class Kinds {
     const { world } = this.search;
     const { texts, hasEnd, isFinal, isDeadlock } = endingHere(this.search);
     this.hasEnd ||= hasEnd;
-    for (const text of [...texts].sort(inBytes)) count(this.failed, text, state, { text });
+    // Where agents are learned, what a list gives to a loop or to a pattern takes time.
+    const sorted = texts.size > 0 ? [...texts].sort(inBytes) : [];
+    for (let at = 0; at < sorted.length; at += 1) count(this.failed, sorted[at], state, { text: sorted[at] });
     if (isDeadlock) this.deadlock = more(this.deadlock, state);
     if (isFinal) {
       this.finalStates += 1;
@@ -89,12 +97,17 @@ export class Kinds {
     for (const { one, other } of sorted) count(this.conflicts, `${one.id} ${other.id}`, state, { one, other });
   }
 
-  /** @returns {Map<string, Conflict>} the conflicts of the loaded state, each pair of nodes once, by its name */
+  /** @returns {ReadonlyMap<string, Conflict>} the conflicts of the loaded state, each pair of nodes once, by name */
   pairsHere() {
+    const found = this.conflictsHere.here();
+    if (found.length === 0) return NO_PAIRS;
     /** @type {Map<string, Conflict>} */
     const here = new Map();
-    for (const { one, other, agents } of this.conflictsHere.here()) {
-      const [first, second] = inOrder(one, other) < 0 ? [one, other] : [other, one];
+    for (let at = 0; at < found.length; at += 1) {
+      const { one, other, agents } = found[at];
+      const isInOrder = inOrder(one, other) < 0;
+      const first = isInOrder ? one : other;
+      const second = isInOrder ? other : one;
       here.set(`${first.id} ${second.id}`, { one: first, other: second, agents });
     }
     return here;
@@ -124,16 +137,16 @@ export class Kinds {
  * What kinds the loaded state has besides: texts that were thrown, whether an agent has ended, whether all have, and
  * whether it is a deadlock.
  * @param {Search} search
- * @returns {{ texts: Set<string>, hasEnd: boolean, isFinal: boolean, isDeadlock: boolean }}
+ * @returns {{ texts: ReadonlySet<string>, hasEnd: boolean, isFinal: boolean, isDeadlock: boolean }}
  */
 export function endingHere({ world, timeouts }) {
   let ended = 0;
   let acts = 0;
-  /** @type {Set<string>} */
-  const texts = new Set();
+  /** @type {ReadonlySet<string>} */
+  let texts = NO_TEXTS;
   for (let agent = 0; agent < world.count; agent += 1) {
     const { does, text } = world.nodes[agent];
-    if (does === DOES.THREW) texts.add(text ?? "");
+    if (does === DOES.THREW) texts = new Set(texts).add(text ?? "");
     if (does === DOES.FINISHED) ended += 1;
     if (world.canAct(agent) || (timeouts !== "never" && world.canTimeOut(agent))) acts += 1;
   }
@@ -184,9 +197,9 @@ function leadsOut({ count: states, targets, starts }) {
   const leads = new Uint8Array(states);
   const queue = [];
   for (let state = 0; state < states; state += 1) {
-    const [from, to] = [starts.items[state], starts.items[state + 1]];
-    for (let at = from; at < to; at += 1) sources[next[targets.items[at]]++] = state;
-    if (from < to) continue;
+    const to = starts.items[state + 1];
+    for (let at = starts.items[state]; at < to; at += 1) sources[next[targets.items[at]]++] = state;
+    if (starts.items[state] < to) continue;
     leads[state] = 1;
     queue.push(state);
   }

@@ -137,8 +137,9 @@ export class World {
     const from = state * width;
     if (this.hasWritten || this.memory !== items[from + BYTES]) {
       this.memory = items[from + BYTES];
-      const { length } = this.bytes;
-      this.bytes.set(this.memories.items.subarray(this.memory * length, (this.memory + 1) * length));
+      const { bytes, memories } = this;
+      const first = this.memory * memories.width;
+      for (let at = 0; at < memories.width; at += 1) bytes[at] = memories.items[first + at];
       this.hasWritten = false;
     }
     this.line = items[from + LINE];

@@ -2,7 +2,7 @@
 // still read, and all that can be reached from there.
 
 import { framesHere } from "../../agent/frames.mjs";
-import { mapGet, mapSet } from "../../primordials.mjs";
+import { mapGet, mapSet, stringify } from "../../primordials.mjs";
 import { NodeSettings } from "./node-settings.mjs";
 import { readingIterators } from "./shown-iterators.mjs";
 import { isStepOfOthers } from "./loop-steps.mjs";
@@ -177,7 +177,7 @@ export class Capture {
     if (!isSame) throw new CantShow("another function than was seen");
     // The text of a stack has these, whether they can be read otherwise or not.
     const shown = `${name} ${site.getTypeName() ?? ""} ${site.getMethodName() ?? ""}`;
-    walk.put(`|${place.fn}:${position} ${JSON.stringify(shown)}`);
+    walk.put(`|${place.fn}:${position} ${stringify(shown)}`);
     for (const [scope, index] of place.alive) walk.cell([frame.e[scope], index]);
     if (this.flaw.hides !== "temporaries") {
       for (const id of place.kept) {
@@ -195,10 +195,12 @@ export class Capture {
    * @param {import("../rewriting/call-sites.mjs").CallSite} place
    * @param {Called} called
    */
-  #needsOneWay({ isAccess, isKeyed, step }, { name, id, isAccessor }) {
+  #needsOneWay({ isAccess, isKeyed, isNamed, step }, { name, id, isAccessor }) {
+    const { installed } = this.runtime;
     const converts = isAccessor && CONVERSIONS.test(name);
-    const isOther = isAccess !== isAccessor || isKeyed || converts || this.runtime.installed.has(id)
-      || (step !== undefined) !== isStepOfOthers(id);
+    const isOne = installed.has(id) ? isAccess && isNamed && !isAccessor && installed.isOfMember(id)
+      : isAccess === isAccessor && !converts;
+    const isOther = !isOne || isKeyed || (step !== undefined) !== isStepOfOthers(id);
     if (isOther) throw new CantShow(`${name || "a function"}, which the engine may call`);
   }
 }

@@ -1,8 +1,9 @@
 // Puts the functions of the prelude in the place of the engine's: they have the same names and lengths.
 
+import { EventEmitter } from "node:events";
 import { replace } from "../../agent/ordinary/patch.mjs";
 import { TypedArray } from "../../primordials.mjs";
-import { takeStep } from "./loop-steps.mjs";
+import { knownSteps, ownSteps, takeStep } from "./loop-steps.mjs";
 
 /** @typedef {Record<string, Function>} Stands by the names of what they stand for */
 
@@ -27,13 +28,26 @@ export function removeLoops() {
 
 /**
  * @typedef {"arrayLoops" | "typedLoops" | "mapLoops" | "setLoops" | "arrayMakers" | "functionCalls" | "reflectCalls"
- * | "othersSteps"} StandKind
+ * | "jsonCalls" | "emitterCalls" | "othersSteps"} StandKind
  */
 
-/** @param {Record<StandKind, Stands>} stands */
-export function installLoops(stands) {
-  const { arrayLoops, typedLoops, mapLoops, setLoops, arrayMakers, functionCalls, reflectCalls, othersSteps } = stands;
+/**
+ * @typedef {object} PreludeCalls what the prelude has besides
+ * @property {(known: typeof knownSteps, own: typeof ownSteps) => void} takeSteps
+ * @property {(given: any) => any} iterable
+ * @property {(given: any) => unknown[]} elementsOf
+ */
+
+/**
+ * @param {Record<StandKind, Stands> & PreludeCalls} prelude
+ * @param {{ iterable: PreludeCalls["iterable"], elementsOf: PreludeCalls["elementsOf"] }} calls of the rewritten code
+ */
+export function installLoops(prelude, calls) {
+  const { arrayLoops, typedLoops, mapLoops, setLoops, arrayMakers, functionCalls, reflectCalls, othersSteps } = prelude;
   takeStep(/** @type {any} */ (othersSteps.next));
+  prelude.takeSteps(knownSteps, ownSteps);
+  calls.iterable = prelude.iterable;
+  calls.elementsOf = prelude.elementsOf;
   install(Array.prototype, arrayLoops);
   install(TypedArray.prototype, typedLoops);
   install(Map.prototype, mapLoops);
@@ -41,4 +55,6 @@ export function installLoops(stands) {
   install(Array, arrayMakers);
   install(Function.prototype, functionCalls);
   install(Reflect, reflectCalls);
+  install(JSON, prelude.jsonCalls);
+  install(EventEmitter.prototype, prelude.emitterCalls);
 }

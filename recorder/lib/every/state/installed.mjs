@@ -23,16 +23,31 @@ export function numberOf(fn) {
   return found.length === 0 ? undefined : Math.min(...found);
 }
 
+/** Names of members that the engine may read by itself. Symbols are such names, too. */
+const READ_BY_ENGINE = new Set(["constructor", "toJSON", "toString", "valueOf"]);
+
+/** @typedef {"get" | "set" | "any"} InstalledUse how the engine calls such a function */
+
 export class Installed {
-  /** @type {Set<number>} the numbers of these functions */
-  #numbers = new Set();
+  /** @type {Map<number, InstalledUse>} by the numbers of these functions */
+  #uses = new Map();
 
   /** Whether any function may be one of them. */
   #isAny = false;
 
   /** @param {number} number of a function @returns {boolean} whether it may be one of them */
   has(number) {
-    return this.#isAny || this.#numbers.has(number);
+    return this.#isAny || this.#uses.has(number);
+  }
+
+  /**
+   * @param {number} number of a function
+   * @returns {boolean} whether it is only called where code has the member that it was made for, and either as its
+   * getter or as its setter
+   */
+  isOfMember(number) {
+    const use = this.#isAny ? "any" : this.#uses.get(number);
+    return use === "get" || use === "set";
   }
 
   /** Something was made of which it isn't known what the engine calls for it. */
@@ -47,15 +62,17 @@ export class Installed {
     if (this.#isAny) return;
     for (const key of keys) {
       const { get, set } = getOwnPropertyDescriptor(object, key) ?? {};
-      for (const fn of [get, set]) if (fn !== undefined) this.#add(fn);
+      const isRead = typeof key === "symbol" || READ_BY_ENGINE.has(key);
+      if (get !== undefined) this.#add(get, isRead ? "any" : "get");
+      if (set !== undefined) this.#add(set, isRead ? "any" : "set");
     }
   }
 
-  /** @param {Function} fn */
-  #add(fn) {
+  /** @param {Function} fn @param {InstalledUse} use */
+  #add(fn, use) {
     const number = numberOf(fn);
     if (number === undefined) this.#isAny = true;
-    else this.#numbers.add(number);
+    else this.#uses.set(number, [use, undefined].includes(this.#uses.get(number)) ? use : "any");
   }
 }
 

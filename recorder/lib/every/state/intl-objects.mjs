@@ -3,7 +3,7 @@
 import { types } from "node:util";
 import {
   apply, construct, defineProperty, getOwnPropertyDescriptor, getPrototypeOf, isArray, isObject, ownKeys, proxyOf,
-  weakGet, weakSet,
+  stringify, weakGet, weakSet,
 } from "../../primordials.mjs";
 
 const { isProxy } = types;
@@ -38,7 +38,7 @@ function membersText(object, depth) {
     const found = /** @type {PropertyDescriptor} */ (getOwnPropertyDescriptor(object, key));
     const member = typeof key === "symbol" || found.get || found.set ? undefined : textOf(found.value, depth - 1);
     if (member === undefined) return undefined;
-    text += `${JSON.stringify(key)}:${member},`;
+    text += `${stringify(key)}:${member},`;
   }
   return `${text}.`;
 }
@@ -51,7 +51,7 @@ function membersText(object, depth) {
 function textOf(value, depth = DEPTH) {
   if (isObject(value)) return typeof value === "function" ? undefined : membersText(value, depth);
   if (typeof value === "symbol") return undefined;
-  return `${typeof value} ${typeof value === "string" ? JSON.stringify(value) : String(value)}`;
+  return `${typeof value} ${typeof value === "string" ? stringify(value) : String(value)}`;
 }
 
 /** @param {string} name of a constructor @param {unknown[]} given @returns {string | undefined} */

@@ -122,17 +122,16 @@ function hasProxy(object) {
 
 /**
  * @param {any} given what a `for..of`, or its like, goes through
- * @returns {Iterable<unknown>} what stands for it
+ * @returns {Iterable<unknown> | undefined} what stands for it; undefined: the agents' own code is to say that
  */
-export function iterable(given) {
+export function knownSteps(given) {
   const shown = shownIteratorOf(given);
   // Of one that agents hold the `next` can be replaced, and a loop has read that before.
-  if (shown === given && shown !== undefined) return new OthersSteps(shown);
-  if (shown !== undefined) return shown;
-  const method = given === undefined || given === null ? undefined : given[Symbol.iterator];
-  // The engine's own text names what was to be gone through, which isn't known here.
-  if (typeof method !== "function") throw new TypeError("$R isn't iterable");
-  const real = apply(method, given, []);
+  return shown === given && shown !== undefined ? new OthersSteps(shown) : shown;
+}
+
+/** @param {unknown} real an iterator of the agents' own @returns {Iterable<unknown>} what stands for it */
+export function ownSteps(real) {
   if (!isObject(real)) throw new TypeError("Result of the Symbol.iterator method is not an object");
   return new OthersSteps(real);
 }

@@ -5,6 +5,7 @@ import { EventEmitter } from "node:events";
 import { types } from "node:util";
 import { CONSTRUCTORS } from "../../../script/kinds.mjs";
 import { isObject } from "../../primordials.mjs";
+import { boundOf } from "./bound-functions.mjs";
 import { EVENT_CLASSES, eventKeys, eventMaps } from "./event-objects.mjs";
 import { intlConstructors } from "./intl-objects.mjs";
 import { intrinsics } from "./intrinsics.mjs";
@@ -26,6 +27,12 @@ const KINDS = /** @type {const} */ (["value", "get", "set"]);
 
 /** Objects of node's with symbols that no name leads to. */
 const WITH_SYMBOLS = [() => new EventEmitter(), () => new TextDecoder(), () => new TextEncoder()];
+
+/** @returns {any} the function that node binds for each listener which is called once: it keeps nothing itself */
+function onceFunction() {
+  const emitter = new EventEmitter().once("made", () => {});
+  return boundOf(/** @type {any} */ (emitter.rawListeners("made")[0]))?.target;
+}
 
 /** V8 reads its limits for stacks in Error itself, and the recorder changes them for a moment. */
 const OF_STACKS = new Set(["stackTraceLimit", "prepareStackTrace"]);
@@ -100,6 +107,8 @@ export class NamedBuiltins {
     for (const key of eventKeys) this.add(key, `key of AbortSignal ${String(key)}`);
     for (const [name, engine] of intlConstructors()) this.add(engine, `globalThis.Intl.${name}`);
     this.#addMembers(Symbol, "globalThis.Symbol");
+    const once = onceFunction();
+    if (once !== undefined) this.add(once, "the engine's onceWrapper");
     for (const make of WITH_SYMBOLS) for (const key of Reflect.ownKeys(make())) this.add(key, "key of node's");
     for (const [name, module] of Object.entries(modules)) this.add(module, name);
     for (let at = 0; at < this.queue.length; at += 1) {

@@ -2,7 +2,7 @@
 // properties and its prototype are.
 
 import { types } from "node:util";
-import { getOwnPropertyDescriptor, isArray, uncurried } from "../../primordials.mjs";
+import { getOwnPropertyDescriptor, isArray, stringify, uncurried } from "../../primordials.mjs";
 import { hexOf } from "../search/raw-elements.mjs";
 import { intlOf } from "./intl-objects.mjs";
 import { iterationOf } from "./shown-iterators.mjs";
@@ -66,7 +66,7 @@ export const isResizable = reader(ArrayBuffer.prototype, "resizable");
 
 /** @param {RegExp} regExp @returns {string} what it looks for */
 export const patternOf = (regExp) =>
-  `${JSON.stringify(sourceOf(regExp))} ${FLAGS.map((flag) => (flag(regExp) ? 1 : 0)).join("")}`;
+  `${stringify(sourceOf(regExp))} ${FLAGS.map((flag) => (flag(regExp) ? 1 : 0)).join("")}`;
 
 /** @type {[IsOfKind, (object: any) => unknown][]} what the kinds of boxed values have in them */
 const BOXED = [

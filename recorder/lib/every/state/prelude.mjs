@@ -3,11 +3,13 @@
 // array, map or set is left to the engine's. So is each call of a function with a list, except that the list is made
 // here: no frame would show that the engine makes it.
 
+import { EventEmitter } from "node:events";
 import { types } from "node:util";
 
 const { apply } = Reflect;
+const { iterator } = Symbol;
 const { isMap, isProxy, isSet } = types;
-const { getOwnPropertyDescriptor, getPrototypeOf, hasOwn } = Object;
+const { getOwnPropertyDescriptor, getOwnPropertySymbols, getPrototypeOf, hasOwn } = Object;
 const { isArray, prototype: arrays } = Array;
 const { max, min, trunc } = Math;
 const { prototype: typedArrays } = getPrototypeOf(Int8Array);
@@ -25,6 +27,11 @@ const { prototype: functions } = Function;
 const { apply: applied } = functions;
 const { forEach: eachOfMap } = maps;
 const { forEach: eachOfSet } = sets;
+const { stringify } = JSON;
+const { prototype: emitters } = EventEmitter;
+const { emit } = emitters;
+/** By this key an emitter has whether it hands on what its listeners' promises are rejected with. */
+const captures = getOwnPropertySymbols(emitters).find(({ description }) => description === "kCapture");
 
 /** @typedef {(this: any, f: any, that?: any) => any} ArrayLoop */
 
@@ -310,6 +317,33 @@ export const othersSteps = {
   },
 };
 
+/** @type {(given: any) => any} */
+let knownSteps = (given) => given;
+
+/** @type {(real: any) => any} */
+let ownSteps = (real) => real;
+
+/**
+ * Takes the functions by which `iterable` finds what stands for something.
+ * @param {(given: any) => any} known for what loops go through, if none of the agents' code is needed for that
+ * @param {(real: any) => any} own for an iterator of the agents' own
+ */
+export function takeSteps(known, own) {
+  knownSteps = known;
+  ownSteps = own;
+}
+
+/** @param {any} given what a `for..of`, or its like, goes through @returns {any} what stands for it */
+export function iterable(given) {
+  const known = knownSteps(given);
+  if (known !== undefined) return known;
+  const method = given === undefined || given === null ? undefined : given[iterator];
+  // The engine's own text names what was to be gone through, which isn't known here.
+  if (typeof method !== "function") throw new TypeError("$R isn't iterable");
+  const real = apply(method, given, []);
+  return ownSteps(real);
+}
+
 /** @param {any} given what is spread @returns {unknown[]} all that it has */
 export function elementsOf(given) {
   const list = [];
@@ -320,6 +354,22 @@ export function elementsOf(given) {
 /** @param {any} items @returns {boolean} whether a loop goes through them as `Array.from` does */
 const isGoneThrough = (items) => typeof items === "string" || isMap(items) || isSet(items)
   || (isArray(items) && !isProxy(items)) || apply(tagOf, items, []) !== undefined;
+
+/**
+ * @param {any} object
+ * @param {string | symbol} key
+ * @returns {unknown} the value of that property, its own or inherited; undefined if code may run when it is read
+ */
+function plainMember(object, key) {
+  for (let at = object; at !== null; at = getPrototypeOf(at)) {
+    if (isProxy(at)) return undefined;
+    if (hasOwn(at, key)) return getOwnPropertyDescriptor(at, key)?.value;
+  }
+  return undefined;
+}
+
+/** @param {unknown} value @returns {boolean} */
+const isPlainObject = (value) => typeof value === "object" && value !== null;
 
 /** @param {any} items @returns {boolean} whether they have nothing but a length and elements */
 function isArrayLike(items) {
@@ -333,16 +383,18 @@ function isArrayLike(items) {
 /** @type {Record<string, (this: any, items: any, f?: any, that?: any) => any>} */
 export const arrayMakers = {
   from(items, f = undefined, that = undefined) {
-    if (this !== EngineArray || typeof f !== "function") return apply(from, this, [items, f, that]);
+    const isMapped = typeof f === "function";
+    const isOwn = isPlainObject(items) && !isGoneThrough(items) && typeof plainMember(items, iterator) === "function";
+    if (this !== EngineArray || (!isMapped && (f !== undefined || !isOwn))) return apply(from, this, [items, f, that]);
     if (isArrayLike(items)) {
       const n = lengthIn(items);
       const made = new EngineArray(n);
       for (let k = 0; k < n; k += 1) made[k] = apply(f, that, [items[k], k]);
       return made;
     }
-    if (!isGoneThrough(items)) return apply(from, this, [items, f, that]);
+    if (!isOwn && !isGoneThrough(items)) return apply(from, this, [items, f, that]);
     const made = [];
-    for (const one of items) made[made.length] = apply(f, that, [one, made.length]);
+    for (const one of items) made[made.length] = isMapped ? apply(f, that, [one, made.length]) : one;
     return made;
   },
 };
@@ -370,5 +422,48 @@ export const functionCalls = {
 export const reflectCalls = {
   apply(target, self, list) {
     return isMadeHere(target, list) ? apply(target, self, elementsIn(list)) : apply(target, self, list);
+  },
+};
+
+/** @type {Record<string, (this: any, value: any, replacer?: any, space?: any) => any>} */
+export const jsonCalls = {
+  stringify(value, replacer = undefined, space = undefined) {
+    const isAsked = isPlainObject(value) && (replacer === undefined || replacer === null) && !isPlainObject(space);
+    const toJSON = isAsked ? plainMember(value, "toJSON") : undefined;
+    if (typeof toJSON !== "function") return apply(stringify, this, [value, replacer, space]);
+    const shown = apply(toJSON, value, [""]);
+    return apply(stringify, this, [{ toJSON: () => shown }, replacer, space]);
+  },
+};
+
+/**
+ * @param {any} emitter
+ * @param {unknown} type
+ * @returns {Function[]} a copy of its listeners, if the engine does nothing but call them one after the other
+ */
+function plainListeners(emitter, type) {
+  const isNamed = (typeof type === "string" && type !== "error") || typeof type === "symbol";
+  if (!isNamed || !isPlainObject(emitter) || captures === undefined) return [];
+  const events = plainMember(emitter, "_events");
+  if (plainMember(emitter, captures) !== false || !isPlainObject(events)) return [];
+  const found = plainMember(events, /** @type {string | symbol} */ (type));
+  const list = typeof found === "function" ? [found] : found;
+  const listeners = [];
+  if (!isArray(list) || isProxy(list)) return [];
+  for (let k = 0; k < list.length; k += 1) {
+    if (typeof list[k] !== "function") return [];
+    listeners[k] = list[k];
+  }
+  return listeners;
+}
+
+/** @type {Record<string, (this: any, type: any, ...given: any[]) => any>} */
+export const emitterCalls = {
+  emit(type, ...given) {
+    const listeners = plainListeners(this, type);
+    const n = listeners.length;
+    if (n === 0) return apply(emit, this, [type, ...given]);
+    for (let k = 0; k < n; k += 1) apply(listeners[k], this, given);
+    return true;
   },
 };

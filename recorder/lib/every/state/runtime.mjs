@@ -7,7 +7,7 @@ import {
 } from "../../primordials.mjs";
 import { noteClass } from "./first-prototypes.mjs";
 import { Installed, numberOf } from "./installed.mjs";
-import { iterable, keysIn } from "./loop-steps.mjs";
+import { keysIn } from "./loop-steps.mjs";
 import { own, stamped } from "./own-objects.mjs";
 import { likeArrays } from "./shown-iterators.mjs";
 
@@ -47,6 +47,9 @@ export class Environment {
  * @property {Record<number, Environment>} e the names of its scopes, by the scopes' numbers
  * @property {Record<number, unknown>} t what is kept while something else is evaluated, by its number
  */
+
+/** What functions inherit from that have the `call` of all functions. */
+const OF_FUNCTIONS = [() => {}, async () => {}, function* made() {}, async function* made() {}].map(getPrototypeOf);
 
 /** What stands in a frame for a value that can't be shown. */
 export const UNKNOWN_VALUE = Object.freeze({ isUnknown: true });
@@ -151,11 +154,12 @@ export class Runtime {
       callable,
       constructible,
       likeArrays,
-      iterable,
-      iterated: kept(iterable),
-      keysIn: kept(keysIn),
-      /** @type {(given: any) => unknown[]} what is spread: the prelude has one in place of it that can be shown */
-      elementsOf: (given) => [...iterable(given)],
+      // The prelude has others in place of these two, which can be shown.
+      /** @type {(given: any) => any} what is gone through */
+      iterable: (given) => given,
+      /** @type {(given: any) => unknown[]} what is spread */
+      elementsOf: (given) => [...given],
+      keysIn: keptKeys,
       key,
       method,
       numeric,
@@ -254,7 +258,7 @@ function constructible(value, name) {
  */
 function method(value, name) {
   const fn = callable(value, name);
-  if (!isProxy(fn) && !hasOwn(fn, "call") && getPrototypeOf(fn) === Function.prototype) return fn;
+  if (!isProxy(fn) && !hasOwn(fn, "call") && OF_FUNCTIONS.includes(getPrototypeOf(fn))) return fn;
   return { call: (/** @type {unknown} */ self, /** @type {unknown[]} */ ...given) => apply(fn, self, given) };
 }
 
@@ -273,14 +277,10 @@ function numeric(value) {
 /** @param {any} value @returns {string | symbol} the key that it is among an object's members */
 const key = (value) => Reflect.ownKeys({ [value]: 0 })[0];
 
-/**
- * What a loop goes through: its iterator is kept in the frame, where it can be shown.
- * @template Given
- * @param {(given: Given) => Iterable<unknown>} make
- */
-const kept = (make) => (/** @type {RewrittenFrame} */ frame, /** @type {number} */ id, /** @type {Given} */ given) => {
+/** What a `for..in` goes through is kept in the frame, where it can be shown. */
+const keptKeys = (/** @type {RewrittenFrame} */ frame, /** @type {number} */ id, /** @type {unknown} */ given) => {
   frame.t[id] = UNKNOWN_VALUE;
-  const shown = make(given);
+  const shown = keysIn(given);
   frame.t[id] = shown;
   return shown;
 };

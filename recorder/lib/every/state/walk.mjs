@@ -3,7 +3,7 @@
 import { types } from "node:util";
 import { anyWatchedOf } from "../../agent/ordinary/watched.mjs";
 import { blockNumber } from "../../agent/ordinary/context.mjs";
-import { getOwnPropertyDescriptor, slotOf } from "../../primordials.mjs";
+import { getOwnPropertyDescriptor, slotOf, stringify } from "../../primordials.mjs";
 import { hexOf } from "../search/raw-elements.mjs";
 import { boundOf } from "./bound-functions.mjs";
 import { hadOtherPrototype } from "./first-prototypes.mjs";
@@ -87,7 +87,7 @@ export class Walk {
       case "boolean": this.out.push(value ? "t" : "f"); return;
       case "number": this.out.push(numberText(value)); return;
       case "bigint": this.out.push(`${value}n`); return;
-      case "string": this.out.push(JSON.stringify(value)); return;
+      case "string": this.out.push(stringify(value)); return;
       case "symbol": this.out.push(this.#symbol(value)); return;
       default:
     }
@@ -98,13 +98,13 @@ export class Walk {
   /** @param {symbol} symbol */
   #symbol(symbol) {
     const key = Symbol.keyFor(symbol);
-    if (key !== undefined) return `y${JSON.stringify(key)}`;
+    if (key !== undefined) return `y${stringify(key)}`;
     const name = this.builtins.nameOf(symbol);
     if (name !== undefined) return `Y${name}`;
     if (!isMadeByAgents(symbol)) throw new CantShow("a symbol of node's");
     const isKnown = this.seen.has(symbol);
     const number = this.#number(symbol);
-    return isKnown ? `y#${number}` : `y@${number}${JSON.stringify(symbol.description)}`;
+    return isKnown ? `y#${number}` : `y@${number}${stringify(symbol.description)}`;
   }
 
   /** @param {object} object */
@@ -117,7 +117,7 @@ export class Walk {
     }
     const url = this.runtime.namespaces.get(object);
     if (url !== undefined) {
-      this.out.push(`N${JSON.stringify(url)}`);
+      this.out.push(`N${stringify(url)}`);
       return;
     }
     const known = this.seen.get(object);
@@ -292,7 +292,7 @@ export class Walk {
       case "Promise": this.#settled(object); return;
       case "boxed": this.value(boxedIn(object)); return;
       case "iterator": this.#iteration(object); return;
-      case "Intl": this.out.push(JSON.stringify(intlOf(object))); return;
+      case "Intl": this.out.push(stringify(intlOf(object))); return;
       case "WeakMap": this.weak.push({ object, shown: new Set(), hasValues: true }); return;
       case "WeakSet": this.weak.push({ object, shown: new Set(), hasValues: false }); return;
       default:
