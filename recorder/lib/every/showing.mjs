@@ -30,11 +30,12 @@ const SPINS = "a real run can't change agents in a loop of ordinary reads";
  * @param {{ maxMoves: number }} options of runs
  * @returns {string | undefined} why no run can go by its schedule
  */
-function whyNoRun({ calls, choices, row }, { maxMoves }) {
+function whyNoRun({ calls, choices, lastChooser, row }, { maxMoves }) {
   const most = calls.reduce((one, other) => Math.max(one, other));
   if (most > SCRIPT_LIMITS.calls) return `it needs ${countText(most, "call")} of agent ${calls.indexOf(most)}`;
   const chooser = choices.findIndex(({ length }) => length > MOST_CHOICES);
   if (chooser >= 0) return `it needs ${countText(choices[chooser].length, "choice")} of agent ${chooser}`;
+  if (lastChooser !== undefined) return `agent ${lastChooser} throws or chooses for ever then, whatever it chooses`;
   if (row.length > maxMoves) return `it needs ${countText(row.length, "move")}, and ${digits(maxMoves)} are the most`;
   return undefined;
 }

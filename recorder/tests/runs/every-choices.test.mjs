@@ -107,6 +107,12 @@ test("what is thrown by chance of a choice, and behind others, is shown", async 
   const both = await everySchedule({ ...FEW_WORKERS, module: moduleOf(context, choosing(other)), seeds: 20 });
   assert.deepEqual(kindsOf(both.found), ["threw", "threw"]);
   assert.deepEqual(both.found.map(({ text }) => text).sort(), ["Error: one", "Error: seen"]);
+  const always = other.replace("if (number === 3) break;", "throw new Error(\"none\");");
+  const lost = await everySchedule({ ...FEW_WORKERS, module: moduleOf(context, choosing(always)), seeds: 2 });
+  assert.deepEqual(lost.found.map(({ text, notShown }) => [text, notShown]).sort(), [
+    ["Error: none", null], ["Error: one", null],
+    ["Error: seen", "agent 0 throws or chooses for ever then, whatever it chooses"],
+  ]);
 });
 
 test("numbers from which nobody can choose throw, and so do `init` and `check` that choose", async (context) => {

@@ -26,6 +26,8 @@ import { problemOf } from "./thrown.mjs";
  * @property {number[]} row the agents in the order in which they move, as a run goes by it
  * @property {number[]} calls of each agent how many it makes on the way
  * @property {AgentChoice[][]} choices of each agent what it chooses, also behind the row if it is at a choice there
+ * @property {number} [lastChooser] an agent that stands at a choice then, of which each number throws, or leads on to
+ * choices for ever
  * @property {number} changes of agents
  * @property {number} acts
  * @property {boolean} isEarly whether a timed wait ends while something else can move
@@ -163,17 +165,17 @@ export class Findings {
    * @returns {Finding}
    */
   #finding({ key, kind, text, states }, { state, way, names, changes, isEarly }) {
-    const { calls, choices, row, spins } = this.#wayOf(way);
+    const { calls, choices, lastChooser, row, spins } = this.#wayOf(way);
     const next = (this.#at(state).find((one) => one.key === key)?.next ?? []).map((agent) => names[agent]);
     const goesOn = kind === "race" || kind === "no way out";
-    const moves = { row: [...row, ...next], calls, choices, changes, acts: way.length };
+    const moves = { row: [...row, ...next], calls, choices, lastChooser, changes, acts: way.length };
     return { kind, text, states, ...moves, isEarly, goesOn, spins };
   }
 
   /**
    * @param {number[]} way the acts in their order
-   * @returns {Pick<Finding, "row" | "calls" | "choices" | "spins">} whose acts those are that are calls; of each agent
-   * how many calls it makes, and what it chooses; whether one stands in a loop of reads
+   * @returns {Pick<Finding, "row" | "calls" | "choices" | "lastChooser" | "spins">} whose acts those are that are
+   * calls; of each agent how many calls it makes, and what it chooses; whether one stands in a loop of reads
    */
   #wayOf(way) {
     const { world } = this.search;
@@ -197,6 +199,7 @@ export class Findings {
     }).map(actorOf);
     choices.forEach((made, agent) =>
       made.push(...lastChoices(world, agent).map(([node, chosen]) => choiceAt(node, chosen))));
-    return { row, calls, choices, spins };
+    const left = world.nodes.findIndex(isChoice);
+    return { row, calls, choices, lastChooser: left < 0 ? undefined : left, spins };
   }
 }
