@@ -37,8 +37,6 @@ const MORE_ROOM = 2 ** 20;
 
 const OUT_OF_MEMORY = 4;
 
-const NO_CHOICES = "it can't try choices yet";
-
 /**
  * @param {FileData} data
  * @param {ProvedSearchLimits} bounds
@@ -58,7 +56,6 @@ export async function provedSearch(data, { timeouts, limit, size, program, signa
 /** @param {FileData} data @param {string} text of the file @throws {NotSearched} if no file may be so large */
 function needSmall({ automata, views }, text) {
   const nodes = automata.flatMap(({ nodes: own }) => own);
-  if (nodes.some(({ choose }) => choose !== undefined)) throw new NotSearched(NO_CHOICES);
   const bytes = new TextEncoder().encode(text).length;
   const edges = nodes.reduce((most, { edges: own = [] }) => Math.max(most, own.length), 0);
   for (const [many, most, what] of /** @type {[number, number, string][]} */ ([

@@ -12,6 +12,8 @@ use Rattle.sab_automata_reader.specs.declared.automata_text.faults.EdgesFault.{E
 use Rattle.sab_automata_reader.specs.declared.automata_text.faults.EdgesFault.TheVariants as edges
 use Rattle.sab_automata_reader.specs.declared.automata_text.faults.AccessFault.{AccessFault}
 use Rattle.sab_automata_reader.specs.declared.automata_text.faults.AccessFault.TheVariants as access
+use Rattle.sab_automata_reader.specs.declared.automata_text.faults.ChoiceFault.{ChoiceFault}
+use Rattle.sab_automata_reader.specs.declared.automata_text.faults.ChoiceFault.TheVariants as choice
 use Rattle.sab_automata_reader.specs.declared.automata_text.faults.NodeFault.{NodeFault}
 use Rattle.sab_automata_reader.specs.declared.automata_text.faults.NodeFault.TheVariants as node
 use Rattle.sab_automata_reader.specs.declared.automata_text.faults.AutomatonFault.{AutomatonFault}
@@ -26,7 +28,7 @@ use Rattle.sab_automata_reader.specs.declared.automata_text.faults.FileFault.{Fi
 use Rattle.sab_automata_reader.specs.declared.automata_text.faults.FileFault.TheVariants as file
 use Rattle.sab_automata_reader.specs.declared.automata_text.faults.Refusal.{Refusal}
 use Rattle.sab_automata_reader.specs.declared.automata_text.faults.Refusal.TheVariants as refusal
-use Rattle.sab_automata_reader.specs.AutomataText.Faults.{edge_number, edges_number, access_number, node_number, automaton_number}
+use Rattle.sab_automata_reader.specs.AutomataText.Faults.{edge_number, edges_number, access_number, choice_number, node_number, automaton_number}
 use Rattle.sab_automata_reader.specs.AutomataText.Faults.{automata_number, agent_number, agents_number, file_number, refusal_number}
 use Rattle.sab_replay.specs.declared.faults.tool_fault.ToolFault.{ToolFault}
 use Rattle.sab_replay.specs.declared.faults.tool_fault.ToolFault.TheVariants.{TooMany, OutOfMemory, BadShape, BadName, BadNumber, BadCall, BadView, BadAgent, NotJson, TooLong, NoBlock, BadEdge, NoNode, BadRange}
@@ -79,6 +81,10 @@ of_access (access.NoWhole n reason) none = of_read (fault_of reason) none
 of_access access.NoHex none = none BadShape refl
 of_access access.NoRange none = none BadRange refl
 
+of_choice : (f : ChoiceFault) → HasNone (choice_number f) → ⊥
+of_choice (choice.NoWhole reason) none = of_read (fault_of reason) none
+of_choice (choice.NoCount n) none = none BadNumber refl
+
 of_node : (f : NodeFault) → HasNone (node_number f) → ⊥
 of_node node.Shape none = none BadShape refl
 of_node (node.Call r) none = of_read (fault_of r.why) none
@@ -89,6 +95,7 @@ of_node node.NotFinished none = none BadShape refl
 of_node node.NoText none = none BadShape refl
 of_node (node.Edges f) none = of_edges f none
 of_node (node.WriteEdges n) none = none BadEdge refl
+of_node (node.Choose f) none = of_choice f none
 
 of_automaton : (f : AutomatonFault) → HasNone (automaton_number f) → ⊥
 of_automaton automaton.Shape none = none BadShape refl
