@@ -43,7 +43,8 @@ test("a finding that needs more calls than a script may have is no contradiction
 
 test("what there is no time to show, or no room, is said for each finding", async () => {
   const one = {
-    kind: "threw", text: "", states: 1, changes: 0, acts: 1, isEarly: false, goesOn: false, spins: false, choices: [[], []],
+    kind: "threw", text: "", states: 1, changes: 0, acts: 1, isEarly: false, goesOn: false, spins: false,
+    choices: [[], []],
   };
   const findings = /** @type {any[]} */ ([
     { ...one, row: [0], calls: [1, 0] }, { ...one, row: [1], calls: [1, 1_001] },

@@ -23,7 +23,7 @@ function whole(thrown) {
   }
 }
 
-/** @param {unknown} thrown @returns {boolean} whether its message may quote code: that of a clone has a function's text */
+/** @param {unknown} thrown @returns {boolean} whether its message may quote code, as that of a function's clone does */
 const mayQuote = (thrown) =>
   thrown instanceof TypeError || (thrown instanceof DOMException && thrown.name === "DataCloneError");
 
