@@ -101,16 +101,14 @@ export function positionIn(list, item) {
 /** @type {WeakMap<object, object>} functions of the engine and of node, by what stands for them */
 const stoodFor = new WeakMap();
 
-/** @param {object} stand @param {object} engine the function for which it stands */
-export function standFor(stand, engine) {
-  weakSet(stoodFor, stand, engine);
-}
-
 /** @param {any} value @returns {any} the function for which it stands, if it does; else the value */
-export function engineOf(value) {
-  let found = value;
-  for (let next = weakGet(stoodFor, found); next !== undefined; next = weakGet(stoodFor, found)) found = next;
-  return found;
+export const engineOf = (value) => weakGet(stoodFor, value) ?? value;
+
+/** @param {object} stand @param {object} engine the function for which it stands, or what stands for that one */
+export function standFor(stand, engine) {
+  const found = engineOf(engine);
+  // What is put back stands for nothing.
+  if (found !== stand) weakSet(stoodFor, stand, found);
 }
 
 const { Proxy: EngineProxy } = globalThis;

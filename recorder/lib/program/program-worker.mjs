@@ -204,7 +204,8 @@ function partsOf(player, blocks, control) {
   const all = new Threads(agent, board, table, moves);
   /** @type {import("./thread/unwinding.mjs").DeferredServices} */
   const late = {};
-  const later = /** @type {ThreadServices["later"]} */ ((...given) => late.loop?.later(...given));
+  const later = /** @type {ThreadServices["later"]} */ ((name, act, place, order) =>
+    late.loop?.later(name, act, place, order));
   const notes = new TaskNotes(shared.tasks);
   /** @type {import("./workers/ends.mjs").Leaving["note"]} */
   const note = (text, place) => late.loop?.note(text, place);

@@ -61,7 +61,8 @@ export class Tasks {
   take() {
     for (;;) {
       const at = this.#next();
-      const [task] = this.#all.splice(at, 1);
+      // A program may replace the iterators of arrays.
+      const task = this.#all.splice(at, 1)[0];
       if (this.#areInOrder || task.left < 2) return task;
       // Its next request comes behind those that wait for a thread of the pool.
       task.left -= 1;

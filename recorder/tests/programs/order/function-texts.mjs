@@ -9,8 +9,8 @@ const seen = new Set();
 const texts = new Map();
 
 // Each member that a program can reach by strings. Of those by symbols only the language's own are there in both.
-const keysOf = (owner) => Reflect.ownKeys(owner).filter((key) => typeof key === "string"
-  || Object.values(Object.getOwnPropertyDescriptors(Symbol)).some(({ value }) => value === key));
+const WELL_KNOWN = new Set(Object.getOwnPropertyNames(Symbol).map((name) => Symbol[name]));
+const keysOf = (owner) => Reflect.ownKeys(owner).filter((key) => typeof key === "string" || WELL_KNOWN.has(key));
 
 function walk(name, value, depth) {
   if ((typeof value !== "object" && typeof value !== "function") || value === null || seen.has(value)) return;
