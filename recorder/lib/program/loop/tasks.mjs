@@ -45,7 +45,12 @@ export class Tasks {
     this.#begun = 0;
   }
 
-  /** A run begins. @param {number} seed @param {number} agent @param {boolean} isPilot */
+  /**
+   * A run begins.
+   * @param {number} seed
+   * @param {number} agent
+   * @param {boolean} isPilot
+   */
   begin(seed, agent, isPilot) {
     this.#random.seedApart(seed, RESULTS + agent);
     this.#areInOrder = isPilot || this.#random.below(2) === 0;

@@ -64,7 +64,8 @@ export class FileHandle extends Emitter {
    * @param {{ signal?: AbortSignal, trips?: number }} [how]
    * @returns {Promise<any>}
    */
-  #do(name, act, { signal, trips = 1 } = {}) {
+  #do(name, act, how = {}) {
+    const { signal, trips = 1 } = how;
     return promiseLater(this.#given, name, () => {
       if (this.#fd === -1) throw nodeError("EBADF", "file closed", { syscall: name });
       return act(this.#fd);

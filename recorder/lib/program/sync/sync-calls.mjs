@@ -63,7 +63,8 @@ export function callLater({ later }, name, done, values, order = orderOf(name)) 
  * @param {{ signal?: AbortSignal, order?: Order }} [how]
  * @returns {Promise<any>}
  */
-export function promiseLater({ later }, name, act, { signal, order = orderOf(name) } = {}) {
+export function promiseLater({ later }, name, act, how = {}) {
+  const { signal, order = orderOf(name) } = how;
   const { value, problem } = outcomeOf(act);
   return new Promise((resolve, reject) => {
     later(resultOf(name), () => {
