@@ -110,10 +110,10 @@ function rowsOfCrates() {
   return rows;
 }
 
-test("there are at most 30 crates in 10 rows, and each uses only crates of lower rows", () => {
+test("there are at most 31 crates in 10 rows, and each uses only crates of lower rows", () => {
   const rows = rowsOfCrates();
   assert.deepEqual([...CRATES.keys()].filter((name) => !rows.has(name)), []);
-  assert.ok(CRATES.size <= 30 && Math.max(...rows.values()) < 10, `${CRATES.size} crates`);
+  assert.ok(CRATES.size <= 31 && Math.max(...rows.values()) < 10, `${CRATES.size} crates`);
   const wrong = [...CRATES].flatMap(([name, uses]) =>
     uses.filter((used) => rows.get(used) >= rows.get(name)).map((used) => `${name} uses ${used}`));
   assert.deepEqual(wrong, []);

@@ -1,0 +1,16 @@
+pub mod Histories
+pub mod Effects
+pub mod Sound
+pub mod Complete
+pub mod Turns
+pub mod Closures
+pub mod Monitors
+pub mod Loops
+pub mod Wider
+pub mod Blocked
+pub mod Completed
+pub mod Renamed
+pub mod Followed
+pub mod Orders
+pub mod Taken
+pub mod Cells
