@@ -14,3 +14,4 @@ pub mod Followed
 pub mod Orders
 pub mod Taken
 pub mod Cells
+pub mod Marked

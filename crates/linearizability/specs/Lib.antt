@@ -6,3 +6,4 @@ pub mod Model
 pub mod Rows
 pub mod Sorted
 pub mod Search
+pub mod Marks
