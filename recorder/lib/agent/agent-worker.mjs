@@ -13,10 +13,13 @@ import threads from "node:worker_threads";
 import { Board } from "../board/board.mjs";
 import { Choices } from "../memory/choice-list.mjs";
 import { ORDER } from "../memory/layout.mjs";
+import { OperationList } from "../memory/operation-list.mjs";
 import { RecordedMemory } from "../memory/recorded-memory.mjs";
 import { Notes } from "../memory/notes.mjs";
 import { Records } from "../memory/records.mjs";
 import { Sources } from "../memory/sources.mjs";
+import { clientOf } from "../objects/object-client.mjs";
+import { isObjectModule, useOf } from "../objects/object-module.mjs";
 import { ownKeys, put } from "../primordials.mjs";
 import { onceMore } from "../processes/garbage.mjs";
 import { recordedAtomics } from "./atomics.mjs";
@@ -34,6 +37,7 @@ import { watchOrdinary, watchWaysOut } from "./ordinary/watch.mjs";
 import { isWatchable, watchMaking } from "./other-memory.mjs";
 import { OwnClock } from "./own-clock.mjs";
 import { Player } from "./player.mjs";
+import { recordedOperations } from "./recorded-operations.mjs";
 import { Chance, simulateChance, simulateTime } from "./time.mjs";
 import { Unseen } from "./unseen.mjs";
 
@@ -67,6 +71,9 @@ function printAtOnce() {
 
 const NO_AGENT = "it has no function as its default export, as `export default function agent({ buffers }) { .. }`";
 
+/** So many agents use an object in each run if their number isn't given, and others may stay away. */
+const STAYING = 2;
+
 /**
  * @typedef {object} AgentWorkerData what a worker is started with
  * @property {import("node:worker_threads").MessagePort} port
@@ -75,6 +82,8 @@ const NO_AGENT = "it has no function as its default export, as `export default f
  * @property {"run" | "real"} clock
  * @property {"fail" | "allow"} unrecorded
  * @property {number} rounds
+ * @property {number} [count] how many agents there are, if that is given
+ * @property {number} each how many operations of an object each agent makes at most
  * @property {import("./own-clock.mjs").ChosenTime} [chosenTime] if the tool chooses when time passes, and what chance
  * gives
  * @property {string} module the URL of the agents' module
@@ -88,7 +97,7 @@ const NO_AGENT = "it has no function as its default export, as `export default f
  */
 
 const {
-  port, args, ordinary, clock, unrecorded, rounds, chosenTime, module: file,
+  port, args, ordinary, clock, unrecorded, rounds, count, each, chosenTime, module: file,
 } = /** @type {AgentWorkerData} */ (threads.workerData);
 // Agents and their worker get another `postMessage`, which looks at what it is given.
 const post = port.postMessage.bind(port);
@@ -234,10 +243,37 @@ function namesIn(module, agent) {
   return names;
 }
 
+/** @param {Record<string, unknown>} others `init` and `check` of a module */
+function needsFunctions(others) {
+  const names = ["init", "check"];
+  for (let at = 0; at < names.length; at += 1) {
+    const found = others[names[at]];
+    if (found !== undefined && typeof found !== "function") {
+      throw new EngineError(`its export ${names[at]} is no function`);
+    }
+  }
+}
+
+/**
+ * Reports what a module of an object exports.
+ * @param {any} module
+ * @returns {{ default: Function, init?: Function, check?: Function, isObject: true }} the tool makes its agents
+ */
+function loadedObject(module) {
+  const { init, check, setup } = module;
+  needsFunctions({ init, check });
+  needsPlain(setup);
+  const staying = count === undefined && setup?.agents === undefined ? STAYING : 0;
+  const agent = clientOf(useOf(module, { isAlone: false, each, staying }));
+  const there = { hasInit: init !== undefined, hasCheck: check !== undefined, isObject: true };
+  post({ setup, names: namesIn(module, agent), ...there });
+  return { default: agent, init, check, isObject: true };
+}
+
 /**
  * Imports the agents' module, and reports what it exports besides the agent.
  * @param {(url: string) => Promise<any>} load
- * @returns {Promise<{ default: Function, init?: Function, check?: Function } | undefined>}
+ * @returns {Promise<{ default: Function, init?: Function, check?: Function, isObject?: boolean } | undefined>}
  */
 async function loaded(load) {
   try {
@@ -245,21 +281,14 @@ async function loaded(load) {
     // A compiled CommonJS module has its exports in its default export.
     const isCompiled = typeof found.default === "object" && typeof found.default?.default === "function";
     const module = isCompiled ? found.default : found;
+    if (isObjectModule(module)) return loadedObject(module);
     if (typeof module.default !== "function") throw new EngineError(NO_AGENT);
     const { default: agent } = module;
     // A CommonJS module that exports a function has the others as its properties.
     const { init = agent.init, check = agent.check, setup = agent.setup } = module;
-    /** @type {Record<string, unknown>} */
-    const others = { init, check };
-    const names = ["init", "check"];
-    for (let at = 0; at < names.length; at += 1) {
-      const found = others[names[at]];
-      if (found !== undefined && typeof found !== "function") {
-        throw new EngineError(`its export ${names[at]} is no function`);
-      }
-    }
+    needsFunctions({ init, check });
     needsPlain(setup);
-    const there = { hasInit: init !== undefined, hasCheck: check !== undefined };
+    const there = { hasInit: init !== undefined, hasCheck: check !== undefined, isObject: false };
     post({ setup, names: namesIn(module, agent), ...there });
     return { default: agent, init, check };
   } catch (problem) {
@@ -313,8 +342,9 @@ function playerOf({ memory, plan, rules }, { later, messages }) {
  * @param {NonNullable<Awaited<ReturnType<typeof loaded>>>} module
  * @param {number} agents how many
  * @param {Chooser} chooser
+ * @param {import("../objects/object-client.mjs").OperationMarks} [marks] what the agents of an object call
  */
-function serve(module, agents, chooser) {
+function serve(module, agents, chooser, marks) {
   const player = playing();
   /** @type {Chooser["chosen"]} */
   const chosen = (asked, called) => {
@@ -342,11 +372,23 @@ function serve(module, agents, chooser) {
     const play = () => {
       chooser.begin();
       const { again, choose } = choicesBy(chosen);
-      return agent({ buffers: buffers(), agent: self.agent, agents, args: words(), again, choose });
+      const given = { buffers: buffers(), agent: self.agent, agents, args: words(), again, choose };
+      return marks === undefined ? agent(given) : agent(given, marks);
     };
     if (order === ORDER.PLAY) player.play(play, described);
     else player.serve(() => (order === ORDER.INIT ? module.init : module.check)?.(buffers(), own), described);
   }
+}
+
+/**
+ * @param {AgentGroupData["memory"]} memory
+ * @param {Player} player
+ * @returns {import("../objects/object-client.mjs").OperationMarks | undefined} what it calls if it uses an object; the
+ * worker that calls only `init` and `check` has none
+ */
+function marksOf({ operations }, player) {
+  const own = operations?.[self.agent];
+  return own === undefined ? undefined : recordedOperations(player, new OperationList(own));
 }
 
 /** @returns {Promise<any>} the next message, which mustn't have come yet */
@@ -374,6 +416,7 @@ export async function main(load) {
   const player = playerOf(given, noting);
   self.player = player;
   post({ ready: true });
-  self.chooser = new Chooser(player.part, new Choices(given.memory.choices[self.agent]), rounds);
-  serve(module, given.plan.agents, self.chooser);
+  const most = module.isObject && each !== Infinity ? each : rounds;
+  self.chooser = new Chooser(player.part, new Choices(given.memory.choices[self.agent]), most);
+  serve(module, given.plan.agents, self.chooser, marksOf(given.memory, player));
 }

@@ -28,6 +28,12 @@ import { NO_SCRIPT, realIn, unrecordedIn } from "./words/unseen-text.mjs";
 /** @typedef {import("./windows/in-windows.mjs").Written} Written */
 /** @typedef {import("../memory/task-notes.mjs").TaskNote} TaskNote */
 
+/** How a run ends that doesn't fail. */
+const PASSING = ["finished", "cut", "blocked"];
+
+/** A run of an object whose history doesn't fit: its detail says which operation. */
+const OF_HISTORIES = ["not linearizable", "lost wake-up"];
+
 export class RunReporter {
   /** @param {import("./run-maker.mjs").RefereeWorkerData} given @param {import("./run-maker.mjs").RunMaker} maker */
   constructor({ memory, plan, options }, maker) {
@@ -63,7 +69,7 @@ export class RunReporter {
     const real = realIn(found.real ?? [], this.sourceNames.placeName);
     const isAllowed = (ending === "limit" && options.limits === "allow")
       || (ending === "stuck" && options.stuck === "allow");
-    const fails = ending !== "finished" && ending !== "cut" && !isAllowed;
+    const fails = !PASSING.includes(ending) && !isAllowed;
     const early = deadlines.early();
     const missed = maker.state.whyMissed;
     return {
@@ -276,8 +282,8 @@ export class RunReporter {
     const sourceOf = (agent) => (places[agent] === "" ? "" : sourceNames.nameOf(places[agent]));
     const waits = waitsOf(waiting, transcript, sourceOf);
     const stands = [...waits.map(waitText), ...askingLines(asking, transcript, sourceOf)];
-    const isStill = ending === "deadlock" || ending === "limit";
-    const isThrown = ending === "failed" || ending === "check";
+    const isStill = ending === "deadlock" || ending === "limit" || ending === "lost wake-up";
+    const isThrown = ending === "failed" || ending === "check" || OF_HISTORIES.includes(ending);
     const failure = () => (isThrown ? thrownIn(detail, sourceNames) : standstillOf(detail, waits));
     return {
       detail: [detail, ...stands].filter((line) => line !== "").join("\n"),
