@@ -2,6 +2,7 @@
 // Things that have the same message, without its numbers, are one finding.
 
 import { choiceOf } from "../../../script/choices.mjs";
+import { verdictOf } from "../../objects/history.mjs";
 import { actorOf, chosenIn } from "../search/chosen-acts.mjs";
 import { DOES, isChoice } from "../search/nodes.mjs";
 import { endingHere } from "../search/result.mjs";
@@ -16,7 +17,9 @@ import { problemOf } from "./thrown.mjs";
 
 /** @typedef {import("../../../script/choices.mjs").AgentChoice} AgentChoice */
 
-/** @typedef {"deadlock" | "threw" | "check" | "race" | "no way out"} FindingKind */
+/**
+ * @typedef {"deadlock" | "threw" | "check" | "race" | "no way out" | "not linearizable" | "lost wake-up"} FindingKind
+ */
 
 /**
  * @typedef {object} Finding
@@ -92,6 +95,7 @@ export class Findings {
   #hasAny() {
     const { kinds, problems } = this;
     const named = kinds.failed.size + kinds.conflicts.size + problems.size;
+    if (kinds.wrong !== undefined || kinds.lost !== undefined) return true;
     return named > 0 || kinds.deadlock !== undefined || (kinds.noWayOut !== undefined && !kinds.neverEnds);
   }
 
@@ -123,12 +127,14 @@ export class Findings {
   #at(state) {
     const { kinds, search, search: { world } } = this;
     world.load(state);
-    const { texts, isDeadlock, isFinal } = endingHere(search);
+    const { texts, isDeadlock, isFinal, isLost, isWrong } = endingHere(search);
     /** @type {StateFinding[]} */
     const here = [];
     // In most states nobody has thrown, and what a set gives to a list takes time here.
     if (texts.size > 0) here.push(...[...texts].map(threwText));
     if (isDeadlock) here.push(this.#deadlock());
+    if (isWrong) here.push({ key: "not linearizable", kind: "not linearizable", text: "" });
+    if (isLost || kinds.spins(state)) here.push({ key: `lost wake-up ${isLost}`, kind: "lost wake-up", text: "" });
     const problem = isFinal ? this.problems.get(world.memory) : undefined;
     if (problem !== undefined) here.push({ key: `check ${plain(problem)}`, kind: "check", text: problem });
     if (kinds.conflicts.size > 0) here.push(...this.#races());
@@ -167,9 +173,27 @@ export class Findings {
   #finding({ key, kind, text, states }, { state, way, names, changes, isEarly }) {
     const { calls, choices, lastChooser, row, spins } = this.#wayOf(way);
     const next = (this.#at(state).find((one) => one.key === key)?.next ?? []).map((agent) => names[agent]);
-    const goesOn = kind === "race" || kind === "no way out";
+    const isSpinning = kind === "lost wake-up" && this.kinds.spins(state);
+    const goesOn = kind === "race" || kind === "no way out" || kind === "not linearizable" || isSpinning;
     const moves = { row: [...row, ...next], calls, choices, lastChooser, changes, acts: way.length };
-    return { kind, text, states, ...moves, isEarly, goesOn, spins };
+    return { kind, text: this.#historyText(kind, way) ?? text, states, ...moves, isEarly, goesOn, spins };
+  }
+
+  /**
+   * @param {FindingKind} kind
+   * @param {number[]} way the acts in their order
+   * @returns {string | undefined} of a finding about the history of an object: what the operations are
+   */
+  #historyText(kind, way) {
+    const { learned: { object }, search: { world } } = this;
+    if (object === undefined || (kind !== "not linearizable" && kind !== "lost wake-up")) return undefined;
+    const { operations } = object;
+    world.restart();
+    operations.journal = [];
+    for (const act of way) world.step(actorOf(act), chosenIn(act));
+    const events = operations.journal;
+    operations.journal = undefined;
+    return verdictOf(object, events, "deadlock")?.detail;
   }
 
   /**

@@ -2,7 +2,6 @@
 // code may never come back.
 
 import { Monitor } from "../../objects/monitor.mjs";
-import { marksBy } from "../../objects/operation-marks.mjs";
 import { planOf } from "../../options/plan.mjs";
 import { basesOf } from "../search/file.mjs";
 import { MonitoredOperations } from "../search/operations.mjs";
@@ -11,6 +10,7 @@ import { CantLearn } from "./asked-nodes.mjs";
 import { OwnClock } from "../../agent/own-clock.mjs";
 import { KeepsClock } from "./clock-rounds.mjs";
 import { Learner, LooksAtClock, LooksAtNumber } from "./learner.mjs";
+import { learnedMarks } from "./learned-marks.mjs";
 import { PART } from "./learning-progress.mjs";
 import { ObjectModel, Outcomes } from "./object-model.mjs";
 import { problemOf } from "./thrown.mjs";
@@ -101,13 +101,8 @@ export class Learned {
 
   /** @returns {import("../../objects/object-client.mjs").OperationMarks} what the client of an object calls */
   #marks() {
-    const { asker, code: { builtins: { names } } } = this;
-    const marks = marksBy({
-      lacks: (name) => asker.refuse(`\`operations\` names \`${name}\`, and the object has no such method`),
-      begins: (call) => asker.begins(call),
-      ends: (outcome) => asker.ends(outcome),
-      refuse: (what) => asker.refuse(`an operation returns ${what}, and that can't be compared`),
-    });
+    const marks = learnedMarks(this.asker);
+    const { names } = this.code.builtins;
     names.set(marks.lacks, "lacks").set(marks.begins, "begins").set(marks.ends, "ends");
     return marks;
   }

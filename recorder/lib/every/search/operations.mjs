@@ -30,6 +30,8 @@ export class MonitoredOperations {
     this.outcomes = outcomes;
     this.width = 1 + agents;
     this.set = monitor.first;
+    /** @type {import("../../objects/history.mjs").HistoryEvent[] | undefined} gets all that begins and ends */
+    this.journal = undefined;
     /** @type {number[]} of each agent one more than the call that it has chosen and not begun */
     this.chosen = Array.from({ length: agents }, () => NOTHING);
   }
@@ -57,12 +59,15 @@ export class MonitoredOperations {
   /** @param {number} agent */
   acts(agent) {
     if (this.chosen[agent] === NOTHING) return;
-    this.set = this.monitor.begins(this.set, agent, this.chosen[agent] - 1);
+    const call = this.chosen[agent] - 1;
+    this.journal?.push({ agent, call });
+    this.set = this.monitor.begins(this.set, agent, call);
     this.chosen[agent] = NOTHING;
   }
 
   /** @param {number} agent @param {string} outcome */
   ends(agent, outcome) {
+    this.journal?.push({ agent, outcome });
     this.set = this.monitor.ends(this.set, agent, this.outcomes.numberOf(outcome));
   }
 

@@ -20,7 +20,7 @@ import { Lists, StateRows } from "./state-rows.mjs";
  * @property {boolean} mayLack whether edges may not be there for good
  * @property {(node: Node, answer: Answer, bytes: Uint8Array) => Node | undefined} learn finds the node to which an edge
  * leads that isn't there yet; it may read these bytes. Undefined: nobody knows it
- * @property {import("./operations.mjs").Operations} [operations] of an object that the agents use: what goes along
+ * @property {any} [operations] of an object that the agents use: what goes along, as `Operations`
  */
 
 /** A result that has no edge. */
