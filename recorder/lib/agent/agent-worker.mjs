@@ -18,9 +18,7 @@ import { RecordedMemory } from "../memory/recorded-memory.mjs";
 import { Notes } from "../memory/notes.mjs";
 import { Records } from "../memory/records.mjs";
 import { Sources } from "../memory/sources.mjs";
-import { clientOf } from "../objects/object-client.mjs";
-import { isObjectModule, useOf } from "../objects/object-module.mjs";
-import { ownKeys, put } from "../primordials.mjs";
+import { put } from "../primordials.mjs";
 import { onceMore } from "../processes/garbage.mjs";
 import { recordedAtomics } from "./atomics.mjs";
 import { Chooser } from "./chooser.mjs";
@@ -29,6 +27,7 @@ import { ChosenChance } from "./chosen-chance.mjs";
 import { shareWithContexts } from "./contexts.mjs";
 import { described } from "./described.mjs";
 import { isCalledByAgents, sourceHere } from "./frames.mjs";
+import { loadedModule } from "./loaded-module.mjs";
 import { PendingWork } from "./pending-work.mjs";
 import { Messages } from "./messages.mjs";
 import { blockNumber } from "./ordinary/context.mjs";
@@ -41,7 +40,7 @@ import { recordedOperations } from "./recorded-operations.mjs";
 import { Chance, simulateChance, simulateTime } from "./time.mjs";
 import { Unseen } from "./unseen.mjs";
 
-const { Error: EngineError, String: text, structuredClone: cloned } = globalThis;
+const { Error: EngineError } = globalThis;
 
 // A worker's own streams are written by its event loop, which never runs again. What agents print goes to
 // standard error at once: standard output is the recorder's.
@@ -68,11 +67,6 @@ function printAtOnce() {
     Object.defineProperty(process, name, { value: stream, configurable: true });
   }
 }
-
-const NO_AGENT = "it has no function as its default export, as `export default function agent({ buffers }) { .. }`";
-
-/** So many agents use an object in each run if their number isn't given, and others may stay away. */
-const STAYING = 2;
 
 /**
  * @typedef {object} AgentWorkerData what a worker is started with
@@ -203,94 +197,15 @@ function installReplacements() {
 }
 
 /**
- * Makes sure that a module's `setup` can be handed on.
- * @param {any} setup
- * @throws {Error} which says what of it is no plain data
- */
-function needsPlain(setup) {
-  const must = "`setup` must be plain data, as { agents: 2, buffers: [12] }";
-  if (typeof setup === "function") throw new EngineError(`${must}, but it is a function`);
-  if (typeof setup !== "object" || setup === null) return;
-  const keys = ownKeys(setup);
-  for (let at = 0; at < keys.length; at += 1) {
-    const value = setup[keys[at]];
-    try {
-      cloned(value);
-    } catch {
-      const what = typeof value === "function" ? "is a function" : "has something else in it";
-      throw new EngineError(`${must}, but its member ${text(keys[at])} ${what}`);
-    }
-  }
-}
-
-/**
- * The names under which a module exports something, and those of its agent's own properties.
- * @param {object} module
- * @param {Function} agent
- * @returns {string[]}
- */
-function namesIn(module, agent) {
-  /** @type {string[]} */
-  const names = [];
-  const owners = [module, agent];
-  for (let owner = 0; owner < owners.length; owner += 1) {
-    const keys = ownKeys(owners[owner]);
-    for (let at = 0; at < keys.length; at += 1) {
-      const key = keys[at];
-      if (typeof key === "string") names[names.length] = key;
-    }
-  }
-  return names;
-}
-
-/** @param {Record<string, unknown>} others `init` and `check` of a module */
-function needsFunctions(others) {
-  const names = ["init", "check"];
-  for (let at = 0; at < names.length; at += 1) {
-    const found = others[names[at]];
-    if (found !== undefined && typeof found !== "function") {
-      throw new EngineError(`its export ${names[at]} is no function`);
-    }
-  }
-}
-
-/**
- * Reports what a module of an object exports.
- * @param {any} module
- * @returns {{ default: Function, init?: Function, check?: Function, isObject: true }} the tool makes its agents
- */
-function loadedObject(module) {
-  const { init, check, setup } = module;
-  needsFunctions({ init, check });
-  needsPlain(setup);
-  const staying = count === undefined && setup?.agents === undefined ? STAYING : 0;
-  const agent = clientOf(useOf(module, { isAlone: false, each, staying }));
-  const there = { hasInit: init !== undefined, hasCheck: check !== undefined, isObject: true };
-  post({ setup, names: namesIn(module, agent), ...there });
-  return { default: agent, init, check, isObject: true };
-}
-
-/**
  * Imports the agents' module, and reports what it exports besides the agent.
  * @param {(url: string) => Promise<any>} load
- * @returns {Promise<{ default: Function, init?: Function, check?: Function, isObject?: boolean } | undefined>}
+ * @returns {Promise<import("./loaded-module.mjs").LoadedModule | undefined>}
  */
 async function loaded(load) {
   try {
-    const found = await load(file);
-    // A compiled CommonJS module has its exports in its default export.
-    const isCompiled = typeof found.default === "object" && typeof found.default?.default === "function";
-    const module = isCompiled ? found.default : found;
-    if (isObjectModule(module)) return loadedObject(module);
-    if (typeof module.default !== "function") throw new EngineError(NO_AGENT);
-    const { default: agent } = module;
-    // A CommonJS module that exports a function has the others as its properties.
-    const { init = agent.init, check = agent.check, setup = agent.setup } = module;
-    needsFunctions({ init, check });
-    needsPlain(setup);
-    const there = { hasInit: init !== undefined, hasCheck: check !== undefined, isObject: false };
-    post({ setup, names: namesIn(module, agent), ...there });
-    return { default: agent, init, check };
+    const { module, has } = loadedModule(await load(file), { count, each });
+    post(has);
+    return module;
   } catch (problem) {
     post({ failed: described(problem) });
     return undefined;
@@ -339,7 +254,7 @@ function playerOf({ memory, plan, rules }, { later, messages }) {
 
 /**
  * Does what it is ordered, again and again.
- * @param {NonNullable<Awaited<ReturnType<typeof loaded>>>} module
+ * @param {import("./loaded-module.mjs").LoadedModule} module
  * @param {number} agents how many
  * @param {Chooser} chooser
  * @param {import("../objects/object-client.mjs").OperationMarks} [marks] what the agents of an object call

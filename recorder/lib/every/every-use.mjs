@@ -11,11 +11,15 @@ import { Every } from "./every.mjs";
  * @typedef {object} TriedUses what was tried of an object
  * @property {UseSize[]} finished
  * @property {UseSize} size of the search that is reported
+ * @property {UseSize} next the size that was tried last
  * @property {string | undefined} open why no more sizes were tried, if that isn't a failure that was found
  * @property {boolean} isEnough whether the sizes were finished that must be
  */
 
 /** @typedef {EveryResult & { uses?: TriedUses }} EveryUseResult */
+
+const NOT_JUDGED = "some histories weren't judged: they need more than 65,536 states of what is right, or 100,000 "
+  + "configurations";
 
 /** So many agents, each with so many operations, must be finished if no size is given. */
 const ENOUGH = Object.freeze([{ agents: 2, each: 2 }, { agents: 3, each: 1 }]);
@@ -103,19 +107,30 @@ export class EveryUse {
     let last;
     for (const size of sizes) {
       const isEnough = isGiven ? finished.length > 0 : ENOUGH.every((one) => isWithin(finished, one));
-      if (last !== undefined && this.#left() <= 0) return { ...last, uses: { .../** @type {any} */ (last.uses), isEnough } };
+      if (last !== undefined && this.#left() <= 0) return notFinished(last, size, "its time was over", isEnough);
       const tried = await this.#search({ ...this.options, ...size, within: Math.max(this.#left(), 0) });
       if (tried.report !== undefined && tried.report.object === undefined) return await this.#search(this.options);
       const isFound = tried.shown.length > 0 || tried.onlyRuns.length > 0;
-      const isClosed = tried.open === undefined && !tried.isCut;
+      const isJudged = tried.report?.object?.notJudged === 0 && tried.report.object.isFinished;
+      const isClosed = tried.open === undefined && !tried.isCut && isJudged;
       if (!isClosed && !isFound && last !== undefined) {
-        const { uses } = /** @type {{ uses: TriedUses }} */ (last);
-        return { ...last, uses: { ...uses, open: tried.open ?? "its time was over", isEnough } };
+        return notFinished(last, size, tried.open ?? (isJudged ? "its time was over" : NOT_JUDGED), isEnough);
       }
       if (isClosed) finished.push(size);
-      last = { ...tried, uses: { finished: [...finished], size, open: undefined, isEnough: isGiven && isClosed } };
+      const uses = { finished: [...finished], size, next: size, open: undefined, isEnough: isGiven && isClosed };
+      last = { ...tried, uses };
       if (!isClosed || isFound) return last;
     }
     return /** @type {EveryUseResult} */ (last);
   }
 }
+
+/**
+ * @param {EveryUseResult} last of the sizes that were finished
+ * @param {UseSize} next that wasn't
+ * @param {string} open why
+ * @param {boolean} isEnough
+ * @returns {EveryUseResult}
+ */
+const notFinished = (last, next, open, isEnough) =>
+  ({ ...last, uses: { .../** @type {TriedUses} */ (last.uses), next, open, isEnough } });

@@ -25,10 +25,7 @@ import { TextMaker } from "./run-snapshot.mjs";
 /** @typedef {import("./outcome.mjs").Outcome} Outcome */
 /** @typedef {import("./outcome.mjs").WantedRun} WantedRun */
 
-/**
- * @typedef {{ setup: unknown, names: string[], hasInit: boolean, hasCheck: boolean, isObject: boolean }} Has what a
- * module has
- */
+/** @typedef {import("../agent/loaded-module.mjs").Has} Has */
 /** @typedef {{ thread: Thread, has: Has }} Loaded */
 
 /**

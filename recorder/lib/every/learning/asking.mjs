@@ -59,6 +59,12 @@ const hasMore = (buffer) =>
   Reflect.ownKeys(buffer).length > 0 || Reflect.getPrototypeOf(buffer) !== ofBuffers || !Reflect.isExtensible(buffer);
 
 export class Asker {
+  /** Whether the agent has made a call of Atomics since it began the operation that it makes. */
+  hasActed = false;
+
+  /** @type {CantLearn | undefined} why the agent can't be learned */
+  refused;
+
   constructor() {
     /** @type {number[]} of each buffer where it begins in the bytes of all */
     this.bases = [];
@@ -92,12 +98,8 @@ export class Asker {
     this.looks = 0;
     /** @type {string | undefined} why what the agent makes of a choice can't be shown */
     this.unshown = undefined;
-    /** Whether the agent has made a call of Atomics since it began the operation that it makes. */
-    this.hasActed = false;
     /** @type {() => string} where the agent that runs now is */
     this.lineHere = () => "a place that isn't known";
-    /** @type {CantLearn | undefined} why the agent can't be learned */
-    this.refused = undefined;
     const isRunning = () => this.run !== undefined && !this.isBroken;
     this.promises = new LeftPromises(isRunning, () => this.#stop(GOES_ON, this.lineHere()));
   }

@@ -16,6 +16,7 @@ import { problemOf } from "./thrown.mjs";
 /** @typedef {import("../search/result.mjs").Kinds} Kinds */
 
 /** @typedef {import("../../../script/choices.mjs").AgentChoice} AgentChoice */
+/** @typedef {import("../../objects/history.mjs").HistoryEvent} HistoryEvent */
 
 /**
  * @typedef {"deadlock" | "threw" | "check" | "race" | "no way out" | "not linearizable" | "lost wake-up"} FindingKind
@@ -35,6 +36,7 @@ import { problemOf } from "./thrown.mjs";
  * @property {number} acts
  * @property {boolean} isEarly whether a timed wait ends while something else can move
  * @property {boolean} goesOn whether agents go on behind the row
+ * @property {number} operations of an object that are begun on the way, if it is about their history
  * @property {boolean} spins whether an agent stands in a loop of reads on the way, where no real run changes agents
  */
 
@@ -175,25 +177,32 @@ export class Findings {
     const next = (this.#at(state).find((one) => one.key === key)?.next ?? []).map((agent) => names[agent]);
     const isSpinning = kind === "lost wake-up" && this.kinds.spins(state);
     const goesOn = kind === "race" || kind === "no way out" || kind === "not linearizable" || isSpinning;
-    const moves = { row: [...row, ...next], calls, choices, lastChooser, changes, acts: way.length };
-    return { kind, text: this.#historyText(kind, way) ?? text, states, ...moves, isEarly, goesOn, spins };
+    // The choices of agents that use an object are no acts of it.
+    const acts = this.learned.object === undefined ? way.length : row.length;
+    const moves = { row: [...row, ...next], calls, choices, lastChooser, changes, acts };
+    const events = this.#historyOf(kind, way);
+    const operations = events.filter(({ call }) => call !== undefined).length;
+    const { object } = this.learned;
+    const said = object === undefined || operations === 0 ? text : verdictOf(object, events, "deadlock")?.detail ?? text;
+    return { kind, text: said, states, ...moves, isEarly, goesOn, spins, operations };
   }
 
   /**
    * @param {FindingKind} kind
    * @param {number[]} way the acts in their order
-   * @returns {string | undefined} of a finding about the history of an object: what the operations are
+   * @returns {HistoryEvent[]} of a finding about the history of an object: what its agents begin and end
    */
-  #historyText(kind, way) {
+  #historyOf(kind, way) {
     const { learned: { object }, search: { world } } = this;
-    if (object === undefined || (kind !== "not linearizable" && kind !== "lost wake-up")) return undefined;
+    if (object === undefined || (kind !== "not linearizable" && kind !== "lost wake-up")) return [];
     const { operations } = object;
     world.restart();
-    operations.journal = [];
+    /** @type {HistoryEvent[]} */
+    const events = [];
+    operations.journal = events;
     for (const act of way) world.step(actorOf(act), chosenIn(act));
-    const events = operations.journal;
     operations.journal = undefined;
-    return verdictOf(object, events, "deadlock")?.detail;
+    return events;
   }
 
   /**

@@ -56,6 +56,9 @@ const NAMES_REWRITTEN = "it throws an error whose message names code that was re
 /** @typedef {{ node: Node, answer: Answer } | undefined} NodeOrigin of a node: the first edge that has led there */
 
 export class Learner {
+  /** How often an agent's function was called. */
+  runs = 0;
+
   /**
    * @param {import("./asking.mjs").Asker} asker
    * @param {Agents} agents
@@ -85,7 +88,6 @@ export class Learner {
     this.hidden = new Map();
     /** @type {number[]} by the numbers of nodes their places, as far as these are known */
     this.places = [];
-    this.runs = 0;
     this.looksAtNumber = false;
     /** Whether what time it is for an agent is a part of its state. */
     this.hasClock = false;
