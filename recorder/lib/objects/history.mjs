@@ -17,11 +17,16 @@ import { historyTable } from "./history-table.mjs";
 
 /** @typedef {"not linearizable" | "lost wake-up" | "blocked" | "limit"} HistoryEnding */
 
-/** @typedef {{ ending: HistoryEnding, detail: string }} Verdict */
+/**
+ * @typedef {object} Verdict
+ * @property {HistoryEnding} ending
+ * @property {string} detail lines: what was found, and the operations
+ * @property {string} about what was found, in short, so that runs that fail alike are counted together
+ */
 
 const TOO_MANY = "its history isn't judged: it needs more than 65,536 states of the model, or 100,000 configurations";
 
-const LOST = "waits for ever, and in every order that fits some operation that waits could go on";
+const LOST = "for ever, and in every order that fits some operation that waits could go on";
 
 /** @param {string[]} outcomes @returns {string} */
 function outcomesText(outcomes) {
@@ -67,10 +72,11 @@ function openIn(events) {
  */
 function notLinearizable({ calls, monitor, outcomes }, events, { before, at }) {
   const { agent, outcome } = /** @type {EndEvent} */ (events[at]);
-  const call = calls[/** @type {number} */ (openIn(events.slice(0, at)).get(agent))].text;
+  const { name, text: call } = calls[/** @type {number} */ (openIn(events.slice(0, at)).get(agent))];
   const fitting = monitor.outcomesIn(before, agent).map((number) => outcomes.texts[number]);
   const what = `${call} ${outcome}, and in every order that fits it ${outcomesText(fitting)}`;
-  return { ending: "not linearizable", detail: [what, ...historyTable(calls, events.slice(0, at + 1))].join("\n") };
+  const detail = [what, ...historyTable(calls, events.slice(0, at + 1))].join("\n");
+  return { ending: "not linearizable", detail, about: `\`${name}\` ends as in no order of the operations that fits` };
 }
 
 /**
@@ -84,11 +90,13 @@ export function verdictOf(object, events, ending) {
   const { calls, monitor } = object;
   const found = followed(object, events);
   if (found.set === NO_ORDER) return notLinearizable(object, events, found);
-  if (found.set === NOT_JUDGED) return { ending: "limit", detail: TOO_MANY };
+  if (found.set === NOT_JUDGED) return { ending: "limit", detail: TOO_MANY, about: TOO_MANY };
   if ((ending !== "deadlock" && ending !== "limit") || !monitor.hasOpen(found.set)) return undefined;
-  if (monitor.isRightlyBlocked(found.set)) return { ending: "blocked", detail: "" };
+  if (monitor.isRightlyBlocked(found.set)) return { ending: "blocked", detail: "", about: "" };
   if (ending === "limit") return undefined;
-  const waiting = [...openIn(events).values()].map((call) => calls[call].text);
-  const detail = [`${waiting.join(" and ")} ${LOST}`, ...historyTable(calls, events)].join("\n");
-  return { ending: "lost wake-up", detail };
+  const waiting = [...openIn(events).values()].map((call) => calls[call]);
+  const who = waiting.map(({ text }) => text).join(" and ");
+  const detail = [`${who} ${waiting.length === 1 ? "waits" : "wait"} ${LOST}`, ...historyTable(calls, events)].join("\n");
+  const names = [...new Set(waiting.map(({ name }) => `\`${name}\``))].sort().join(" and ");
+  return { ending: "lost wake-up", detail, about: `${names} could go on, and waits for ever` };
 }

@@ -38,6 +38,7 @@ import { unseenText } from "./words/unseen-text.mjs";
  * @property {import("./words/program-names.mjs").ProgramNames} [names] of a program's threads and blocks
  * @property {import("./ending/final-state.mjs").MoreBytes} [more] of a program, in blocks that no script can have
  * @property {import("../memory/choice-list.mjs").ChoiceMade[][]} [choices] of each agent, if one has made some
+ * @property {string} [about] of a run of an object whose history doesn't fit: what was found, in short
  */
 
 /**

@@ -31,9 +31,6 @@ import { NO_SCRIPT, realIn, unrecordedIn } from "./words/unseen-text.mjs";
 /** How a run ends that doesn't fail. */
 const PASSING = ["finished", "cut", "blocked"];
 
-/** A run of an object whose history doesn't fit: its detail says which operation. */
-const OF_HISTORIES = ["not linearizable", "lost wake-up"];
-
 export class RunReporter {
   /** @param {import("./run-maker.mjs").RefereeWorkerData} given @param {import("./run-maker.mjs").RunMaker} maker */
   constructor({ memory, plan, options }, maker) {
@@ -274,7 +271,7 @@ export class RunReporter {
    * @param {import("../../script/text.mjs").Transcript} transcript
    * @returns {Pick<OutcomeScript, "detail" | "standing" | "failure">}
    */
-  #failure({ ending, fails, detail }, { waiting, asking, met }, transcript) {
+  #failure({ ending, fails, detail }, { about, waiting, asking, met }, transcript) {
     const { sources, sourceNames } = this;
     const isAnywhere = waiting.length + asking.length > 0 || met !== undefined;
     const places = isAnywhere ? sources.map((each) => each.marked()) : [];
@@ -283,8 +280,9 @@ export class RunReporter {
     const waits = waitsOf(waiting, transcript, sourceOf);
     const stands = [...waits.map(waitText), ...askingLines(asking, transcript, sourceOf)];
     const isStill = ending === "deadlock" || ending === "limit" || ending === "lost wake-up";
-    const isThrown = ending === "failed" || ending === "check" || OF_HISTORIES.includes(ending);
-    const failure = () => (isThrown ? thrownIn(detail, sourceNames) : standstillOf(detail, waits));
+    const isThrown = ending === "failed" || ending === "check";
+    const said = about === undefined ? detail : about;
+    const failure = () => (isThrown ? thrownIn(detail, sourceNames) : standstillOf(said, waits));
     return {
       detail: [detail, ...stands].filter((line) => line !== "").join("\n"),
       ...(isStill ? { standing: standingsOf({ met, waits, asking }, transcript, sourceOf) } : {}),

@@ -97,7 +97,7 @@ export async function main(load) {
 
 /** @param {AgainWorkerData} given @param {(url: string) => Promise<any>} load */
 async function differing(given, load) {
-  const { module, args, edges, isShared, plan } = given;
+  const { args, edges, isShared, plan } = given;
   const ways = new NodeWays(edges);
   const asker = new Asker();
   asker.clock = new OwnClock(given.isLasting);

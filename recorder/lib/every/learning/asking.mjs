@@ -267,7 +267,10 @@ export class Asker {
     return /** @type {number} */ (this.#ask(askedChoice(asked, what)));
   }
 
-  /** An agent begins an operation of an object. @param {number} call which one */
+  /**
+   * An agent begins an operation of an object.
+   * @param {number} call which one
+   */
   begins(call) {
     this.#enter();
     this.#endWrite();
@@ -275,7 +278,10 @@ export class Asker {
     this.#ask(askedBegin(call));
   }
 
-  /** An agent's operation of an object ends. @param {string} outcome */
+  /**
+   * An agent's operation of an object ends.
+   * @param {string} outcome
+   */
   ends(outcome) {
     this.#enter();
     this.#endWrite();

@@ -9,6 +9,8 @@ import { World } from "../search/world.mjs";
 import { CantLearn } from "./asked-nodes.mjs";
 
 /** @typedef {import("../../objects/monitor.mjs").ModelStep} ModelStep */
+/** @typedef {import("../../objects/monitor.mjs").SequentialObject} SequentialObject */
+/** @typedef {import("../search/operations.mjs").Operations} Operations */
 
 /** A model of more states isn't finished. */
 export const MOST_MODEL_STATES = 65_536;
@@ -39,7 +41,7 @@ export class Outcomes {
 
 /**
  * The outcome of the operation that was made last.
- * @implements {import("../search/operations.mjs").Operations}
+ * @implements {Operations}
  */
 class LastOutcome {
   constructor() {
@@ -72,7 +74,7 @@ class LastOutcome {
   exchange() {}
 }
 
-/** @implements {import("../../objects/monitor.mjs").SequentialObject} */
+/** @implements {SequentialObject} */
 export class ObjectModel {
   /**
    * @param {import("../search/world.mjs").Program} program one agent, which makes any call at any time
