@@ -26,8 +26,17 @@ function largestOf(sizes) {
   return [...largest.values()].sort((one, other) => one.agents - other.agents);
 }
 
+/** @param {UseSize} size @returns {string} the same behind another one */
+const furtherText = ({ agents, each }) => `by ${agents} with ${each === "any" ? "any number" : `up to ${each}`}`;
+
 /** @param {UseSize[]} sizes that were finished @returns {string} */
-export const sizesText = (sizes) => `every use ${largestOf(sizes).map(sizeText).join(", and ")}`;
+export function sizesText(sizes) {
+  const [first, ...others] = largestOf(sizes);
+  const further = others.map(furtherText);
+  if (further.length === 0) return `every use ${sizeText(first)}`;
+  const last = further.pop();
+  return `every use ${[sizeText(first), ...further].join(", ")}, and ${last},`;
+}
 
 /** @param {UsesData} uses @returns {string} what is right, in words */
 function rightText({ alwaysThrow, hasModel }) {
@@ -38,10 +47,9 @@ function rightText({ alwaysThrow, hasModel }) {
 
 /** @param {EveryData & { uses: UsesData }} data of a search in which nothing was found @returns {string[]} */
 export function rightLines({ uses }) {
-  const tried = `${sizesText(uses.finished)}, was tried under every schedule`;
-  const lines = [`${tried}: all are linearizable, and no wake-up is lost (${rightText(uses)})`];
-  if (uses.open !== null) lines.push(`  ${sizeText(uses.next)} not every use was tried: ${uses.open}`);
-  return lines;
+  const tried = `${sizesText(uses.finished)} was tried under every schedule`;
+  const title = `${tried}: all are linearizable, and no wake-up is lost (${rightText(uses)})`;
+  return uses.open === null ? [title] : [title, `  not every use ${sizeText(uses.next)} was tried: ${uses.open}`];
 }
 
 /** @param {FoundData} found @returns {string} how it is shown */

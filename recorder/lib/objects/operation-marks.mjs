@@ -7,7 +7,8 @@ import { NoOutcome, outcomeText } from "./outcome-text.mjs";
  * @property {(name: string) => void} lacks as `OperationMarks` has it
  * @property {(call: number) => void} begins
  * @property {(outcome: string) => void} ends
- * @property {(what: string) => void} refuse an operation has returned something with which nothing can be compared
+ * @property {(what: string, call: number) => void} refuse a call has returned something with which nothing can be
+ * compared
  */
 
 /**
@@ -15,11 +16,15 @@ import { NoOutcome, outcomeText } from "./outcome-text.mjs";
  * @returns {import("./object-client.mjs").OperationMarks}
  */
 export function marksBy(takes) {
+  let last = 0;
   const lacks = (/** @type {string} */ name) => takes.lacks(name);
-  const begins = (/** @type {number} */ call) => takes.begins(call);
+  const begins = (/** @type {number} */ call) => {
+    last = call;
+    takes.begins(call);
+  };
   const ends = (/** @type {unknown} */ value, /** @type {boolean} */ hasThrown) => {
     const { outcome, refused } = outcomeOf(value, hasThrown);
-    if (outcome === undefined) takes.refuse(refused);
+    if (outcome === undefined) takes.refuse(refused, last);
     else takes.ends(outcome);
   };
   return { lacks, begins, ends };

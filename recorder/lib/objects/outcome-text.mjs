@@ -9,7 +9,7 @@ const {
   isAnyArrayBuffer, isArrayBufferView, isBoxedPrimitive, isDate, isMap, isNativeError, isPromise, isProxy, isRegExp,
   isSet, isWeakMap, isWeakSet,
 } = types;
-const { BigInt, Boolean, Error: EngineError, Number, String: text, Symbol } = globalThis;
+const { BigInt, Boolean, Number, String: text, Symbol } = globalThis;
 const { keyFor } = Symbol;
 const timeOf = uncurried(Date.prototype.getTime);
 const sourceOf = uncurried(RegExp.prototype.toString);
@@ -96,8 +96,8 @@ function entriesOf(object, around) {
 /** @param {object} object @returns {string | undefined} what it is that can't be compared */
 function whatItIs(object) {
   if (isPromise(object)) return "a promise";
-  if (isArrayBufferView(object) || isAnyArrayBuffer(object)) return "a buffer or a view of one";
-  if (isProxy(object)) return "a proxy";
+  // Views of recorded memory are proxies here.
+  if (isProxy(object) || isArrayBufferView(object) || isAnyArrayBuffer(object)) return "a buffer, a view of one or a proxy";
   return isWeakMap(object) || isWeakSet(object) ? "a weak collection" : undefined;
 }
 
@@ -183,6 +183,3 @@ export function outcomeText(value, hasThrown) {
   if (hasThrown) return `throws ${thrownText(value)}`;
   return value === BLOCKED ? BLOCKED_OUTCOME : `returns ${spelled(value)}`;
 }
-
-/** @param {string} why @returns {Error} of the engine, for a run that is ended */
-export const outcomeError = (why) => new EngineError(why);

@@ -97,7 +97,7 @@ export async function main(load) {
 
 /** @param {AgainWorkerData} given @param {(url: string) => Promise<any>} load */
 async function differing(given, load) {
-  const { args, edges, isShared, plan } = given;
+  const { module, args, edges, isShared, plan } = given;
   const ways = new NodeWays(edges);
   const asker = new Asker();
   asker.clock = new OwnClock(given.isLasting);
@@ -112,7 +112,7 @@ async function differing(given, load) {
     return agentOf();
   };
   const agents = { count: plan.agents, args, canBlock: plan.canBlock, isShared };
-  const marks = given.each === undefined ? undefined : learnedMarks(asker);
+  const marks = given.each === undefined ? undefined : learnedMarks(asker, module, () => []);
   const learner = new Learner(asker, agents, { agentNow, line: () => "", marks });
   return new Again(learner, given, ways).run();
 }

@@ -187,9 +187,9 @@ export class Asker {
     }
   }
 
-  /** @param {string} why @returns {never} */
-  refuse(why) {
-    this.#stop(why, this.lineHere());
+  /** @param {string} why @param {string} [line] where, if it isn't where the agent is @returns {never} */
+  refuse(why, line = this.lineHere()) {
+    this.#stop(why, line);
     return this.#breakOff();
   }
 

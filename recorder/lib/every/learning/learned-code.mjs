@@ -25,8 +25,6 @@ const CLIENT = new URL("../../objects/object-client.mjs", import.meta.url).href;
 
 /** @typedef {import("./asked-nodes.mjs").AskedNode} AskedNode */
 
-const ALONE = Object.freeze({ isAlone: true, each: Infinity, staying: 0 });
-
 export class LearnedCode {
   /** @type {Map<string, Record<string, any>> | undefined} what the modules export */
   #exports;
@@ -82,7 +80,7 @@ export class LearnedCode {
 
   /** @returns {import("../../objects/object-calls.mjs").ObjectCall[]} what the agents of an object may call */
   calls() {
-    return useOf(this.#own(), ALONE).calls;
+    return this.#use(true).calls;
   }
 
   /** @returns {Function} one agent alone, of modules that keep what they keep at first, which uses what is right */
@@ -107,7 +105,16 @@ export class LearnedCode {
   /** @param {boolean} isAlone @returns {Function} */
   #client(isAlone) {
     const { clientOf } = /** @type {any} */ (this.#exports?.get(CLIENT));
-    return clientOf(useOf(this.#own(), { isAlone, each: isAlone ? Infinity : this.each, staying: 0 }));
+    return clientOf(this.#use(isAlone));
+  }
+
+  /** @param {boolean} isAlone @returns {import("../../objects/object-client.mjs").ObjectUse} */
+  #use(isAlone) {
+    try {
+      return useOf(this.#own(), { isAlone, each: isAlone ? Infinity : this.each, staying: 0 });
+    } catch (thrown) {
+      throw new Refused(`--all can't load ${basename(this.url)}: ${/** @type {Error} */ (thrown).message}`);
+    }
   }
 
   #needFirst() {

@@ -101,8 +101,9 @@ export class Learned {
 
   /** @returns {import("../../objects/object-client.mjs").OperationMarks} what the client of an object calls */
   #marks() {
-    const marks = learnedMarks(this.asker);
-    const { names } = this.code.builtins;
+    const { asker, code } = this;
+    const marks = learnedMarks(asker, code.url, () => code.calls());
+    const { names } = code.builtins;
     names.set(marks.lacks, "lacks").set(marks.begins, "begins").set(marks.ends, "ends");
     return marks;
   }
