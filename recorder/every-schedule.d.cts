@@ -17,7 +17,8 @@ export type EveryOptions = ExploreOptions & OfEvery;
 
 /** Something that was found in every schedule. */
 export interface FoundBySchedule {
-  kind: "deadlock" | "threw" | "check" | "race" | "no way out" | "limit" | "failed";
+  kind: "deadlock" | "threw" | "check" | "race" | "no way out" | "limit" | "failed" | "not linearizable"
+    | "lost wake-up";
   /** What was thrown, what `check` found, which lines race, or how a real run ended; empty if the kind says all. */
   text: string;
   /** In how many states it is; 0: only real runs have shown it. */
@@ -38,12 +39,44 @@ export interface FoundBySchedule {
   notShown: string | null;
   /** What time must pass in that run. */
   onlyIf: string | null;
+  /** How many operations of an object are begun in the schedule that is shown, if it is about their history; else 0. */
+  operations: number;
   /** Whether two agents draw the same random number in the schedule that is shown: of all numbers that is rare. */
   drewSame: boolean;
 }
 
+/** How many agents use an object, each with how many operations at most. */
+export interface UseSize {
+  agents: number;
+  each: number | "any";
+}
+
+/** What was tried of an object. */
+export interface TriedUses {
+  /** The sizes of which every use was tried under every schedule. */
+  finished: UseSize[];
+  /** The size of the search that is reported. */
+  size: UseSize;
+  /** The size that was tried last. */
+  next: UseSize;
+  /** Why not every use of it was tried; null if it was. */
+  open: string | null;
+  /** Whether `Model` says what is right; else it is the object itself, used by one agent alone. */
+  hasModel: boolean;
+  /** Operations that have always thrown there. */
+  alwaysThrow: string[];
+  /** How many states of it were needed. */
+  modelStates: number;
+  /** How many sets there are of what operations may have done. */
+  sets: number;
+  /** In how many states the history wasn't judged. */
+  notJudged: number;
+}
+
 /** What is reported about every schedule of a module of agents. */
 export interface EverySchedule {
+  /** What was tried of an object; null if the module is none of an object. */
+  uses: TriedUses | null;
   /** Whether every schedule was tried. */
   closed: boolean;
   /** Why not. */

@@ -85,6 +85,11 @@ export interface OfModule {
    */
   rounds?: number;
   /**
+   * How many operations of an object each agent makes at most, or `any`. `any` is as many rounds as `rounds` says, and
+   * in what `all` searches any number of them. A whole number from 1 to 1,000, or any; else 8; with `--all` ever more.
+   */
+  each?: number | "any";
+  /**
    * Fills the buffers before the run, and before each of its pilots, in place of the module's `init`. It is called in
    * this thread.
    */

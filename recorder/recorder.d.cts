@@ -48,9 +48,11 @@ export class Difference extends Error {
 
 /**
  * How a run ended. `race`: it finished, `check` found nothing, and it has unordered accesses. `cut`: an agent of a
- * module in which none ever ends has made 100 calls; only runs that `everySchedule` makes end so.
+ * module in which none ever ends has made 100 calls; only runs that `everySchedule` makes end so. Of agents that use an
+ * object: `not linearizable`, `lost wake-up`, or `blocked`: the operations that are open rightly wait.
  */
-export type Ending = "finished" | "deadlock" | "stuck" | "failed" | "check" | "race" | "limit" | "cut";
+export type Ending = "finished" | "deadlock" | "stuck" | "failed" | "check" | "race" | "limit" | "cut"
+  | "not linearizable" | "lost wake-up" | "blocked";
 
 /** The outcome of a run. */
 export interface Outcome {

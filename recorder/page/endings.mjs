@@ -1,6 +1,6 @@
 // How a run ended, as people read it. JSON has the short names.
 
-const WORDS = new Map([["check", "check failed"], ["limit", "limit met"]]);
+const WORDS = new Map([["check", "check failed"], ["limit", "limit met"], ["blocked", "rightly blocked"]]);
 
 /** Whether a run that ended as `failed` threw. If not, the recorder or the engine stopped it. */
 const THREW = /^(?:agent \d+|init) threw /;

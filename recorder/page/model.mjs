@@ -123,7 +123,7 @@ export class Run {
       const pair = races[0].map((event) => this.#stepOf(event)).filter((at) => at >= 0);
       return pair.length > 0 ? pair.sort((one, other) => one - other) : [end];
     }
-    if (ending === "deadlock") {
+    if (ending === "deadlock" || ending === "lost wake-up") {
       const helpers = helpersIn(this.data.views);
       const sleepers = standings.filter(({ agent, standing }) => standing.at === "waits" && !helpers.has(agent));
       const waiting = sleepers.map(({ agent }) => agent);

@@ -13,11 +13,12 @@ import threads from "node:worker_threads";
 import { Board } from "../board/board.mjs";
 import { Choices } from "../memory/choice-list.mjs";
 import { ORDER } from "../memory/layout.mjs";
+import { OperationList } from "../memory/operation-list.mjs";
 import { RecordedMemory } from "../memory/recorded-memory.mjs";
 import { Notes } from "../memory/notes.mjs";
 import { Records } from "../memory/records.mjs";
 import { Sources } from "../memory/sources.mjs";
-import { ownKeys, put } from "../primordials.mjs";
+import { put } from "../primordials.mjs";
 import { onceMore } from "../processes/garbage.mjs";
 import { recordedAtomics } from "./atomics.mjs";
 import { Chooser } from "./chooser.mjs";
@@ -26,6 +27,7 @@ import { ChosenChance } from "./chosen-chance.mjs";
 import { shareWithContexts } from "./contexts.mjs";
 import { described } from "./described.mjs";
 import { isCalledByAgents, sourceHere } from "./frames.mjs";
+import { loadedModule } from "./loaded-module.mjs";
 import { PendingWork } from "./pending-work.mjs";
 import { Messages } from "./messages.mjs";
 import { blockNumber } from "./ordinary/context.mjs";
@@ -34,10 +36,11 @@ import { watchOrdinary, watchWaysOut } from "./ordinary/watch.mjs";
 import { isWatchable, watchMaking } from "./other-memory.mjs";
 import { OwnClock } from "./own-clock.mjs";
 import { Player } from "./player.mjs";
+import { recordedOperations } from "./recorded-operations.mjs";
 import { Chance, simulateChance, simulateTime } from "./time.mjs";
 import { Unseen } from "./unseen.mjs";
 
-const { Error: EngineError, String: text, structuredClone: cloned } = globalThis;
+const { Error: EngineError } = globalThis;
 
 // A worker's own streams are written by its event loop, which never runs again. What agents print goes to
 // standard error at once: standard output is the recorder's.
@@ -65,8 +68,6 @@ function printAtOnce() {
   }
 }
 
-const NO_AGENT = "it has no function as its default export, as `export default function agent({ buffers }) { .. }`";
-
 /**
  * @typedef {object} AgentWorkerData what a worker is started with
  * @property {import("node:worker_threads").MessagePort} port
@@ -75,6 +76,8 @@ const NO_AGENT = "it has no function as its default export, as `export default f
  * @property {"run" | "real"} clock
  * @property {"fail" | "allow"} unrecorded
  * @property {number} rounds
+ * @property {number} [count] how many agents there are, if that is given
+ * @property {number} each how many operations of an object each agent makes at most
  * @property {import("./own-clock.mjs").ChosenTime} [chosenTime] if the tool chooses when time passes, and what chance
  * gives
  * @property {string} module the URL of the agents' module
@@ -88,7 +91,7 @@ const NO_AGENT = "it has no function as its default export, as `export default f
  */
 
 const {
-  port, args, ordinary, clock, unrecorded, rounds, chosenTime, module: file,
+  port, args, ordinary, clock, unrecorded, rounds, count, each, chosenTime, module: file,
 } = /** @type {AgentWorkerData} */ (threads.workerData);
 // Agents and their worker get another `postMessage`, which looks at what it is given.
 const post = port.postMessage.bind(port);
@@ -194,74 +197,15 @@ function installReplacements() {
 }
 
 /**
- * Makes sure that a module's `setup` can be handed on.
- * @param {any} setup
- * @throws {Error} which says what of it is no plain data
- */
-function needsPlain(setup) {
-  const must = "`setup` must be plain data, as { agents: 2, buffers: [12] }";
-  if (typeof setup === "function") throw new EngineError(`${must}, but it is a function`);
-  if (typeof setup !== "object" || setup === null) return;
-  const keys = ownKeys(setup);
-  for (let at = 0; at < keys.length; at += 1) {
-    const value = setup[keys[at]];
-    try {
-      cloned(value);
-    } catch {
-      const what = typeof value === "function" ? "is a function" : "has something else in it";
-      throw new EngineError(`${must}, but its member ${text(keys[at])} ${what}`);
-    }
-  }
-}
-
-/**
- * The names under which a module exports something, and those of its agent's own properties.
- * @param {object} module
- * @param {Function} agent
- * @returns {string[]}
- */
-function namesIn(module, agent) {
-  /** @type {string[]} */
-  const names = [];
-  const owners = [module, agent];
-  for (let owner = 0; owner < owners.length; owner += 1) {
-    const keys = ownKeys(owners[owner]);
-    for (let at = 0; at < keys.length; at += 1) {
-      const key = keys[at];
-      if (typeof key === "string") names[names.length] = key;
-    }
-  }
-  return names;
-}
-
-/**
  * Imports the agents' module, and reports what it exports besides the agent.
  * @param {(url: string) => Promise<any>} load
- * @returns {Promise<{ default: Function, init?: Function, check?: Function } | undefined>}
+ * @returns {Promise<import("./loaded-module.mjs").LoadedModule | undefined>}
  */
 async function loaded(load) {
   try {
-    const found = await load(file);
-    // A compiled CommonJS module has its exports in its default export.
-    const isCompiled = typeof found.default === "object" && typeof found.default?.default === "function";
-    const module = isCompiled ? found.default : found;
-    if (typeof module.default !== "function") throw new EngineError(NO_AGENT);
-    const { default: agent } = module;
-    // A CommonJS module that exports a function has the others as its properties.
-    const { init = agent.init, check = agent.check, setup = agent.setup } = module;
-    /** @type {Record<string, unknown>} */
-    const others = { init, check };
-    const names = ["init", "check"];
-    for (let at = 0; at < names.length; at += 1) {
-      const found = others[names[at]];
-      if (found !== undefined && typeof found !== "function") {
-        throw new EngineError(`its export ${names[at]} is no function`);
-      }
-    }
-    needsPlain(setup);
-    const there = { hasInit: init !== undefined, hasCheck: check !== undefined };
-    post({ setup, names: namesIn(module, agent), ...there });
-    return { default: agent, init, check };
+    const { module, has } = loadedModule(await load(file), { count, each });
+    post(has);
+    return module;
   } catch (problem) {
     post({ failed: described(problem) });
     return undefined;
@@ -310,11 +254,12 @@ function playerOf({ memory, plan, rules }, { later, messages }) {
 
 /**
  * Does what it is ordered, again and again.
- * @param {NonNullable<Awaited<ReturnType<typeof loaded>>>} module
+ * @param {import("./loaded-module.mjs").LoadedModule} module
  * @param {number} agents how many
  * @param {Chooser} chooser
+ * @param {import("../objects/object-client.mjs").OperationMarks} [marks] what the agents of an object call
  */
-function serve(module, agents, chooser) {
+function serve(module, agents, chooser, marks) {
   const player = playing();
   /** @type {Chooser["chosen"]} */
   const chosen = (asked, called) => {
@@ -342,11 +287,23 @@ function serve(module, agents, chooser) {
     const play = () => {
       chooser.begin();
       const { again, choose } = choicesBy(chosen);
-      return agent({ buffers: buffers(), agent: self.agent, agents, args: words(), again, choose });
+      const given = { buffers: buffers(), agent: self.agent, agents, args: words(), again, choose };
+      return marks === undefined ? agent(given) : agent(given, marks);
     };
     if (order === ORDER.PLAY) player.play(play, described);
     else player.serve(() => (order === ORDER.INIT ? module.init : module.check)?.(buffers(), own), described);
   }
+}
+
+/**
+ * @param {AgentGroupData["memory"]} memory
+ * @param {Player} player
+ * @returns {import("../objects/object-client.mjs").OperationMarks | undefined} what it calls if it uses an object; the
+ * worker that calls only `init` and `check` has none
+ */
+function marksOf({ operations }, player) {
+  const own = operations?.[self.agent];
+  return own === undefined ? undefined : recordedOperations(player, new OperationList(own));
 }
 
 /** @returns {Promise<any>} the next message, which mustn't have come yet */
@@ -374,6 +331,7 @@ export async function main(load) {
   const player = playerOf(given, noting);
   self.player = player;
   post({ ready: true });
-  self.chooser = new Chooser(player.part, new Choices(given.memory.choices[self.agent]), rounds);
-  serve(module, given.plan.agents, self.chooser);
+  const most = module.isObject && each !== Infinity ? each : rounds;
+  self.chooser = new Chooser(player.part, new Choices(given.memory.choices[self.agent]), most);
+  serve(module, given.plan.agents, self.chooser, marksOf(given.memory, player));
 }

@@ -4,6 +4,7 @@ import { Choices } from "../memory/choice-list.mjs";
 import { CopiedRuns } from "../memory/copied-runs.mjs";
 import { Log } from "../memory/log.mjs";
 import { Notes } from "../memory/notes.mjs";
+import { OperationList } from "../memory/operation-list.mjs";
 import { Records } from "../memory/records.mjs";
 import { Sources } from "../memory/sources.mjs";
 import { Stores } from "../memory/stores.mjs";
@@ -17,8 +18,9 @@ const NO_CALLS = 1;
  * @param {{ agents: number, buffers: number[] }} plan how many agents there are, and the length of each buffer in bytes
  * @param {number} [logEvents] how many events its log has room for
  * @param {boolean} [hasCaller] whether a worker of its own calls `init` and `check`
+ * @param {boolean} [isObject] whether the agents use an object, and tell about their operations
  */
-export function memoryOf({ agents, buffers }, logEvents, hasCaller = false) {
+export function memoryOf({ agents, buffers }, logEvents, hasCaller = false, isObject = false) {
   return {
     board: Board.memory(),
     log: Log.memory(logEvents),
@@ -30,6 +32,7 @@ export function memoryOf({ agents, buffers }, logEvents, hasCaller = false) {
     choices: Array.from({ length: agents }, () => Choices.memory()),
     runs: CopiedRuns.memory(),
     notes: Array.from({ length: agents }, () => Notes.memory()),
+    operations: isObject ? Array.from({ length: agents }, () => OperationList.memory()) : undefined,
     caller: hasCaller ? callerMemory() : undefined,
   };
 }

@@ -1,7 +1,7 @@
 // What --all does: it tries every schedule. If not all can be tried, it goes on with the seeds.
 
 import { dataOf } from "../every/data.mjs";
-import { Every } from "../every/every.mjs";
+import { EveryUse } from "../every/every-use.mjs";
 import { MOST_SHOWN } from "../every/showing.mjs";
 import { everyText } from "../every/every-text.mjs";
 import { keepBesides } from "../keeping/kept-besides.mjs";
@@ -44,7 +44,7 @@ export class EverySession {
     const { checkEvery, first, format, last, sabsim } = this.options;
     const chosen = checkEvery > 0 ? chosenProgram(sabsim) : undefined;
     const given = /** @type {any} */ ({ ...this.every, sabsim: chosen });
-    const every = new Every(given, { signal: this.interruption.signal, over: this.over, job: this.job });
+    const every = new EveryUse(given, { signal: this.interruption.signal, over: this.over, job: this.job });
     const progress = new EveryProgress(every, last - first + 1, this.after);
     /** @type {EveryResult} */
     let tried;

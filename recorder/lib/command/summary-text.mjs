@@ -203,4 +203,5 @@ const indented = (line) => `  ${line}`;
  * An ending of a run that doesn't fail.
  * @param {string} ending
  */
-const passingText = (ending) => (ending === "finished" ? ending : `${endingText(ending, "")} (allowed)`);
+const passingText = (ending) =>
+  (ending === "finished" || ending === "blocked" ? endingText(ending, "") : `${endingText(ending, "")} (allowed)`);

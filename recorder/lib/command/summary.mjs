@@ -32,7 +32,7 @@ import { Uses } from "./uses.mjs";
  */
 
 // In the order in which they are reported.
-const FAILING = ["deadlock", "stuck", "failed", "check", "race", "limit"];
+const FAILING = ["deadlock", "stuck", "failed", "check", "not linearizable", "lost wake-up", "race", "limit"];
 const PASSING = ["finished", ...FAILING];
 
 const CHANGES_ALONE =

@@ -10,7 +10,8 @@ import { adviceOf } from "./advice.mjs";
 
 /**
  * @typedef {object} FoundData
- * @property {"deadlock" | "threw" | "check" | "race" | "no way out" | "limit" | "failed"} kind
+ * @property {"deadlock" | "threw" | "check" | "race" | "no way out" | "limit" | "failed" | "not linearizable"
+ * | "lost wake-up"} kind
  * @property {string} text what was thrown, what `check` found, which lines race, or how a real run ended; empty if the
  * kind says all
  * @property {number} states in how many states it is; 0: only real runs have shown it
@@ -22,11 +23,26 @@ import { adviceOf } from "./advice.mjs";
  * @property {string[] | null} detail how the real run by that schedule ended; null: it isn't shown
  * @property {string | null} notShown why it isn't shown
  * @property {string | null} onlyIf what time must pass in that run
+ * @property {number} operations of an object that are begun in the schedule that is shown
  * @property {boolean} drewSame whether two agents draw the same random number in the schedule that is shown
  */
 
 /**
+ * @typedef {object} UsesData what was tried of an object
+ * @property {import("./every-use.mjs").UseSize[]} finished the sizes of which every use was tried
+ * @property {import("./every-use.mjs").UseSize} size of the search that is reported
+ * @property {import("./every-use.mjs").UseSize} next the size that was tried last
+ * @property {string | null} open why not every use of it was tried
+ * @property {boolean} hasModel whether `Model` says what is right; else the object itself, used by one agent alone
+ * @property {string[]} alwaysThrow operations that have always thrown there
+ * @property {number} modelStates how many states of it were needed
+ * @property {number} sets of configurations that histories can leave
+ * @property {number} notJudged in how many states the history wasn't judged
+ */
+
+/**
  * @typedef {object} EveryData
+ * @property {UsesData | null} uses what was tried of an object; null: the module is none of an object
  * @property {boolean} closed whether every schedule was tried
  * @property {string | null} open why not
  * @property {boolean} isWhole whether all was done: every schedule was tried, and nothing was cut short by the time
@@ -72,9 +88,11 @@ const NOTHING = Object.freeze({
   keptClock: null, drawsRandom: false, edges: 0, edgesByOne: 0, ways: 0, waysTried: 0, hidden: [], widest: null,
 });
 
-/** @param {EveryResult} tried @returns {EveryData} */
-export function dataOf({ report, open, shown, onlyRuns, ...tried }) {
-  const common = commonOf(open, tried);
+/** @param {import("./every-use.mjs").EveryUseResult} tried @returns {EveryData} */
+export function dataOf({ report, open, shown, onlyRuns, uses, ...tried }) {
+  const usesData = usesOf(uses, report);
+  const common = { ...commonOf(open, tried), uses: usesData };
+  if (uses !== undefined && !uses.isEnough && shown.length === 0) common.isWhole = false;
   const advice = adviceOf(open, report);
   if (report === undefined) return { ...NOTHING, agents: 0, areAlike: false, advice, ...common };
   const { counts, depth = null, findings, hasLikes, hidden, neverEnds, plan, result, ways, widest } = report;
@@ -87,6 +105,18 @@ export function dataOf({ report, open, shown, onlyRuns, ...tried }) {
     edgesByOne: ways.edgesByOne, ways: ways.all, waysTried: ways.tried, hidden, advice,
     widest: { ...widest, line: widest.line ?? null },
   };
+}
+
+/**
+ * @param {import("./every-use.mjs").TriedUses} [uses]
+ * @param {LearningReport} [report]
+ * @returns {UsesData | null}
+ */
+function usesOf(uses, report) {
+  if (uses === undefined || report?.object === undefined) return null;
+  const { finished, next, open, size } = uses;
+  const { alwaysThrow, hasModel, modelStates, notJudged, sets } = report.object;
+  return { finished, size, next, open: open ?? null, hasModel, alwaysThrow, modelStates, sets, notJudged };
 }
 
 /**
@@ -105,9 +135,9 @@ function commonOf(open, { realRuns, made, notRun, isProved, notProved, isCut, is
  * @param {import("./showing.mjs").ShownFinding} [shown]
  * @returns {FoundData}
  */
-function dataOfFinding({ kind, text, states, acts, changes, isEarly, choices }, shown) {
+function dataOfFinding({ kind, text, states, acts, changes, isEarly, choices, operations }, shown) {
   const end = endOf(shown?.isSame ? shown.outcome : undefined);
-  const by = { acts, changes, isEarly, drewSame: haveDrawnSame(choices) };
+  const by = { acts, changes, isEarly, operations, drewSame: haveDrawnSame(choices) };
   return { kind, text, states, ...by, runs: 0, seed: null, ...end, notShown: shown?.why ?? null };
 }
 
@@ -123,7 +153,7 @@ const endOf = (outcome) => ({ detail: outcome?.detail.split("\n") ?? null, onlyI
 /** @param {import("./only-runs.mjs").OnlyRun} found @returns {FoundData} */
 function dataOfRuns({ kind, text, runs, outcome }) {
   const { seed, onlyIf } = outcome;
-  const byRun = { states: 0, runs, seed, acts: 0, changes: 0, isEarly: onlyIf !== undefined, drewSame: false };
+  const byRun = { states: 0, runs, seed, acts: 0, changes: 0, isEarly: onlyIf !== undefined, operations: 0, drewSame: false };
   return { kind, text, ...byRun, ...endOf(outcome), notShown: null };
 }
 

@@ -3,9 +3,11 @@
 import { countText, digits, listed } from "../run/words/summary-words.mjs";
 import { rangesText } from "../seeds/ranges.mjs";
 import { LET_END } from "./advice.mjs";
+import { OF_HISTORIES, historyLines, monitorLines, rightLines, sizesText } from "./use-text.mjs";
 
 /** @typedef {import("./data.mjs").EveryData} EveryData */
 /** @typedef {import("./data.mjs").FoundData} FoundData */
+/** @typedef {EveryData & { uses: import("./data.mjs").UsesData }} OfObject */
 
 const MOST_LISTED = 8;
 
@@ -18,7 +20,8 @@ const DREW_SAME = "two agents draw the same random number there";
 /** What agents can do wrong, in the words of the first line. */
 const WORDS = Object.freeze({
   deadlock: "deadlock", threw: "throw", race: "race", check: "fail check", "no way out": "go on for ever",
-  limit: "meet a limit", failed: "fail in another way",
+  limit: "meet a limit", failed: "fail in another way", "not linearizable": "make operations that aren't linearizable",
+  "lost wake-up": "lose a wake-up",
 });
 
 /** @param {EveryData} data @returns {string} lines, each with its end */
@@ -33,9 +36,11 @@ function closedLines(data) {
   const title = `every schedule of ${countText(agents, "agent")} was tried`;
   const none = "none deadlocks, throws, has a data race or fails check";
   const canEnd = found.length === 0 ? "; from every state all agents can still end" : "";
+  const ofAgents = `${title}: ${found.length === 0 ? none : foundText(found)}${neverEnds ? "; no agent ever ends" : canEnd}`;
   return [
-    `${title}: ${found.length === 0 ? none : foundText(found)}${neverEnds ? "; no agent ever ends" : canEnd}`,
+    ...(data.uses === null ? [ofAgents] : usesLines(/** @type {OfObject} */ (data))),
     ...foundLines(data),
+    ...(data.uses === null ? [] : monitorLines(/** @type {OfObject} */ (data)).map(indented)),
     ...(neverEnds ? neverEndsLines(data) : []),
     indented(`${countText(states, "state")}, ${countText(acts, "act")}; ${finalText(data)}`),
     indented(learnedText(data)),
@@ -48,6 +53,18 @@ function closedLines(data) {
   ];
 }
 
+/** @param {OfObject} data @returns {string[]} the first lines about every use of an object */
+function usesLines(data) {
+  const { found, uses } = data;
+  if (found.length === 0) return rightLines(data);
+  const histories = found.filter(isOfHistory);
+  if (histories.length > 0) return histories.flatMap((each) => historyLines(data, each));
+  return [`of ${sizesText([uses.size])} every schedule was tried: agents can ${foundText(found)}`];
+}
+
+/** @param {FoundData} found @returns {boolean} */
+const isOfHistory = ({ kind }) => OF_HISTORIES.has(kind);
+
 /** @param {FoundData[]} found */
 function foundText(found) {
   const kinds = [...new Set(found.map(({ kind }) => WORDS[kind]))];
@@ -55,7 +72,8 @@ function foundText(found) {
 }
 
 /** @param {EveryData} data @returns {string[]} the first ones, each with how it is shown */
-function foundLines({ found, notCompared, realRuns }) {
+function foundLines({ found: all, notCompared, realRuns, uses }) {
+  const found = uses === null ? all : all.filter((each) => !isOfHistory(each));
   const lines = found.slice(0, MOST_LISTED).flatMap((each) => findingLines(each, realRuns + notCompared));
   const more = found.length - MOST_LISTED;
   return [...lines, ...(more > 0 ? [`and ${digits(more)} more`] : [])].map(indented);
@@ -87,7 +105,8 @@ const chosenLines = ({ drawsRandom, keptClock }) => [
 ];
 
 /** @param {EveryData} data */
-function untriedText({ choices }) {
+function untriedText({ choices, uses }) {
+  if (uses !== null) return "other numbers of agents and operations weren't tried, and no other arguments";
   if (choices === 0) return "other numbers of agents, rounds or arguments weren't tried";
   return "all choices were tried; other numbers of agents or arguments weren't";
 }
@@ -140,9 +159,12 @@ const alikeLines = ({ areAlike }) => (areAlike ? [indented(ALIKE)] : []);
 
 /** @param {EveryData} data */
 function openLines(data) {
-  const { advice, found, hidden, open, widest } = data;
+  const { advice, found, hidden, open, uses, widest } = data;
+  const histories = uses === null ? [] : found.filter(isOfHistory)
+    .flatMap((each) => historyLines(/** @type {OfObject} */ (data), each));
   const some = found.length === 0 ? [] : [indented(`among those that were tried, ${foundText(found)}`)];
-  const lines = [`not every schedule was tried: ${open}`, ...some, ...foundLines(data), ...alikeLines(data)];
+  const title = `not every schedule was tried: ${open}`;
+  const lines = [...histories, title, ...some, ...foundLines(data), ...alikeLines(data)];
   const large = widest === null ? [] : [widestText(widest)];
   const changes = advice.map(toChange);
   return [...lines, ...[...hiddenLines(hidden), ...large, ...changes].map(indented)];

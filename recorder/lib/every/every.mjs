@@ -22,8 +22,8 @@ import { endOf, explained, firstNotShown, shownFindings } from "./showing.mjs";
 
 /**
  * @typedef {import("../seeds/runs.mjs").RunsOptions & { within: number, states: number, agents?: number,
- * buffers?: number[], noBlock?: number[] }} EveryRunOptions `within` how many seconds all may take, and `states` how
- * many states
+ * buffers?: number[], noBlock?: number[], each?: number | "any" }} EveryRunOptions `within` how many seconds all may
+ * take, and `states` how many states
  */
 
 /**
@@ -56,6 +56,7 @@ const NOTHING = Object.freeze({
 /** So much of the time a search may take: what comes behind it needs some, too. */
 const SHARE_OF_SEARCH = 0.75;
 
+const KNOWS_NO_OPERATIONS = "the proved search doesn't know the operations of objects";
 const NOT_KNOWN = "It may go by chance, by a clock, or by something that isn't shown";
 const PRELOADED = "not every schedule can be tried if --require or --import of node loads code first: nobody sees what "
   + "that keeps";
@@ -143,7 +144,8 @@ export class Every {
   }
 
   /** @param {LearningReport} report @param {AbortSignal} ending */
-  async #second({ file, findings, neverEnds, result }, ending) {
+  async #second({ file, findings, neverEnds, object, result }, ending) {
+    if (object !== undefined) return { why: KNOWS_NO_OPERATIONS };
     const { sabsim } = this.options;
     const signal = AbortSignal.any([ending, this.#ending()]);
     const { search: thread } = this.threads ?? {};
@@ -210,13 +212,14 @@ export class Every {
 
   /** @returns {Promise<LearningReport | string>} a text: why nothing could be learned */
   async #report() {
-    const { agents, args, buffers, module, noBlock, seconds, states, timeouts, within } = this.options;
+    const { agents, args, buffers, each, module, noBlock, seconds, states, timeouts, within } = this.options;
     /** @type {"early" | "never"} */
     const choice = timeouts === "never" ? "never" : "early";
     const onProgress = (/** @type {number} */ found) => void (this.states = found);
     const search = Math.max(SHARE_OF_SEARCH * within - (performance.now() - this.begun) / 1_000, 0);
     const place = { agents, buffers, noBlock };
-    const wanted = { module, args, place, timeouts: choice, limit: states, within: search };
+    const most = each === "any" ? Infinity : each;
+    const wanted = { module, args, place, timeouts: choice, limit: states, within: search, each: most };
     try {
       return await learnApart(wanted, { seconds, onProgress, signal: this.signal, over: this.over });
     } catch (problem) {
@@ -228,10 +231,10 @@ export class Every {
 
   /** @param {LearningReport} report */
   async #learnAgain(report) {
-    const { edges, isShared, keptClock, nodes, plan } = report;
+    const { each, edges, isShared, keptClock, nodes, plan } = report;
     const { over, options: { args, fresh, module, seconds, timeouts } } = this;
     const clocks = { isLasting: keptClock !== undefined, isEndless: timeouts === "never" };
-    const given = { module, args, plan, isShared, isFresh: fresh === true, ...clocks, nodes, edges };
+    const given = { module, args, plan, isShared, isFresh: fresh === true, ...clocks, nodes, edges, each };
     const differs = await learnAgain(given, { seconds, over, thread: this.threads?.again });
     if (differs === TIME_OVER) throw new NotLearnedAgain(report);
     if (differs === undefined) return;

@@ -19,11 +19,13 @@ import { isShownBy, plain } from "./showing.mjs";
 /** The endings of runs that show a finding. */
 const ENDINGS = Object.freeze({
   deadlock: "deadlock", threw: "failed", check: "check", race: "race", "no way out": "limit",
+  "not linearizable": "not linearizable", "lost wake-up": "lost wake-up",
 });
 
 /** What a search that is closed finds of each run, by its ending, in words. */
 const FINDS = Object.freeze({
   deadlock: "is a deadlock", failed: "throws", check: "fails check", race: "has a data race",
+  "not linearizable": "isn't linearizable", "lost wake-up": "loses a wake-up",
 });
 
 const OTHER_CHECK = "`check` may go by something else than the bytes, or keep something from call to call";

@@ -131,6 +131,8 @@ export function isShownBy({ kind, text, goesOn }, { ending, detail, races, diver
     case "deadlock": return ending === "deadlock";
     case "race": return races.length > 0;
     case "no way out": return ending === "limit";
+    case "not linearizable": return ending === "not linearizable";
+    case "lost wake-up": return ending === "lost wake-up" || (goesOn && ending === "limit");
     case "check": return ending === "check" && isText(text, detail);
     default: return ending === "failed" && isText(text, detail);
   }

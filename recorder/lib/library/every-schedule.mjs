@@ -46,6 +46,6 @@ export function everyOptions(options, callersFolder) {
 export async function everySchedule(options) {
   const { signal, ...taken } = everyOptions(options, () => folderOfCaller(everySchedule));
   // A program that makes runs alone doesn't load it.
-  const [{ dataOf }, { Every }] = await Promise.all([import("../every/data.mjs"), import("../every/every.mjs")]);
-  return dataOf(await new Every(taken, { signal, job: jobHere(taken) }).run());
+  const [{ dataOf }, { EveryUse }] = await Promise.all([import("../every/data.mjs"), import("../every/every-use.mjs")]);
+  return dataOf(await new EveryUse(taken, { signal, job: jobHere(taken) }).run());
 }

@@ -57,6 +57,9 @@ export const whole = (least, most) => number(
   `a whole number from ${least} to ${most === Number.MAX_SAFE_INTEGER ? "2^53 - 1" : most}`,
 );
 
+/** So many operations of an object an agent makes in a run at most. */
+const MOST_OPERATIONS = 1_000;
+
 export const SEED = whole(0, Number.MAX_SAFE_INTEGER);
 
 /** @param {unknown} value */
@@ -122,6 +125,15 @@ export const WORDS = { type: STRINGS.type, value: (value, name) => [...STRINGS.v
 
 /** @type {OptionKind} */
 export const AGENTS = { ...whole(1, SCRIPT_LIMITS.agents), value: checkedAgents };
+
+const isCountOrAny = (/** @type {unknown} */ value) =>
+  value === "any" || (Number.isInteger(value) && Number(value) >= 1 && Number(value) <= MOST_OPERATIONS);
+const COUNT_OR_ANY = `a whole number from 1 to ${MOST_OPERATIONS}, or any`;
+/** @type {OptionKind} */
+export const OPERATIONS_OR_ANY = {
+  ...that('number | "any"', isCountOrAny, COUNT_OR_ANY, (text) => (/^[0-9]+$/.test(text) ? Number(text) : text)),
+  range: COUNT_OR_ANY,
+};
 
 const BYTES = whole(0, SCRIPT_LIMITS.bytes);
 const AGENT = whole(0, SCRIPT_LIMITS.agents - 1);

@@ -5,8 +5,8 @@
 
 import { DEFAULT_SECONDS, MOST_JOBS, SCRIPT_LIMITS } from "../../script/limits.mjs";
 import {
-  AGENTS, AGENTS_THAT_CANT, BOOLEAN, BUFFERS, FUNCTION, PART_OR_NEVER, PATH_OR_URL, PROGRAM, SEED, SEEDS, SHARD, SIGNAL,
-  STRATEGY, WORDS, above0, choice, named, upTo, whole,
+  AGENTS, AGENTS_THAT_CANT, BOOLEAN, BUFFERS, FUNCTION, OPERATIONS_OR_ANY, PART_OR_NEVER, PATH_OR_URL, PROGRAM, SEED,
+  SEEDS, SHARD, SIGNAL, STRATEGY, WORDS, above0, choice, named, upTo, whole,
 } from "./option-kinds.mjs";
 
 /**
@@ -186,6 +186,10 @@ export const OPTIONS = Object.freeze({
   rounds: { kind: whole(1, MOST_ROUNDS), of: ALL, assumed: DEFAULT_ROUNDS, isShared: true, only: OF_AGENTS,
     help: ["N", "how often an agent's [`again()`](#agents-that-choose) returns true in a run of a seed, at most"],
     more: "What `--all` searches has any number of rounds" },
+  each: { ...replayed(OPERATIONS_OR_ANY, undefined,
+    ["N", "how many [operations](#objects) of an object each agent makes at most, or `any`"]), only: OF_AGENTS,
+    more: "`any` is as many rounds as `--rounds` says, and in what `--all` searches any number of them",
+    orElse: "8; with `--all` ever more" },
   maxMoves: rule(whole(1, SCRIPT_LIMITS.moves), SCRIPT_LIMITS.moves, ["M", "how many moves a run may have"]),
   seconds: rule(above0(MOST_SECONDS), DEFAULT_SECONDS, ["S", "for how long an agent may make no call"]),
   fresh: { kind: BOOLEAN, of: OF_MANY, ifNone: false, isShared: true,

@@ -25,7 +25,7 @@ import { TextMaker } from "./run-snapshot.mjs";
 /** @typedef {import("./outcome.mjs").Outcome} Outcome */
 /** @typedef {import("./outcome.mjs").WantedRun} WantedRun */
 
-/** @typedef {{ setup: unknown, names: string[], hasInit: boolean, hasCheck: boolean }} Has what a module has */
+/** @typedef {import("../agent/loaded-module.mjs").Has} Has */
 /** @typedef {{ thread: Thread, has: Has }} Loaded */
 
 /**
@@ -59,7 +59,21 @@ import { TextMaker } from "./run-snapshot.mjs";
  */
 
 const DEFAULT_LOAD_SECONDS = 30;
+
+/** So many agents use an object at most, if their number isn't given. */
+const AGENTS_OF_OBJECT = 4;
+
+/** How many operations of an object an agent makes at most, if that isn't given. */
+const EACH = 8;
 const AGENT_MODULE = new URL("../agent/agent-worker.mjs", import.meta.url);
+
+/**
+ * @param {GroupOptions} options
+ * @param {Has} has what a module of an object has
+ * @returns {GroupOptions} with the number of agents
+ */
+const withAgents = (options, { setup }) =>
+  ({ ...options, agents: options.agents ?? /** @type {any} */ (setup)?.agents ?? AGENTS_OF_OBJECT });
 
 /**
  * A part of a group, which is there when it has started.
@@ -116,6 +130,8 @@ export class Group {
     this.board = undefined;
     /** @type {TextMaker | undefined} */
     this.texts = undefined;
+    /** @type {import("../every/learning/history-judge.mjs").HistoryJudge | undefined} of agents that use an object */
+    this.judge = undefined;
   }
 
   /**
@@ -162,6 +178,7 @@ export class Group {
         thread.post({ replaced: true });
       }
       if (message.ask) thread.post({ problem: this.#askedHere(message.ask) });
+      if (message.history) thread.post({ verdict: await started(this.judge).verdict(message.history) });
       if (message.locate !== undefined) thread.post({ place: await this.#placeOf(message.locate) });
     }
   }
@@ -208,14 +225,15 @@ export class Group {
     const referee = this.beginReferee();
     const loaded = await this.#load(0);
     needsRightNames(loaded.names);
-    this.plan = planOf(this.options, loaded.setup);
+    this.plan = planOf(loaded.isObject ? withAgents(this.options, loaded) : this.options, loaded.setup);
+    if (loaded.isObject) await this.#beginJudge();
     const { strategy, everywhere, inTurn = false, timeouts, maxMoves, cutAfter } = this.options;
     this.rules = { agents: this.plan.agents, ways: waysOf(strategy, everywhere), inTurn, timeouts, maxMoves, cutAfter };
     const options = this.refereeOptions(loaded);
     if (options.init !== undefined && this.plan.agents === SCRIPT_LIMITS.agents) {
       throw new Refused(`with ${SCRIPT_LIMITS.agents} agents none is left for the stores of \`init\`: give one less`);
     }
-    this.memory = memoryOf(this.plan, this.options.logEvents, options.hasCaller);
+    this.memory = memoryOf(this.plan, this.options.logEvents, options.hasCaller, loaded.isObject);
     this.board = new Board(this.memory.board, this.rules);
     const { memory, plan, rules } = this;
     referee.give({ memory, plan, rules, options });
@@ -227,6 +245,19 @@ export class Group {
     await Promise.all(others.map((worker) => this.#load(worker)));
     await Promise.all(this.agents.map((_, worker) => this.#hand(worker)));
     if (hasPilots) await this.#learn(workers, meanwhile);
+    await this.judge?.ready();
+  }
+
+  /** Begins the thread that judges the histories of an object. */
+  async #beginJudge() {
+    const { HistoryJudge } = await import("../every/learning/history-judge.mjs");
+    const { args, module, seconds, timeouts } = this.options;
+    const { agents, buffers, canBlock } = started(this.plan);
+    const noBlock = canBlock.flatMap((can, agent) => (can ? [] : [agent]));
+    /** @type {"early" | "never"} */
+    const choice = timeouts === "never" ? "never" : "early";
+    this.judge = new HistoryJudge({ module, args, place: { agents, buffers, noBlock }, timeouts: choice }, seconds);
+    this.begin(this.judge.thread);
   }
 
   /**
@@ -270,11 +301,13 @@ export class Group {
   /** @param {number} count how many agents' workers are to have begun */
   #beginUpTo(count) {
     const { module, args, ordinary, clock, unrecorded, rounds = assumed("rounds"), chosenTime } = this.options;
+    const { agents, each: most = EACH } = this.options;
+    const each = most === "any" ? Infinity : most;
     const begun = Array.from({ length: count - this.begun.length }, () => this.thread(AGENT_MODULE));
     /** @type {((thread: Thread) => void)[]} */
     const awaited = [];
     for (const thread of begun) {
-      thread.give(AGENT_MODULE, { module, args, ordinary, clock, unrecorded, rounds, chosenTime });
+      thread.give(AGENT_MODULE, { module, args, ordinary, clock, unrecorded, rounds, chosenTime, count: agents, each });
       this.begun.push(new Promise((done) => awaited.push(done)));
       void thread.next().then(() => awaited.shift()?.(thread));
     }

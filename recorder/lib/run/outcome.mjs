@@ -7,7 +7,12 @@
 /** @typedef {import("./windows/in-windows.mjs").NamedWindow} NamedWindow */
 /** @typedef {import("../../script/choices.mjs").AgentChoice} AgentChoice */
 
-/** @typedef {"finished" | "deadlock" | "stuck" | "failed" | "check" | "race" | "limit" | "cut"} Ending */
+/**
+ * How a run ends. Of agents that use an object: the history may not be linearizable, or have a lost wake-up; `blocked`:
+ * the operations that are open rightly wait.
+ * @typedef {"finished" | "deadlock" | "stuck" | "failed" | "check" | "race" | "limit" | "cut" | "not linearizable"
+ * | "lost wake-up" | "blocked"} Ending
+ */
 
 /**
  * @typedef {object} BriefOutcome what the outcome of each run has

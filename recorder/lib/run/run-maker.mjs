@@ -4,9 +4,11 @@
 import { Board } from "../board/board.mjs";
 import { Choices } from "../memory/choice-list.mjs";
 import { NOBODY, ORDER } from "../memory/layout.mjs";
+import { OperationList } from "../memory/operation-list.mjs";
 import { RecordedMemory } from "../memory/recorded-memory.mjs";
 import { Notes } from "../memory/notes.mjs";
 import { agentsState } from "./agents-state.mjs";
+import { historyOf } from "./ending/run-history.mjs";
 import { initialStores } from "./initial.mjs";
 import { isRacy } from "./races/races.mjs";
 import { divergenceText } from "./words/divergence-text.mjs";
@@ -36,6 +38,7 @@ import { unseenText } from "./words/unseen-text.mjs";
  * @property {import("./words/program-names.mjs").ProgramNames} [names] of a program's threads and blocks
  * @property {import("./ending/final-state.mjs").MoreBytes} [more] of a program, in blocks that no script can have
  * @property {import("../memory/choice-list.mjs").ChoiceMade[][]} [choices] of each agent, if one has made some
+ * @property {string} [about] of a run of an object whose history doesn't fit: what was found, in short
  */
 
 /**
@@ -95,6 +98,7 @@ export class RunMaker {
     this.stores = this.board.storesIn(memory.stores, this.memory);
     this.notes = memory.notes.map((each) => new Notes(each));
     this.choices = memory.choices.map((each) => new Choices(each));
+    this.operations = memory.operations?.map((each) => new OperationList(each));
     this.agents = plan.canBlock.map((_, agent) => agent);
     /** @type {import("./agents-state.mjs").RunState} */
     this.state = State === undefined ? agentsState(this.memory, this.agents)
@@ -158,12 +162,27 @@ export class RunMaker {
     const { check, races, unrecorded, kind } = this.options;
     const unseen = unseenText(found.unseen, unrecorded, this.sourceNames.placeName);
     if (unseen !== "" && found.divergence === undefined) return failedFor(unseen, found);
+    const isRace = found.ending === "finished" && found.racy && races === "fail";
+    const verdict = isRace ? undefined : await this.#verdict(found);
+    if (verdict !== undefined) return { ...found, ...verdict };
     if (found.ending !== "finished") return found;
     const isEmpty = kind.mustCall && this.#triedNothing() && !hasChosenNothing(found.choices);
     if (isEmpty) return { ...found, ending: "failed", detail: NOTHING_TRIED };
     const problem = check === undefined ? "" : await this.#asked("check");
     if (problem !== "") return { ...found, ending: "check", detail: `check ${problem}` };
     return found.racy && races === "fail" ? { ...found, ending: "race" } : found;
+  }
+
+  /**
+   * @param {RunResult} found
+   * @returns {Promise<import("../objects/history.mjs").Verdict | undefined>} what the history of a run of an object
+   * changes about how it ends
+   */
+  async #verdict({ ending }) {
+    const { log, operations } = this;
+    if (operations === undefined || ending === "failed") return undefined;
+    const events = historyOf(operations.map((each) => each.read()), log);
+    return (await this.#answered({ history: { events, ending } })).verdict;
   }
 
   /**
@@ -239,6 +258,7 @@ export class RunMaker {
     this.board.deadlines.begin();
     for (const notes of this.notes) notes.clear();
     this.choices.forEach((choices, agent) => choices.begin(wanted.choices?.[agent], wanted.isExact));
+    this.operations?.forEach((each) => each.begin());
   }
 
   /** @returns {RunResult["choices"]} those of the run that was made last */

@@ -28,6 +28,9 @@ import { NO_SCRIPT, realIn, unrecordedIn } from "./words/unseen-text.mjs";
 /** @typedef {import("./windows/in-windows.mjs").Written} Written */
 /** @typedef {import("../memory/task-notes.mjs").TaskNote} TaskNote */
 
+/** How a run ends that doesn't fail. */
+const PASSING = ["finished", "cut", "blocked"];
+
 export class RunReporter {
   /** @param {import("./run-maker.mjs").RefereeWorkerData} given @param {import("./run-maker.mjs").RunMaker} maker */
   constructor({ memory, plan, options }, maker) {
@@ -63,7 +66,7 @@ export class RunReporter {
     const real = realIn(found.real ?? [], this.sourceNames.placeName);
     const isAllowed = (ending === "limit" && options.limits === "allow")
       || (ending === "stuck" && options.stuck === "allow");
-    const fails = ending !== "finished" && ending !== "cut" && !isAllowed;
+    const fails = !PASSING.includes(ending) && !isAllowed;
     const early = deadlines.early();
     const missed = maker.state.whyMissed;
     return {
@@ -268,7 +271,7 @@ export class RunReporter {
    * @param {import("../../script/text.mjs").Transcript} transcript
    * @returns {Pick<OutcomeScript, "detail" | "standing" | "failure">}
    */
-  #failure({ ending, fails, detail }, { waiting, asking, met }, transcript) {
+  #failure({ ending, fails, detail }, { about, waiting, asking, met }, transcript) {
     const { sources, sourceNames } = this;
     const isAnywhere = waiting.length + asking.length > 0 || met !== undefined;
     const places = isAnywhere ? sources.map((each) => each.marked()) : [];
@@ -276,9 +279,10 @@ export class RunReporter {
     const sourceOf = (agent) => (places[agent] === "" ? "" : sourceNames.nameOf(places[agent]));
     const waits = waitsOf(waiting, transcript, sourceOf);
     const stands = [...waits.map(waitText), ...askingLines(asking, transcript, sourceOf)];
-    const isStill = ending === "deadlock" || ending === "limit";
+    const isStill = ending === "deadlock" || ending === "limit" || ending === "lost wake-up";
     const isThrown = ending === "failed" || ending === "check";
-    const failure = () => (isThrown ? thrownIn(detail, sourceNames) : standstillOf(detail, waits));
+    const said = about === undefined ? detail : about;
+    const failure = () => (isThrown ? thrownIn(detail, sourceNames) : standstillOf(said, waits));
     return {
       detail: [detail, ...stands].filter((line) => line !== "").join("\n"),
       ...(isStill ? { standing: standingsOf({ met, waits, asking }, transcript, sourceOf) } : {}),

@@ -34,6 +34,7 @@ const pairOf = (lines) => lines.join(" and ");
 export function failsAlike(run, other) {
   const { ending, detail, races } = other.outcome;
   if (run.outcome.ending !== ending || run.aside.divergence !== undefined) return false;
+  if (ending === "not linearizable" || ending === "lost wake-up") return true;
   if (ending === "deadlock") return waitersOf(run.aside) === waitersOf(other.aside);
   if (ending !== "race") return findingOf(run.outcome.detail) === findingOf(detail);
   return races.length > 0 && run.outcome.races.some(({ lines }) => pairOf(lines) === pairOf(races[0].lines));

@@ -2,7 +2,7 @@
 // tried, or there was no time for all that follows.
 
 import { dataOf } from "../every/data.mjs";
-import { Every } from "../every/every.mjs";
+import { EveryUse } from "../every/every-use.mjs";
 import { everyText } from "../every/every-text.mjs";
 import { everyOptions } from "../library/every-schedule.mjs";
 import { jobHere } from "../library/explore.mjs";
@@ -15,7 +15,7 @@ import { RunFailed } from "./run-failed.cjs";
  */
 export async function everyTried(options, caller) {
   const { signal, ...taken } = everyOptions(options, caller.folder);
-  const data = dataOf(await new Every(taken, { signal, job: jobHere(taken) }).run());
+  const data = dataOf(await new EveryUse(taken, { signal, job: jobHere(taken) }).run());
   const text = everyText(data).trimEnd();
   if (!data.isWhole || data.found.length > 0) throw new RunFailed(text, caller.place);
   return text;

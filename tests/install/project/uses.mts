@@ -6,6 +6,9 @@ import {
 import type { Accesses, Agent, AgentRun, Choice, Ending, ExploreOptions, Outcome, Race, RaceSide } from "sabsim";
 import type { Kind, NamedPart, NamedPlace, OnlyByTime, RecordOptions, Setup, Shortened, Standing } from "sabsim";
 import type { EveryOptions, EverySchedule, FoundBySchedule, OfEvery } from "sabsim";
+import { blocked } from "sabsim/object";
+import type { ObjectMaker, Operation, OperationArguments, Operations } from "sabsim/object";
+import type { TriedUses, UseSize } from "sabsim";
 import type { ManyRuns, MemoryWindow, OfModule, OfProgram, OneRun, RunOptions, Summary, WithBuffers } from "sabsim";
 
 const kind: Kind = "Uint8";
@@ -25,6 +28,23 @@ export const choosing: Agent = ({ buffers: [buffer], again, choose }) => {
 
 const choiceText = ([does, ...numbers]: Choice): string => `${does} ${numbers.join()}`;
 export const choicesText = ({ choices = [] }: Outcome): string => choices.flat().map(choiceText).join();
+
+class Box {
+  put(value: number): boolean {
+    return value > 0;
+  }
+}
+export const object: ObjectMaker<Box> = ({ buffers }) => (buffers.length > 0 ? new Box() : new Box());
+const arrays: OperationArguments = [[1]];
+const taken: Operation<Box> = { args: [arrays], run: (box, value) => box.put(value), after: "put", agents: [0] };
+export const operations: Operations<Box> = { put: [1, 2], taken, often: { after: ["put", "taken"], mayFail: undefined } };
+export class Model {
+  put(value: number): boolean | typeof blocked {
+    return value > 0 ? true : blocked;
+  }
+}
+const sizes = ({ finished, size, next }: TriedUses): UseSize[] => [...finished, size, next];
+export const sizesText = (uses: TriedUses): string => sizes(uses).map(({ agents, each }) => `${agents} ${each}`).join();
 
 // @ts-expect-error: an agent must be synchronous
 export const late: Agent = async ({ buffers }) => void Atomics.load(new Int32Array(buffers[0]!), 0);

@@ -3,11 +3,14 @@
 
 import { workerData } from "node:worker_threads";
 import { OwnClock } from "../../agent/own-clock.mjs";
+import { clientOf } from "../../objects/object-client.mjs";
+import { useOf } from "../../objects/object-module.mjs";
 import { basesOf } from "../search/file.mjs";
 import { nodeText } from "../search/node-texts.mjs";
 import { CantLearn, isSame } from "./asked-nodes.mjs";
 import { Asker } from "./asking.mjs";
 import { AgentModules } from "./agent-modules.mjs";
+import { learnedMarks } from "./learned-marks.mjs";
 import { Learner } from "./learner.mjs";
 import { showing } from "./learning-progress.mjs";
 import { installRealm } from "./realm.mjs";
@@ -26,6 +29,8 @@ import { NodeWays } from "./node-ways.mjs";
  * @property {boolean} isFresh whether real runs have new workers each time
  * @property {boolean} isLasting whether agents' clocks go on from round to round
  * @property {boolean} isEndless whether no wait ends by itself, and no time passes
+ * @property {number} [each] how many operations of an object each agent makes at most, if the module is one of an
+ * object
  * @property {SharedArrayBuffer} progress
  * @property {NodeData[]} nodes
  * @property {EdgeData[]} edges
@@ -99,7 +104,7 @@ async function differing(given, load) {
   asker.isEndless = given.isEndless;
   asker.onCall = showing(new Int32Array(given.progress));
   const platform = installRealm(asker);
-  const agentOf = given.isFresh ? madeAnew(module, platform) : await asItIs(module, load);
+  const agentOf = given.isFresh ? madeAnew(given, platform) : await asItIs(given, load);
   const { bases } = basesOf(plan.buffers);
   // Each run has buffers of its own: what a module keeps by those of an earlier one is out of reach.
   const agentNow = () => {
@@ -107,28 +112,33 @@ async function differing(given, load) {
     return agentOf();
   };
   const agents = { count: plan.agents, args, canBlock: plan.canBlock, isShared };
-  const learner = new Learner(asker, agents, { agentNow, line: () => "" });
+  const marks = given.each === undefined ? undefined : learnedMarks(asker, module, () => []);
+  const learner = new Learner(asker, agents, { agentNow, line: () => "", marks });
   return new Again(learner, given, ways).run();
 }
 
 /**
  * The agent's function of the module as it is written, which is loaded once: it keeps what it keeps from run to run.
- * @param {string} module
+ * @param {AgainWorkerData} given
  * @param {(url: string) => Promise<any>} load
  * @returns {Promise<() => Function>}
  */
-async function asItIs(module, load) {
-  const { default: agent } = await load(module);
+async function asItIs({ module, each }, load) {
+  const agent = agentIn(await load(module), each);
   return () => agent;
 }
 
 /**
- * @param {string} module
+ * @param {AgainWorkerData} given
  * @param {import("./node-platform.mjs").NodePlatform} platform
  * @returns {() => Function} its agent's function, each time of modules that begin anew
  */
-function madeAnew(module, platform) {
+function madeAnew({ module, each }, platform) {
   const graph = new AgentModules(platform, true);
   graph.take(module, true);
-  return () => graph.made({}).get(module)?.default;
+  return () => agentIn(graph.made({}).get(module), each);
 }
+
+/** @param {any} exported by the module @param {number | undefined} each as above @returns {Function} the agents' */
+const agentIn = (exported, each) =>
+  (each === undefined ? exported.default : clientOf(useOf(exported, { isAlone: false, each, staying: 0 })));

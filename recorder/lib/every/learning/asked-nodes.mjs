@@ -51,6 +51,16 @@ export const askedAccess = (block, from, size, base, written) =>
  */
 export const askedChoice = (asked, what) => ({ ...NOTHING, does: DOES.CHOOSE, limit: asked, text: what });
 
+/** @param {number} call of an object's calls @returns {AskedNode} its beginning */
+export const askedBegin = (call) => ({ ...NOTHING, does: DOES.BEGINS, limit: call });
+
+/**
+ * @param {string} outcome of an operation of an object
+ * @param {boolean} isAlone whether it has made no act
+ * @returns {AskedNode} its end
+ */
+export const askedOutcome = (outcome, isAlone) => ({ ...NOTHING, does: DOES.ENDS, text: outcome, isAlone });
+
 /**
  * @param {Call} call
  * @param {object} view its array, as the engine knows it

@@ -6,7 +6,7 @@ import { DOES, DONE, TIMED_OUT } from "../search/nodes.mjs";
 import { AGAIN, askedOf } from "../../../script/choices.mjs";
 import { NO_CHOICE } from "../../agent/choosing.mjs";
 import { OwnClock } from "../../agent/own-clock.mjs";
-import { CantLearn, askedAccess, askedCall, askedChoice, returned } from "./asked-nodes.mjs";
+import { CantLearn, askedAccess, askedBegin, askedCall, askedChoice, askedOutcome, returned } from "./asked-nodes.mjs";
 import { hadOtherNext } from "./iterators.mjs";
 import { LeftPromises } from "./left-promises.mjs";
 import { PART } from "./learning-progress.mjs";
@@ -59,6 +59,12 @@ const hasMore = (buffer) =>
   Reflect.ownKeys(buffer).length > 0 || Reflect.getPrototypeOf(buffer) !== ofBuffers || !Reflect.isExtensible(buffer);
 
 export class Asker {
+  /** Whether the agent has made a call of Atomics since it began the operation that it makes. */
+  hasActed = false;
+
+  /** @type {CantLearn | undefined} why the agent can't be learned */
+  refused;
+
   constructor() {
     /** @type {number[]} of each buffer where it begins in the bytes of all */
     this.bases = [];
@@ -94,8 +100,6 @@ export class Asker {
     this.unshown = undefined;
     /** @type {() => string} where the agent that runs now is */
     this.lineHere = () => "a place that isn't known";
-    /** @type {CantLearn | undefined} why the agent can't be learned */
-    this.refused = undefined;
     const isRunning = () => this.run !== undefined && !this.isBroken;
     this.promises = new LeftPromises(isRunning, () => this.#stop(GOES_ON, this.lineHere()));
   }
@@ -183,9 +187,9 @@ export class Asker {
     }
   }
 
-  /** @param {string} why @returns {never} */
-  refuse(why) {
-    this.#stop(why, this.lineHere());
+  /** @param {string} why @param {string} [line] where, if it isn't where the agent is @returns {never} */
+  refuse(why, line = this.lineHere()) {
+    this.#stop(why, line);
     return this.#breakOff();
   }
 
@@ -239,6 +243,7 @@ export class Asker {
     this.#enter();
     this.#endWrite();
     const { asked, thrown } = askedCall(call, view, this.bases[call.block]);
+    this.hasActed = true;
     const isOver = this.isEndless && asked.does === DOES.WAIT && asked.limit === 0;
     if (isOver) this.refuse("it waits for 0 ms, which ends by itself even with --timeouts never");
     const answer = this.#ask(asked);
@@ -260,6 +265,27 @@ export class Asker {
     this.#endWrite();
     if (asked === AGAIN) this.clock.round();
     return /** @type {number} */ (this.#ask(askedChoice(asked, what)));
+  }
+
+  /**
+   * An agent begins an operation of an object.
+   * @param {number} call which one
+   */
+  begins(call) {
+    this.#enter();
+    this.#endWrite();
+    this.hasActed = false;
+    this.#ask(askedBegin(call));
+  }
+
+  /**
+   * An agent's operation of an object ends.
+   * @param {string} outcome
+   */
+  ends(outcome) {
+    this.#enter();
+    this.#endWrite();
+    this.#ask(askedOutcome(outcome, !this.hasActed));
   }
 
   /**

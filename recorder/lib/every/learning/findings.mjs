@@ -2,6 +2,7 @@
 // Things that have the same message, without its numbers, are one finding.
 
 import { choiceOf } from "../../../script/choices.mjs";
+import { verdictOf } from "../../objects/history.mjs";
 import { actorOf, chosenIn } from "../search/chosen-acts.mjs";
 import { DOES, isChoice } from "../search/nodes.mjs";
 import { endingHere } from "../search/result.mjs";
@@ -15,8 +16,11 @@ import { problemOf } from "./thrown.mjs";
 /** @typedef {import("../search/result.mjs").Kinds} Kinds */
 
 /** @typedef {import("../../../script/choices.mjs").AgentChoice} AgentChoice */
+/** @typedef {import("../../objects/history.mjs").HistoryEvent} HistoryEvent */
 
-/** @typedef {"deadlock" | "threw" | "check" | "race" | "no way out"} FindingKind */
+/**
+ * @typedef {"deadlock" | "threw" | "check" | "race" | "no way out" | "not linearizable" | "lost wake-up"} FindingKind
+ */
 
 /**
  * @typedef {object} Finding
@@ -32,6 +36,7 @@ import { problemOf } from "./thrown.mjs";
  * @property {number} acts
  * @property {boolean} isEarly whether a timed wait ends while something else can move
  * @property {boolean} goesOn whether agents go on behind the row
+ * @property {number} operations of an object that are begun on the way, if it is about their history
  * @property {boolean} spins whether an agent stands in a loop of reads on the way, where no real run changes agents
  */
 
@@ -92,6 +97,7 @@ export class Findings {
   #hasAny() {
     const { kinds, problems } = this;
     const named = kinds.failed.size + kinds.conflicts.size + problems.size;
+    if (kinds.wrong !== undefined || kinds.lost !== undefined) return true;
     return named > 0 || kinds.deadlock !== undefined || (kinds.noWayOut !== undefined && !kinds.neverEnds);
   }
 
@@ -123,12 +129,14 @@ export class Findings {
   #at(state) {
     const { kinds, search, search: { world } } = this;
     world.load(state);
-    const { texts, isDeadlock, isFinal } = endingHere(search);
+    const { texts, isDeadlock, isFinal, isLost, isWrong } = endingHere(search);
     /** @type {StateFinding[]} */
     const here = [];
     // In most states nobody has thrown, and what a set gives to a list takes time here.
     if (texts.size > 0) here.push(...[...texts].map(threwText));
     if (isDeadlock) here.push(this.#deadlock());
+    if (isWrong) here.push({ key: "not linearizable", kind: "not linearizable", text: "" });
+    if (isLost || kinds.spins(state)) here.push({ key: `lost wake-up ${isLost}`, kind: "lost wake-up", text: "" });
     const problem = isFinal ? this.problems.get(world.memory) : undefined;
     if (problem !== undefined) here.push({ key: `check ${plain(problem)}`, kind: "check", text: problem });
     if (kinds.conflicts.size > 0) here.push(...this.#races());
@@ -167,9 +175,34 @@ export class Findings {
   #finding({ key, kind, text, states }, { state, way, names, changes, isEarly }) {
     const { calls, choices, lastChooser, row, spins } = this.#wayOf(way);
     const next = (this.#at(state).find((one) => one.key === key)?.next ?? []).map((agent) => names[agent]);
-    const goesOn = kind === "race" || kind === "no way out";
-    const moves = { row: [...row, ...next], calls, choices, lastChooser, changes, acts: way.length };
-    return { kind, text, states, ...moves, isEarly, goesOn, spins };
+    const isSpinning = kind === "lost wake-up" && this.kinds.spins(state);
+    const goesOn = kind === "race" || kind === "no way out" || kind === "not linearizable" || isSpinning;
+    // The choices of agents that use an object are no acts of it.
+    const acts = this.learned.object === undefined ? way.length : row.length;
+    const moves = { row: [...row, ...next], calls, choices, lastChooser, changes, acts };
+    const events = this.#historyOf(kind, way);
+    const operations = events.filter(({ call }) => call !== undefined).length;
+    const { object } = this.learned;
+    const said = object === undefined || operations === 0 ? text : verdictOf(object, events, "deadlock")?.detail ?? text;
+    return { kind, text: said, states, ...moves, isEarly, goesOn, spins, operations };
+  }
+
+  /**
+   * @param {FindingKind} kind
+   * @param {number[]} way the acts in their order
+   * @returns {HistoryEvent[]} of a finding about the history of an object: what its agents begin and end
+   */
+  #historyOf(kind, way) {
+    const { learned: { object }, search: { world } } = this;
+    if (object === undefined || (kind !== "not linearizable" && kind !== "lost wake-up")) return [];
+    const { operations } = object;
+    world.restart();
+    /** @type {HistoryEvent[]} */
+    const events = [];
+    operations.journal = events;
+    for (const act of way) world.step(actorOf(act), chosenIn(act));
+    operations.journal = undefined;
+    return events;
   }
 
   /**

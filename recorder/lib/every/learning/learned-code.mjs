@@ -3,6 +3,7 @@
 
 import { basename } from "node:path";
 import { described } from "../../agent/described.mjs";
+import { isObjectModule, useOf } from "../../objects/object-module.mjs";
 import { Refused } from "../../options/refused.mjs";
 import { NamedBuiltins } from "../state/named-builtins.mjs";
 import { Capture } from "../state/capture.mjs";
@@ -20,6 +21,7 @@ import { PART } from "./learning-progress.mjs";
 const REPLACES_NEXT =
   "--all can't learn what the agents do: a module replaces the `next` of all iterators of arrays";
 const PRELUDE = new URL("../state/prelude.mjs", import.meta.url).href;
+const CLIENT = new URL("../../objects/object-client.mjs", import.meta.url).href;
 
 /** @typedef {import("./asked-nodes.mjs").AskedNode} AskedNode */
 
@@ -48,18 +50,76 @@ export class LearnedCode {
     this.runtime = runtime;
     this.builtins = builtins;
     this.capture = capture;
+    /** How many operations each agent makes at most, if the module is one of an object. */
+    this.each = Infinity;
     /** How often the modules were made anew. */
     this.renewals = -1;
     this.#renew();
+    if (this.isObject) this.#takeClient();
     this.#first = this.#kept();
   }
 
   /** What the agents' module exports. @returns {{ agent: any, init: any, check: any, setup: any }} */
   get exports() {
-    const { default: agent, ...own } = /** @type {Record<string, any>} */ (this.#exports?.get(this.url));
+    const { default: agent, ...own } = this.#own();
+    if (this.isObject) return { init: own.init, check: own.check, setup: own.setup, agent: this.#client(false) };
     if (typeof agent !== "function") throw new Refused("the module has no function as its default export");
     const { init = agent.init, check = agent.check, setup = agent.setup } = own;
     return { agent, init, check, setup };
+  }
+
+  /** Whether the module is one of an object: its agents are the tool's. */
+  get isObject() {
+    return isObjectModule(this.#own());
+  }
+
+  /** Whether what is right of the object is said by a class of its own. */
+  get hasModel() {
+    return this.#own().Model !== undefined;
+  }
+
+  /** @returns {import("../../objects/object-calls.mjs").ObjectCall[]} what the agents of an object may call */
+  calls() {
+    return this.#use(true).calls;
+  }
+
+  /** @returns {Function} one agent alone, of modules that keep what they keep at first, which uses what is right */
+  modelNow() {
+    this.#needFirst();
+    return this.#client(true);
+  }
+
+  /** @returns {Record<string, any>} */
+  #own() {
+    return /** @type {Record<string, any>} */ (this.#exports?.get(this.url));
+  }
+
+  /** The agents of an object are rewritten as its own code is. */
+  #takeClient() {
+    this.graph.take(CLIENT);
+    this.capture.texts.set(CLIENT, /** @type {any} */ (this.graph.texts.get(CLIENT)));
+    this.capture.others.add(CLIENT);
+    this.#renew();
+  }
+
+  /** @param {boolean} isAlone @returns {Function} */
+  #client(isAlone) {
+    const { clientOf } = /** @type {any} */ (this.#exports?.get(CLIENT));
+    return clientOf(this.#use(isAlone));
+  }
+
+  /** @param {boolean} isAlone @returns {import("../../objects/object-client.mjs").ObjectUse} */
+  #use(isAlone) {
+    try {
+      return useOf(this.#own(), { isAlone, each: isAlone ? Infinity : this.each, staying: 0 });
+    } catch (thrown) {
+      throw new Refused(`--all can't load ${basename(this.url)}: ${/** @type {Error} */ (thrown).message}`);
+    }
+  }
+
+  #needFirst() {
+    if (this.#isLeft || this.#first === undefined || this.#kept() !== this.#first) this.#renew();
+    this.runtime.beginAgent();
   }
 
   /** From now on only `init` and `check` have the modules that are there: agents get others. */
@@ -69,8 +129,7 @@ export class LearnedCode {
 
   /** @returns {Function} the agent's function, of modules that keep what they keep at first */
   agentNow() {
-    if (this.#isLeft || this.#first === undefined || this.#kept() !== this.#first) this.#renew();
-    this.runtime.beginAgent();
+    this.#needFirst();
     return this.exports.agent;
   }
 

@@ -1,18 +1,31 @@
 // Learns the agents of a module and searches all their schedules. It runs in a thread of its own, since the agents'
 // code may never come back.
 
+import { Monitor } from "../../objects/monitor.mjs";
 import { planOf } from "../../options/plan.mjs";
 import { basesOf } from "../search/file.mjs";
+import { MonitoredOperations } from "../search/operations.mjs";
 import { Search } from "../search/search.mjs";
 import { CantLearn } from "./asked-nodes.mjs";
 import { OwnClock } from "../../agent/own-clock.mjs";
 import { KeepsClock } from "./clock-rounds.mjs";
 import { Learner, LooksAtClock, LooksAtNumber } from "./learner.mjs";
+import { learnedMarks } from "./learned-marks.mjs";
 import { PART } from "./learning-progress.mjs";
+import { ObjectModel, Outcomes } from "./object-model.mjs";
 import { problemOf } from "./thrown.mjs";
 
 /** @typedef {import("../search/world.mjs").Program} Program */
 /** @typedef {import("./learned-code.mjs").LearnedCode} LearnedCode */
+
+/**
+ * @typedef {object} MonitoredObject an object whose operations are watched
+ * @property {import("../../objects/object-calls.mjs").ObjectCall[]} calls
+ * @property {ObjectModel} model
+ * @property {Monitor} monitor
+ * @property {Outcomes} outcomes
+ * @property {MonitoredOperations} operations
+ */
 
 /**
  * @typedef {object} LearningOptions
@@ -21,6 +34,7 @@ import { problemOf } from "./thrown.mjs";
  * @property {import("../search/search.mjs").Choice} timeouts
  * @property {number} limit how many states at most
  * @property {boolean} [isUnmerged] whether no two histories become one node
+ * @property {number} [each] how many operations of an object each agent makes at most
  */
 
 export class Learned {
@@ -29,6 +43,7 @@ export class Learned {
     this.code = code;
     this.asker = asker;
     this.wanted = wanted;
+    if (wanted.each !== undefined) code.each = wanted.each;
     this.exports = code.exports;
     this.plan = planOf(wanted.place, this.exports.setup);
     const { bases, length } = basesOf(this.plan.buffers);
@@ -46,6 +61,8 @@ export class Learned {
     this.learner = this.#newLearner();
     /** @type {Program | undefined} */
     this.program = undefined;
+    /** @type {MonitoredObject | undefined} of a module of an object: what goes along with the search */
+    this.object = undefined;
   }
 
   /** @param {number} length @returns {Uint8Array} the bytes of all buffers as `init` leaves them */
@@ -61,14 +78,17 @@ export class Learned {
     return bytes;
   }
 
-  #newLearner() {
-    const { asker, code, isShared, plan, wanted } = this;
+  /** @param {boolean} [isModel] whether it learns what is right of an object, used by one agent alone */
+  #newLearner(isModel = false) {
+    const { asker, code, plan, wanted } = this;
+    const isShared = this.isShared && !isModel;
     const key = wanted.isUnmerged ? undefined : code.key.bind(code);
     const agents = { count: plan.agents, args: wanted.args, canBlock: plan.canBlock, isShared };
     const lineOfError = (/** @type {Error} */ error) => code.lineOf(error);
     const own = {
-      agentNow: () => code.agentNow(), line: () => code.line(), place: () => code.place(), lineOfError, key,
-      hasChanged: () => code.hasChanged(),
+      agentNow: () => (isModel ? code.modelNow() : code.agentNow()), line: () => code.line(),
+      place: () => code.place(), lineOfError, key, hasChanged: () => code.hasChanged(),
+      marks: code.isObject ? this.#marks() : undefined,
     };
     const learner = new Learner(asker, agents, own);
     learner.hasClock = this.hasClock;
@@ -77,6 +97,38 @@ export class Learned {
     code.builtins.names.set(learner.number, "number").set(learner.changesNumber, "changesNumber");
     code.builtins.names.set(learner.choices.again, "again").set(learner.choices.choose, "choose");
     return learner;
+  }
+
+  /** @returns {import("../../objects/object-client.mjs").OperationMarks} what the client of an object calls */
+  #marks() {
+    const { asker, code } = this;
+    const marks = learnedMarks(asker, code.url, () => code.calls());
+    const { names } = code.builtins;
+    names.set(marks.lacks, "lacks").set(marks.begins, "begins").set(marks.ends, "ends");
+    return marks;
+  }
+
+  /**
+   * @returns {MonitoredObject} what goes along with a search of agents that use an object; it is learned as they are
+   */
+  monitored() {
+    const { bases, code, initial, plan, wanted: { timeouts } } = this;
+    const learner = this.#newLearner(true);
+    const program = {
+      lengths: plan.buffers, bases, initial, nodes: learner.nodes, mayLack: false,
+      agents: [{ canBlock: plan.canBlock[0], root: learner.root(0, Uint8Array.from(initial)) }],
+      learn: learner.learn.bind(learner),
+    };
+    const outcomes = new Outcomes();
+    const calls = code.calls();
+    const how = {
+      isClass: code.hasModel, isEndless: timeouts === "never",
+      lineOf: (/** @type {import("../search/nodes.mjs").Node} */ node) => learner.lineOf(node),
+    };
+    const model = new ObjectModel(program, calls, outcomes, how);
+    const mayFail = calls.map(({ mayFail: outcome }) => (outcome === undefined ? outcome : outcomes.numberOf(outcome)));
+    const monitor = new Monitor(model, plan.agents, mayFail);
+    return { calls, model, monitor, outcomes, operations: new MonitoredOperations(monitor, outcomes, plan.agents) };
   }
 
   /**
@@ -104,9 +156,10 @@ export class Learned {
     // What an agent writes before its first call is seen by later ones.
     const bytes = Uint8Array.from(initial);
     const agents = plan.canBlock.map((canBlock, agent) => ({ canBlock, root: learner.root(agent, bytes) }));
+    this.object = this.code.isObject ? this.monitored() : undefined;
     this.program = {
       lengths: plan.buffers, bases, initial, agents, nodes: learner.nodes, mayLack: false,
-      learn: (node, answer, found) => learner.learn(node, answer, found),
+      learn: (node, answer, found) => learner.learn(node, answer, found), operations: this.object?.operations,
     };
     const search = new Search(this.program, { timeouts, limit, isLate });
     search.run();

@@ -5,7 +5,7 @@ import { AGAIN } from "../../../script/choices.mjs";
 import { leftOpen } from "../../agent/answer.mjs";
 import { choicesBy } from "../../agent/choosing.mjs";
 import { CantShow } from "../state/object-kinds.mjs";
-import { DONE, DOES, isCall, isChoice, isOwnAct, nodeOf } from "../search/nodes.mjs";
+import { DONE, DOES, isCall, isChoice, isMark, isOwnAct, nodeOf } from "../search/nodes.mjs";
 import { nodeText } from "../search/node-texts.mjs";
 import { CantLearn, askedEnd, isSame, keyOf } from "./asked-nodes.mjs";
 import { accessed, cantText } from "./asking.mjs";
@@ -48,6 +48,7 @@ const NAMES_REWRITTEN = "it throws an error whose message names code that was re
  * @property {(asked: AskedNode) => string} [key] shows the state of the agent that asks, and throws CantShow if it
  * can't; without, no two histories are one node
  * @property {() => boolean} [hasChanged] whether the agent may go on otherwise than if its state had not been shown
+ * @property {import("../../objects/object-client.mjs").OperationMarks} [marks] what the client of an object calls
  */
 
 /** @typedef {{ nodes: number, line: string }} HiddenKind how many nodes, and the line of the first one */
@@ -55,14 +56,18 @@ const NAMES_REWRITTEN = "it throws an error whose message names code that was re
 /** @typedef {{ node: Node, answer: Answer } | undefined} NodeOrigin of a node: the first edge that has led there */
 
 export class Learner {
+  /** How often an agent's function was called. */
+  runs = 0;
+
   /**
    * @param {import("./asking.mjs").Asker} asker
    * @param {Agents} agents
    * @param {AgentCode} code
    */
   constructor(asker, agents, code) {
-    const { agentNow, line, place = () => -1, lineOfError = line, key, hasChanged = () => false } = code;
+    const { agentNow, line, place = () => -1, lineOfError = line, key, hasChanged = () => false, marks } = code;
     this.asker = asker;
+    this.marks = marks;
     this.choices = choicesBy((asked) => asker.choose(asked));
     this.agents = agents;
     this.agentNow = agentNow;
@@ -83,7 +88,6 @@ export class Learner {
     this.hidden = new Map();
     /** @type {number[]} by the numbers of nodes their places, as far as these are known */
     this.places = [];
-    this.runs = 0;
     this.looksAtNumber = false;
     /** Whether what time it is for an agent is a part of its state. */
     this.hasClock = false;
@@ -182,7 +186,8 @@ export class Learner {
     const { count, args } = agents;
     const given = { buffers: [...asker.buffers], agent, agents: count, args: [...args], ...this.choices };
     if (agents.isShared) putNumber(given, this.number, this.changesNumber);
-    return asker.watched(PART.AGENT, () => this.#ended(run, () => fn(given)));
+    const body = this.marks === undefined ? () => fn(given) : () => fn(given, this.marks);
+    return asker.watched(PART.AGENT, () => this.#ended(run, body));
   }
 
   /**
@@ -296,7 +301,7 @@ class Growing {
   /** @param {AskedNode} asked */
   #grow(asked) {
     const isOfCall = isCall(/** @type {Node} */ (asked));
-    const stops = isOfCall || isChoice(asked);
+    const stops = isOfCall || isChoice(asked) || asked.isAlone;
     this.accesses = stops ? 0 : this.accesses + 1;
     if (this.accesses > MOST_ACCESSES) throw this.#cant("it makes 100,000 ordinary accesses without a call of Atomics");
     const isLong = !stops && this.accesses > READS_BEFORE_COMPARING;
@@ -309,7 +314,7 @@ class Growing {
     // A loop of reads that has come back to itself stops there.
     if (!isNew && this.made.has(node)) node.isAlone = true;
     if (isNew && !stops) this.made.add(node);
-    this.isHead = false;
+    if (!isMark(asked)) this.isHead = false;
     const goesOn = isNew && !(isCompared && this.learner.hasChanged());
     return goesOn ? this.#further(node, isOfCall) : undefined;
   }
@@ -338,7 +343,8 @@ class Growing {
       this.bytes = undefined;
       this.isHead = true;
       answer = DONE;
-    } else if (!isOwnAct(node) && this.bytes !== undefined) answer = accessed(node, this.bytes);
+    } else if (isMark(node)) answer = node.isAlone ? undefined : DONE;
+    else if (!isOwnAct(node) && this.bytes !== undefined) answer = accessed(node, this.bytes);
     else if (node.does === DOES.WRITE) answer = DONE;
     if (answer !== undefined) this.origin = { node, answer };
     return answer;

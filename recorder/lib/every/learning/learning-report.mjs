@@ -23,6 +23,16 @@ import { NodeWays } from "./node-ways.mjs";
 
 /** @typedef {AskedNode & { id: number }} NodeData */
 
+/**
+ * @typedef {object} ObjectData about an object that the agents use
+ * @property {boolean} hasModel whether what is right is said by a class of its own
+ * @property {boolean} isFinished whether the model had few enough states
+ * @property {number} modelStates how many of these were needed
+ * @property {string[]} alwaysThrow operations that have always thrown there
+ * @property {number} sets how many sets of configurations there are
+ * @property {number} notJudged in how many states the history isn't judged
+ */
+
 /** @typedef {ReturnType<typeof learningReportOf>} LearningReport */
 
 /**
@@ -35,13 +45,15 @@ export function learningReportOf(learned, search) {
   const kinds = new Kinds(search).find();
   const findings = new Findings(learned, search, kinds).all();
   const positions = new Positions(program);
-  const edges = edgesOf(positions);
+  const all = learned.object === undefined ? positions : new Positions(program, true);
+  const edges = edgesOf(all);
   const named = {
     position: (/** @type {Node} */ node) => positions.of(node),
     blocksOf: (/** @type {number} */ memory) => blocksIn(search.world, memory),
   };
   return {
     isClosed: search.isClosed, bound: search.bound, isShared, plan, hasLikes: search.world.hasLikes,
+    each: learned.object === undefined ? undefined : code.each,
     neverEnds: kinds.neverEnds, keptClock: learned.keptClock,
     drawsRandom: positions.nodes.flat().some(isRandom),
     /** All schedules up to so many acts were tried. */
@@ -49,15 +61,29 @@ export function learningReportOf(learned, search) {
     result: resultOf(search, kinds, named),
     file: fileOf(program, positions),
     findings,
-    counts: countsOf(positions),
+    counts: countsOf(all),
+    object: objectDataOf(learned, kinds),
     edges,
     ways: new NodeWays(edges).counts(),
-    nodes: positions.nodes.flat().map(dataOf),
+    nodes: all.nodes.flat().map(dataOf),
     hidden: [...learner.hidden].map(([why, kind]) => ({ why, ...kind })).sort((one, other) => other.nodes - one.nodes),
     runs: learner.runs, renewals: code.renewals,
     changesBuiltins: code.builtins.haveChanged(),
     widest: widestOf(learned, positions),
   };
+}
+
+/**
+ * @param {import("./learned.mjs").Learned} learned
+ * @param {Kinds} kinds
+ * @returns {ObjectData | undefined} undefined: the agents use no object that is watched
+ */
+function objectDataOf({ code, object }, kinds) {
+  if (object === undefined) return undefined;
+  const { model, monitor } = object;
+  const { isFinished, states } = model;
+  const counts = { sets: monitor.sets.length, notJudged: kinds.notJudged, modelStates: states.size };
+  return { hasModel: code.hasModel, isFinished, alwaysThrow: model.alwaysThrow(), ...counts };
 }
 
 /** @param {Positions} positions */

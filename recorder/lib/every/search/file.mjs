@@ -2,7 +2,7 @@
 
 import { CALL_NUMBERS, CALLS, SCRIPT_KINDS, SIZES, isBigKind } from "../../../script/kinds.mjs";
 import { hexOf, rawAt, rawOf } from "./raw-elements.mjs";
-import { DONE, DOES, NOT_EQUAL, OK, TIMED_OUT, actsOf, isCall, isChoice, nodeOf } from "./nodes.mjs";
+import { DONE, DOES, NOT_EQUAL, OK, TIMED_OUT, actsOf, isCall, isChoice, isMark, nodeOf } from "./nodes.mjs";
 import { AutomatonViews, nodeAnswerText, callData } from "./node-texts.mjs";
 
 /** @typedef {import("./nodes.mjs").Node} Node */
@@ -37,11 +37,11 @@ export function basesOf(lengths) {
 
 /** The nodes in use, each at its position in its automaton. */
 export class Positions {
-  /** @param {Program} program */
-  constructor({ agents }) {
+  /** @param {Program} program @param {boolean} [hasMarks] whether marks are among them: no file has any */
+  constructor({ agents }, hasMarks = false) {
     /** @type {Node[]} the first node of each automaton, by their positions in the file */
     this.roots = [...new Set(agents.map(({ root }) => root))];
-    const used = this.roots.map(reachable);
+    const used = this.roots.map((root) => reachable(root, hasMarks));
     /** @type {Node[][]} */
     this.nodes = used;
     /** @type {Map<Node, [number, number]>} */
@@ -55,10 +55,21 @@ export class Positions {
   }
 }
 
-/** @param {Node} root @returns {Node[]} the nodes that edges lead to from it: itself first, then by their numbers */
-function reachable(root) {
+/** @param {Node} node @returns {Node} the first one from it on that is no mark */
+function pastMarks(node) {
+  let next = node;
+  while (isMark(next)) next = /** @type {Node} */ (next.edges.get(DONE));
+  return next;
+}
+
+/**
+ * @param {Node} root
+ * @param {boolean} hasMarks
+ * @returns {Node[]} the nodes that edges lead to from it: itself first, then by their numbers
+ */
+function reachable(root, hasMarks) {
   const seen = new Set([root]);
-  for (const node of seen) for (const next of node.edges.values()) seen.add(next);
+  for (const node of seen) for (const next of node.edges.values()) seen.add(hasMarks ? next : pastMarks(next));
   seen.delete(root);
   return [root, ...[...seen].sort((one, other) => one.id - other.id)];
 }
@@ -88,7 +99,8 @@ export function fileOf(program, positions) {
 function nodeData(node, views, positions) {
   if (node.does === DOES.FINISHED) return { finished: true };
   if (node.does === DOES.THREW) return { threw: node.text };
-  const edges = [...node.edges].map(([answer, next]) => [nodeAnswerText(node, answer), positions.of(next)[1]]);
+  const edges = [...node.edges].map(([answer, next]) =>
+    [nodeAnswerText(node, answer), positions.of(pastMarks(next))[1]]);
   if (isCall(node)) return { call: callData(node, views), edges };
   if (isChoice(node)) return { choose: actsOf(node), edges };
   const { block, byte, size, written, isAlone } = node;

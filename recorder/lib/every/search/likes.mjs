@@ -71,6 +71,7 @@ function exchange(world, line, one, other) {
   const { nodes, recent } = world;
   swap(nodes, one, other);
   swap(recent, one, other);
+  world.operations?.exchange(one, other);
   if (world.wasWoken(one) !== world.wasWoken(other)) world.woken ^= (1 << one) | (1 << other);
   const place = line.indexOf(one);
   const against = line.indexOf(other);

@@ -3,7 +3,7 @@
 import { askedText, choiceOf } from "../../../script/choices.mjs";
 import { CALLS, SCRIPT_KINDS, SIZES } from "../../../script/kinds.mjs";
 import { hexOf } from "./raw-elements.mjs";
-import { DOES, NOT_EQUAL, OK, TIMED_OUT, isCall, isChoice } from "./nodes.mjs";
+import { DOES, NOT_EQUAL, OK, TIMED_OUT, isCall, isChoice, isMark } from "./nodes.mjs";
 
 /** @typedef {import("./nodes.mjs").Node} Node */
 /** @typedef {import("./nodes.mjs").Answer} Answer */
@@ -12,7 +12,7 @@ const WORDS = new Map([[OK, "ok"], [NOT_EQUAL, "not-equal"], [TIMED_OUT, "timed-
 
 /** @param {Node} node @param {Answer} answer of it @returns {string} */
 export function nodeAnswerText(node, answer) {
-  if (node.does === DOES.WRITE) return "";
+  if (node.does === DOES.WRITE || isMark(node)) return "";
   if (node.does === DOES.READ) return typeof answer === "string" ? answer : hexOfNumber(Number(answer), node.size);
   if (typeof answer === "string") return answer;
   if (node.does === DOES.WAIT) return /** @type {string} */ (WORDS.get(Number(answer)));
@@ -82,6 +82,8 @@ export function nodeText(node) {
   if (node.does === DOES.THREW) return `throws ${node.text}`;
   if (isCall(node)) return JSON.stringify(callData(node, new AutomatonViews()));
   if (isChoice(node)) return askedText(choiceOf(/** @type {number} */ (node.limit), 0));
+  if (node.does === DOES.BEGINS) return `begins the call ${node.limit} of its operations`;
+  if (node.does === DOES.ENDS) return `ends an operation, which ${node.text}`;
   const { block, byte, size, written } = node;
   const bytes = `${size} bytes of block ${block} from byte ${byte} on`;
   return written === undefined ? `reads ${bytes}` : `writes ${hexOf(written, 0, size)} to ${bytes}`;

@@ -10,8 +10,8 @@ const { load: LOAD, store: STORE, wait: WAIT, notify: NOTIFY, compareExchange: C
 export const DOES = Object.freeze({
   LOAD, STORE, COMPARE_EXCHANGE, WAIT, NOTIFY, ADD: CALL_NUMBERS.add, SUB: CALL_NUMBERS.sub, AND: CALL_NUMBERS.and,
   OR: CALL_NUMBERS.or, XOR: CALL_NUMBERS.xor, EXCHANGE: CALL_NUMBERS.exchange,
-  READ: CALLS.length, WRITE: CALLS.length + 1, CHOOSE: CALLS.length + 2, FINISHED: CALLS.length + 3,
-  THREW: CALLS.length + 4,
+  READ: CALLS.length, WRITE: CALLS.length + 1, CHOOSE: CALLS.length + 2, BEGINS: CALLS.length + 3,
+  ENDS: CALLS.length + 4, FINISHED: CALLS.length + 5, THREW: CALLS.length + 6,
 });
 
 /** The answers of a wait, as edges have them. */
@@ -19,7 +19,7 @@ export const OK = 0;
 export const NOT_EQUAL = 1;
 export const TIMED_OUT = 2;
 
-/** The answer of what is answered nothing: a store or a write. */
+/** The answer of what is answered nothing: a store, a write or a mark. */
 export const DONE = 0;
 
 /**
@@ -42,15 +42,15 @@ export const DONE = 0;
  * @property {number} at its first byte in the bytes of all blocks
  * @property {(number | bigint)[]} operands as the code gave them
  * @property {(number | bigint)[]} raw the same as elements, without a sign
- * @property {number | undefined} limit the timeout of a wait in milliseconds, the count of a notify, or what a choice
- * asks, as `askedOf` has it
+ * @property {number | undefined} limit the timeout of a wait in milliseconds, the count of a notify, what a choice asks,
+ * as `askedOf` has it, or which call of an object begins
  * @property {string | undefined} error what the call throws wherever it is made
  * @property {{ offset: number, length: number, index: number } | undefined} outside of a call that is at no element of
  * its array: what its array is, and the index
  * @property {number | bigint | undefined} returns what a store returns, if no script can have its operand
  * @property {Uint8Array | undefined} written by a write
- * @property {boolean} isAlone whether it is a read that is an act of its own
- * @property {string | undefined} text that it threw, or which random numbers a choice is among
+ * @property {boolean} isAlone whether it is a read that is an act of its own, or the end of an operation without an act
+ * @property {string | undefined} text that it threw, which random numbers a choice is among, or how an operation ends
  * @property {Map<Answer, Node>} edges
  */
 
@@ -67,7 +67,10 @@ export const isCall = ({ does }) => does < DOES.READ;
 /** @param {Pick<Node, "does">} node @returns {boolean} whether it is a choice */
 export const isChoice = ({ does }) => does === DOES.CHOOSE;
 
-/** @param {Node} node @returns {boolean} whether agents stop there: a call, a choice, or a read by itself */
+/** @param {Pick<Node, "does">} node @returns {boolean} whether an operation of an object begins or ends there */
+export const isMark = ({ does }) => does === DOES.BEGINS || does === DOES.ENDS;
+
+/** @param {Node} node @returns {boolean} whether agents stop there: a call, a choice, or a read or a mark by itself */
 export const isOwnAct = (node) => isCall(node) || isChoice(node) || node.isAlone;
 
 /** @param {Node} node @returns {number} how many acts it can be: of a choice as many as there are numbers */
@@ -76,8 +79,9 @@ export const actsOf = ({ does, limit }) => (does === DOES.CHOOSE ? numbersOf(/**
 /** @param {Node} node @returns {boolean} whether it is an end */
 export const isEnd = ({ does }) => does >= DOES.FINISHED;
 
-/** @param {Node} node @returns {boolean} whether it is an ordinary access within the act before it */
-export const isWithinAct = ({ does, isAlone }) => (does === DOES.READ || does === DOES.WRITE) && !isAlone;
+/** @param {Node} node @returns {boolean} whether it is an ordinary access or a mark within the act before it */
+export const isWithinAct = ({ does, isAlone }) =>
+  (does === DOES.READ || does === DOES.WRITE || isMark({ does })) && !isAlone;
 
 /** @param {Node} node @returns {boolean} whether it is a wait that a time can end */
 export const isTimed = ({ does, limit }) => does === DOES.WAIT && limit !== undefined;

@@ -2,9 +2,10 @@
 
 import { Conflicts } from "./conflicts.mjs";
 import { hexOf } from "./raw-elements.mjs";
-import { DOES, isChoice } from "./nodes.mjs";
+import { DOES, isChoice, isMark } from "./nodes.mjs";
 import { nodeAnswerText } from "./node-texts.mjs";
 import { actorOf, chosenIn } from "./chosen-acts.mjs";
+import { goingOnIn, markBefore, sourcesIn } from "./settled.mjs";
 
 /** @typedef {import("./search.mjs").Search} Search */
 /** @typedef {import("./nodes.mjs").Node} Node */
@@ -35,6 +36,14 @@ export class Kinds {
     this.deadlock = undefined;
     /** @type {FoundStates | undefined} */
     this.noWayOut = undefined;
+    /** @type {FoundStates | undefined} of agents that use an object: no order of their operations fits */
+    this.wrong = undefined;
+    /** @type {FoundStates | undefined} of the same: an operation waits for ever that could go on */
+    this.lost = undefined;
+    /** How many states of these aren't judged. */
+    this.notJudged = 0;
+    /** @type {Uint8Array | undefined} of these: in which states agents only spin, though an operation could go on */
+    this.spin = undefined;
     /** @type {Map<string, FoundPair>} */
     this.conflicts = new Map();
     /** @type {Map<number, FoundFinal>} by the numbers of their bytes */
@@ -66,8 +75,11 @@ export class Kinds {
   /** @param {number} state that is loaded */
   #look(state) {
     const { world } = this.search;
-    const { texts, hasEnd, isFinal, isDeadlock } = endingHere(this.search);
+    const { texts, hasEnd, isFinal, isDeadlock, isLost, isWrong } = endingHere(this.search);
     this.hasEnd ||= hasEnd;
+    if (isWrong) this.wrong = more(this.wrong, state);
+    if (isLost) this.lost = more(this.lost, state);
+    if (world.operations?.isJudged === false) this.notJudged += 1;
     // Where agents are learned, what a list gives to a loop or to a pattern takes time.
     const sorted = texts.size > 0 ? [...texts].sort(inBytes) : [];
     for (let at = 0; at < sorted.length; at += 1) count(this.failed, sorted[at], state, { text: sorted[at] });
@@ -117,9 +129,33 @@ export class Kinds {
   #findNoWayOut() {
     const { search } = this;
     this.leads = leadsOut(search);
+    if (search.world.operations !== undefined) {
+      this.#findSpinning();
+      return;
+    }
     for (let state = 0; state < search.count; state += 1) {
       if (this.leads[state] === 0) this.noWayOut = more(this.noWayOut, state);
     }
+  }
+
+  /** Looks for states from which agents that use an object only spin, though an operation could go on. */
+  #findSpinning() {
+    const { leads, search, search: { world } } = this;
+    if (leads?.includes(0) !== true) return;
+    const goesOn = goingOnIn(search);
+    this.spin = new Uint8Array(search.count);
+    for (let state = 0; state < search.count; state += 1) {
+      if (leads[state] === 1 || goesOn[state] === 1) continue;
+      world.load(state);
+      if (!couldGoOn(world.operations)) continue;
+      this.spin[state] = 1;
+      this.lost = more(this.lost, state);
+    }
+  }
+
+  /** @param {number} state @returns {boolean} whether agents only spin in it, though an operation could go on */
+  spins(state) {
+    return this.spin !== undefined && this.spin[state] === 1;
   }
 
   /** @returns {boolean} whether no agent ever ends, as far as all states are known */
@@ -129,15 +165,17 @@ export class Kinds {
 
   /** @param {number} state @returns {boolean} whether it has no way out */
   hasNoWayOut(state) {
-    return this.leads !== undefined && this.leads[state] === 0;
+    return this.search.world.operations === undefined && this.leads !== undefined && this.leads[state] === 0;
   }
 }
 
 /**
  * What kinds the loaded state has besides: texts that were thrown, whether an agent has ended, whether all have, and
- * whether it is a deadlock.
+ * whether it is a deadlock; of agents that use an object, whether no order of the operations fits, and whether all rest
+ * though an operation could go on.
  * @param {Search} search
- * @returns {{ texts: ReadonlySet<string>, hasEnd: boolean, isFinal: boolean, isDeadlock: boolean }}
+ * @returns {{ texts: ReadonlySet<string>, hasEnd: boolean, isFinal: boolean, isDeadlock: boolean, isLost: boolean,
+ * isWrong: boolean }}
  */
 export function endingHere({ world, timeouts }) {
   let ended = 0;
@@ -150,8 +188,23 @@ export function endingHere({ world, timeouts }) {
     if (does === DOES.FINISHED) ended += 1;
     if (world.canAct(agent) || (timeouts !== "never" && world.canTimeOut(agent))) acts += 1;
   }
+  const { operations } = world;
   const isFinal = ended === world.count;
-  return { texts, hasEnd: ended > 0, isFinal, isDeadlock: !isFinal && texts.size === 0 && acts === 0 };
+  const rests = !isFinal && texts.size === 0 && acts === 0;
+  const isWrong = operations?.isWrong === true;
+  const isLost = rests && !isWrong && couldGoOn(operations);
+  const isDeadlock = rests && !isWrong && operations?.monitor.hasOpen(operations.set) !== true;
+  return { texts, hasEnd: ended > 0, isFinal: isFinal && !isWrong, isDeadlock, isLost, isWrong };
+}
+
+/**
+ * @param {import("./operations.mjs").MonitoredOperations} [operations] of agents that use an object
+ * @returns {boolean} whether some open operation could go on in every order that fits
+ */
+function couldGoOn(operations) {
+  if (operations === undefined || operations.isWrong || !operations.isJudged) return false;
+  const { monitor, set } = operations;
+  return monitor.hasOpen(set) && !monitor.isRightlyBlocked(set);
 }
 
 /** @param {Node} one @param {Node} other @returns {number} their order by automaton, then by position */
@@ -188,28 +241,13 @@ function count(found, name, state, besides) {
 const more = (found, state) => ({ states: (found?.states ?? 0) + 1, first: found?.first ?? state });
 
 /** @param {Search} search that is closed @returns {Uint8Array} of each state whether one without an act is reached */
-function leadsOut({ count: states, targets, starts }) {
-  const begins = new Int32Array(states + 1);
-  for (let at = 0; at < targets.count; at += 1) begins[targets.items[at] + 1] += 1;
-  for (let state = 0; state < states; state += 1) begins[state + 1] += begins[state];
-  const sources = new Int32Array(targets.count);
-  const next = begins.slice();
+function leadsOut(search) {
+  const { count: states, starts } = search;
   const leads = new Uint8Array(states);
-  const queue = [];
   for (let state = 0; state < states; state += 1) {
-    const to = starts.items[state + 1];
-    for (let at = starts.items[state]; at < to; at += 1) sources[next[targets.items[at]]++] = state;
-    if (starts.items[state] < to) continue;
-    leads[state] = 1;
-    queue.push(state);
+    if (starts.items[state] === starts.items[state + 1]) leads[state] = 1;
   }
-  for (let state = queue.pop(); state !== undefined; state = queue.pop()) {
-    for (let at = begins[state]; at < begins[state + 1]; at += 1) {
-      if (leads[sources[at]] === 1) continue;
-      leads[sources[at]] = 1;
-      queue.push(sources[at]);
-    }
-  }
+  markBefore(sourcesIn(search), leads);
   return leads;
 }
 
@@ -235,6 +273,7 @@ function didText(world, act) {
 /** @param {Node} node @param {import("./nodes.mjs").Answer} answer */
 function doneText(node, answer) {
   if (node.does === DOES.WRITE) return "write";
+  if (isMark(node)) return "end";
   if (isChoice(node)) return `choose ${nodeAnswerText(node, answer)}`;
   return `${node.does === DOES.READ ? "read" : "act"} ${nodeAnswerText(node, answer)}`;
 }

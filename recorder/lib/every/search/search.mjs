@@ -2,7 +2,7 @@
 // differ only by an exchange of like agents there is one, with sorted agents.
 
 import { sortAgents } from "./likes.mjs";
-import { DOES } from "./nodes.mjs";
+import { DOES, isChoice } from "./nodes.mjs";
 import { NumberList } from "./state-rows.mjs";
 import { actOf, actorOf, chosenIn } from "./chosen-acts.mjs";
 import { World } from "./world.mjs";
@@ -88,9 +88,11 @@ export class Search {
   #expand(state) {
     const { world } = this;
     world.load(state);
-    if (hasThrownAt(world)) return true;
-    const times = this.#hasTimes(state);
+    if (isOverAt(world)) return true;
+    const chooser = world.operations === undefined ? -1 : chooserIn(world);
+    const times = chooser < 0 && this.#hasTimes(state);
     for (let agent = 0; agent < world.count; agent += 1) {
+      if (chooser >= 0 && agent !== chooser) continue;
       const acts = world.canAct(agent) ? world.acts(agent) : 0;
       for (let chosen = 0; chosen < acts; chosen += 1) {
         if (!this.#take(state, actOf(agent, chosen), world.act(agent, chosen))) return false;
@@ -208,6 +210,21 @@ export class Search {
     this.by.push(act);
     this.depths.push(depth);
   }
+}
+
+/** @param {World} world @returns {boolean} whether some agent has thrown, or no order of the operations fits */
+const isOverAt = (world) => hasThrownAt(world) || world.operations?.isWrong === true;
+
+/**
+ * Agents that use an object choose at once: a choice touches nothing, so it makes no difference when it is made.
+ * @param {World} world
+ * @returns {number} the first agent that chooses next, or -1
+ */
+function chooserIn(world) {
+  for (let agent = 0; agent < world.count; agent += 1) {
+    if (world.canAct(agent) && isChoice(world.nodes[agent])) return agent;
+  }
+  return -1;
 }
 
 /** @param {World} world @returns {boolean} whether some agent has thrown */

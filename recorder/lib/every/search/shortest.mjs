@@ -1,7 +1,9 @@
 // Of each kind of state the schedule to it with the fewest changes of agents, then with the fewest acts; one in which
 // no timed wait ends while something else can move comes before all others.
 
-import { actorOf } from "./chosen-acts.mjs";
+import { AGAIN } from "../../../script/choices.mjs";
+import { actorOf, chosenIn } from "./chosen-acts.mjs";
+import { isChoice } from "./nodes.mjs";
 
 /** @typedef {import("./search.mjs").Search} Search */
 
@@ -14,8 +16,9 @@ import { actorOf } from "./chosen-acts.mjs";
  * @property {number} changes of agents
  */
 
-// What a schedule costs, as one number: early ends first, then changes, then acts.
+// What a schedule costs, as one number: early ends first, then operations of an object, then changes, then acts.
 const CHANGE = 2 ** 22;
+const OPERATION = 2 ** 37;
 const EARLY = 2 ** 44;
 
 /** Numbers by what they cost, the least first. */
@@ -71,6 +74,7 @@ class Ways {
   constructor(search) {
     this.search = search;
     this.agents = search.world.count;
+    this.isOfObject = search.world.operations !== undefined;
     const size = search.count * (this.agents + 1);
     /** Of each state with the agent that acted last: the cost of the best way there. */
     this.costs = new Float64Array(size).fill(Infinity);
@@ -117,9 +121,12 @@ class Ways {
       const act = taken.items[at];
       const agent = actorOf(act);
       const isEarly = others && world.waits(agent);
-      const isChange = last !== agent && last !== this.agents;
-      const cost = this.costs[place] + 1 + (isChange ? CHANGE : 0) + (isEarly ? EARLY : 0);
-      const next = this.#place(targets.items[at], ends.items[at]);
+      // Agents that use an object choose at once: in a run that is no change.
+      const chooses = this.isOfObject && isChoice(world.nodes[agent]);
+      const isChange = !chooses && last !== agent && last !== this.agents;
+      const more = (isChange ? CHANGE : 0) + (isEarly ? EARLY : 0) + (chooses ? chosenCost(world, act) : 0);
+      const cost = this.costs[place] + 1 + more;
+      const next = this.#place(targets.items[at], chooses && last === this.agents ? last : ends.items[at]);
       if (cost >= this.costs[next]) continue;
       this.costs[next] = cost;
       this.from[next] = place;
@@ -142,8 +149,18 @@ class Ways {
     const actors = [];
     for (let at = place; this.from[at] >= 0; at = this.from[at]) actors.push(this.by[at]);
     const { way, names } = this.search.named(actors.reverse());
-    return { state, way, names, isEarly: cost >= EARLY, changes: Math.floor((cost % EARLY) / CHANGE) };
+    const changes = Math.floor((cost % (this.isOfObject ? OPERATION : EARLY)) / CHANGE);
+    return { state, way, names, isEarly: cost >= EARLY, changes };
   }
+}
+
+/**
+ * @param {import("./world.mjs").World} world in which an agent that uses an object chooses
+ * @param {number} act
+ * @returns {number} what that costs: an operation, if it goes on with one
+ */
+function chosenCost({ nodes }, act) {
+  return nodes[actorOf(act)].limit === AGAIN && chosenIn(act) === 1 ? OPERATION : 0;
 }
 
 /**

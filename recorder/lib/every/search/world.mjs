@@ -2,7 +2,7 @@
 
 import { answerOfRead, changed, putRaw, rawAt } from "./raw-elements.mjs";
 import {
-  DONE, DOES, NOT_EQUAL, OK, TIMED_OUT, actsOf, isCall, isChoice, isEnd, isTimed, isWithinAct,
+  DONE, DOES, NOT_EQUAL, OK, TIMED_OUT, actsOf, isCall, isChoice, isEnd, isMark, isTimed, isWithinAct,
 } from "./nodes.mjs";
 import { likesOf } from "./likes.mjs";
 import { Lists, StateRows } from "./state-rows.mjs";
@@ -20,6 +20,7 @@ import { Lists, StateRows } from "./state-rows.mjs";
  * @property {boolean} mayLack whether edges may not be there for good
  * @property {(node: Node, answer: Answer, bytes: Uint8Array) => Node | undefined} learn finds the node to which an edge
  * leads that isn't there yet; it may read these bytes. Undefined: nobody knows it
+ * @property {any} [operations] of an object that the agents use: what goes along, as `Operations`
  */
 
 /** A result that has no edge. */
@@ -55,8 +56,12 @@ export class World {
     this.woken = 0;
     this.lists = new Lists();
     this.memories = new StateRows(Uint8Array, initial.length);
-    this.states = new StateRows(Int32Array, FIRST + 2 * agents.length);
-    this.row = new Int32Array(FIRST + 2 * agents.length);
+    this.operations = program.operations;
+    /** Where in a row that is which goes along with the operations of an object. */
+    this.behind = FIRST + 2 * agents.length;
+    const width = this.behind + (program.operations?.width ?? 0);
+    this.states = new StateRows(Int32Array, width);
+    this.row = new Int32Array(width);
     this.hasWritten = true;
     /** The number of the bytes that were loaded. */
     this.memory = 0;
@@ -69,6 +74,7 @@ export class World {
     this.hasLikes = this.likes.some((first, agent) => first !== agent);
     /** Where agents are once they have begun. */
     this.begun = { bytes: initial, nodes: this.nodes, recent: this.recent };
+    this.operations?.begin();
   }
 
   /**
@@ -104,6 +110,7 @@ export class World {
     this.recent = [...recent];
     this.line = 0;
     this.woken = 0;
+    this.operations?.begin();
   }
 
   /**
@@ -128,6 +135,7 @@ export class World {
       row[FIRST + 2 * agent] = this.nodes[agent].id;
       row[FIRST + 2 * agent + 1] = this.recent[agent];
     }
+    this.operations?.write(row, this.behind);
     return this.states.put(row, most);
   }
 
@@ -148,6 +156,7 @@ export class World {
       this.nodes[agent] = this.program.nodes[items[from + FIRST + 2 * agent]];
       this.recent[agent] = items[from + FIRST + 2 * agent + 1];
     }
+    this.operations?.read(items, from + this.behind);
   }
 
   /** @param {number} state @returns {boolean} whether the world is at it */
@@ -159,6 +168,7 @@ export class World {
       if (items[from + FIRST + 2 * agent] !== this.nodes[agent].id) return false;
       if (items[from + FIRST + 2 * agent + 1] !== this.recent[agent]) return false;
     }
+    if (this.operations?.isAt(items, from + this.behind) === false) return false;
     const first = items[from + BYTES] * bytes.length;
     for (let at = 0; at < bytes.length; at += 1) if (memories.items[first + at] !== bytes[at]) return false;
     return true;
@@ -197,11 +207,13 @@ export class World {
    */
   act(agent, chosen = 0) {
     const node = this.nodes[agent];
+    if (this.operations !== undefined && !isChoice(node)) this.operations.acts(agent);
     if (this.wasWoken(agent)) {
       this.woken &= ~(1 << agent);
       return this.#goOn(agent, OK);
     }
     if (isChoice(node)) return this.#goOn(agent, chosen);
+    if (isMark(node)) return this.#goOn(agent, this.#marked(agent, node));
     if (!isCall(node)) return this.#goOn(agent, this.#accessed(node));
     const { error } = node;
     if (error !== undefined) return this.#goOn(agent, error);
@@ -241,6 +253,13 @@ export class World {
     return count;
   }
 
+  /** @param {number} agent @param {Node} node at which an operation begins or ends @returns {Answer} */
+  #marked(agent, { does, limit, text }) {
+    if (does === DOES.BEGINS) this.operations?.chooses(agent, /** @type {number} */ (limit));
+    else this.operations?.ends(agent, /** @type {string} */ (text));
+    return DONE;
+  }
+
   /** @param {Node} node an ordinary access @returns {Answer} */
   #accessed({ at, size, written }) {
     if (written === undefined) return answerOfRead(this.bytes, at, size);
@@ -263,7 +282,7 @@ export class World {
   }
 
   /**
-   * The agent makes its accesses up to where it stops.
+   * The agent makes its accesses up to where it stops, and what it tells about its operations.
    * @param {number} agent
    * @param {Node} from
    */
@@ -271,9 +290,10 @@ export class World {
     let node = from;
     let recent = 0;
     while (isWithinAct(node)) {
-      const next = this.#next(node, this.#accessed(node));
+      const isOfOperation = isMark(node);
+      const next = this.#next(node, isOfOperation ? this.#marked(agent, node) : this.#accessed(node));
       if (next === undefined) return false;
-      recent = this.lists.with(recent, node.id);
+      if (!isOfOperation) recent = this.lists.with(recent, node.id);
       node = next;
     }
     this.nodes[agent] = node;

@@ -21,6 +21,7 @@ const ELEMENTS = new URL("../../agent/ordinary/watched-elements.mjs", import.met
 const ATOMICS = new URL("../../agent/atomics.mjs", import.meta.url).href;
 const CHOOSING = new URL("../../agent/choosing.mjs", import.meta.url).href;
 const CHANCE = new URL("../../agent/chosen-chance.mjs", import.meta.url).href;
+const MARKS = new URL("../../objects/operation-marks.mjs", import.meta.url).href;
 const TIME = new URL("../../agent/time.mjs", import.meta.url).href;
 const LEARNING = new URL("../learning/", import.meta.url).href;
 const PRELUDE = new URL("./prelude.mjs", import.meta.url).href;
@@ -42,6 +43,8 @@ export class Capture {
     this.buffers = buffers;
     this.flaw = flaw;
     this.settings = new NodeSettings();
+    /** Rewritten modules that aren't the agents' own: a line of them says nothing to people. */
+    this.others = new Set([PRELUDE]);
     /** @type {Map<string, number>} the places at which agents were, each with its number */
     this.places = new Map();
     /** The number of the place at which an agent is whose state was asked for last. */
@@ -102,9 +105,9 @@ export class Capture {
     return this.#text(walk);
   }
 
-  /** @param {string} file @returns {boolean} whether it is of the agents: a line of the prelude says nothing to them */
+  /** @param {string} file @returns {boolean} whether it is of the agents */
   #isOfAgents(file) {
-    return this.texts.has(file) && file !== PRELUDE;
+    return this.texts.has(file) && !this.others.has(file);
   }
 
   /** @param {NodeJS.CallSite | undefined} site at which an agent asks for something */
@@ -237,7 +240,8 @@ function needsDirect(frames) {
   const rest = frames.slice(at + 1);
   if (fileOf(frames[at]) === ATOMICS && rest.length === 0) return OF_ATOMICS;
   const isOfTool = (/** @type {NodeJS.CallSite} */ site) => fileOf(site) === TIME;
-  if (fileOf(frames[at]) === CHOOSING && rest.length === 0) return OF_CHOICES;
+  const isOfClient = fileOf(frames[at]) === CHOOSING || fileOf(frames[at]) === MARKS;
+  if (isOfClient && rest.length === 0) return OF_CHOICES;
   if ((isOfTool(frames[at]) || fileOf(frames[at]) === CHANCE) && rest.every(isOfTool)) return OF_CHOICES;
   const isElement = fileOf(frames[at]) === ELEMENTS && /\bget$/.test(frames[at].getFunctionName() ?? "");
   const isStep = rest.every((site) => fileOf(site) === ITERATORS);

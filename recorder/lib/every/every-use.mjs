@@ -1,0 +1,136 @@
+// Tries every use of an object: with ever more agents and operations, until a failure is found or the time is over.
+
+import { mayBeObject } from "../objects/object-file.mjs";
+import { overAfter } from "../processes/time-over.mjs";
+import { Every } from "./every.mjs";
+
+/** @typedef {import("./every.mjs").EveryResult} EveryResult */
+/** @typedef {{ agents: number, each: number | "any" }} UseSize how many agents, each with how many operations at most */
+
+/**
+ * @typedef {object} TriedUses what was tried of an object
+ * @property {UseSize[]} finished
+ * @property {UseSize} size of the search that is reported
+ * @property {UseSize} next the size that was tried last
+ * @property {string | undefined} open why no more sizes were tried, if that isn't a failure that was found
+ * @property {boolean} isEnough whether the sizes were finished that must be
+ */
+
+/** @typedef {EveryResult & { uses?: TriedUses }} EveryUseResult */
+
+const NOT_JUDGED = "some histories weren't judged: they need more than 65,536 states of what is right, or 100,000 "
+  + "configurations";
+
+/** So many agents, each with so many operations, must be finished if no size is given. */
+const ENOUGH = Object.freeze([{ agents: 2, each: 2 }, { agents: 3, each: 1 }]);
+
+const MOST_AGENTS = 8;
+const MOST_SUM = 24;
+const FEWEST_AGENTS = 2;
+
+/**
+ * The sizes, in the order in which they are tried.
+ * @param {{ agents?: number, each?: number | "any" }} given
+ * @returns {UseSize[]}
+ */
+export function sizesOf({ agents, each }) {
+  if (agents !== undefined && each !== undefined) return [{ agents, each }];
+  /** @type {UseSize[]} */
+  const sizes = [];
+  for (let sum = FEWEST_AGENTS + 1; sum <= MOST_SUM; sum += 1) {
+    for (let many = FEWEST_AGENTS; many <= MOST_AGENTS && many < sum; many += 1) {
+      sizes.push({ agents: many, each: sum - many });
+    }
+  }
+  if (agents !== undefined) return Array.from({ length: MOST_SUM }, (_, at) => ({ agents, each: at + 1 }));
+  if (each !== undefined) {
+    return Array.from({ length: MOST_AGENTS - 1 }, (_, at) => ({ agents: FEWEST_AGENTS + at, each }));
+  }
+  return sizes;
+}
+
+/** @param {UseSize[]} finished @param {UseSize} size @returns {boolean} whether a search had that, or more */
+const isWithin = (finished, size) =>
+  finished.some(({ agents, each }) => agents >= size.agents && (each === "any" || each >= Number(size.each)));
+
+export class EveryUse {
+  /**
+   * @param {import("./every.mjs").EveryRunOptions} options
+   * @param {ConstructorParameters<typeof Every>[1]} how
+   */
+  constructor(options, { over = overAfter(options.within), ...how }) {
+    this.options = options;
+    this.how = { ...how, over };
+    this.begun = performance.now();
+    /** @type {Every | undefined} the search that runs */
+    this.every = undefined;
+    /** @type {number | undefined} how many real runs were made, as `Every` has it */
+    this.found = 0;
+  }
+
+  /** How many states were found so far. */
+  get states() {
+    return this.every?.states ?? 0;
+  }
+
+  /** The outcomes of the real runs. */
+  get outcomes() {
+    return this.every?.outcomes ?? [];
+  }
+
+  /** @returns {Promise<EveryUseResult>} */
+  async run() {
+    if (!mayBeObject(this.options.module)) return await this.#search(this.options);
+    const { agents, each } = /** @type {any} */ (this.options);
+    return await this.#grow(sizesOf({ agents, each }));
+  }
+
+  /** @param {import("./every.mjs").EveryRunOptions} options @returns {Promise<EveryResult>} */
+  async #search(options) {
+    this.every = new Every(options, this.how);
+    // The first job is of the first search alone.
+    this.how = { ...this.how, job: undefined };
+    return await this.every.run();
+  }
+
+  /** @returns {number} how many seconds are left */
+  #left() {
+    return this.options.within - (performance.now() - this.begun) / 1_000;
+  }
+
+  /** @param {UseSize[]} sizes @returns {Promise<EveryUseResult>} */
+  async #grow(sizes) {
+    const isGiven = sizes.length === 1;
+    /** @type {UseSize[]} */
+    const finished = [];
+    /** @type {EveryUseResult | undefined} */
+    let last;
+    for (const size of sizes) {
+      const isEnough = isGiven ? finished.length > 0 : ENOUGH.every((one) => isWithin(finished, one));
+      if (last !== undefined && this.#left() <= 0) return notFinished(last, size, "its time was over", isEnough);
+      const tried = await this.#search({ ...this.options, ...size, within: Math.max(this.#left(), 0) });
+      if (tried.report !== undefined && tried.report.object === undefined) return await this.#search(this.options);
+      const isFound = tried.shown.length > 0 || tried.onlyRuns.length > 0;
+      const isJudged = tried.report?.object?.notJudged === 0 && tried.report.object.isFinished;
+      const isClosed = tried.open === undefined && !tried.isCut && isJudged;
+      if (!isClosed && !isFound && last !== undefined) {
+        return notFinished(last, size, tried.open ?? (isJudged ? "its time was over" : NOT_JUDGED), isEnough);
+      }
+      if (isClosed) finished.push(size);
+      const uses = { finished: [...finished], size, next: size, open: undefined, isEnough: isGiven && isClosed };
+      last = { ...tried, uses };
+      if (!isClosed || isFound) return last;
+    }
+    return /** @type {EveryUseResult} */ (last);
+  }
+}
+
+/**
+ * @param {EveryUseResult} last of the sizes that were finished
+ * @param {UseSize} next that wasn't
+ * @param {string} open why
+ * @param {boolean} isEnough
+ * @returns {EveryUseResult}
+ */
+const notFinished = (last, next, open, isEnough) =>
+  ({ ...last, uses: { .../** @type {TriedUses} */ (last.uses), next, open, isEnough } });

@@ -1,0 +1,21 @@
+// The marks of the operations of an object, where its agents are learned: they are asked for as calls are.
+
+import { lineOfOperation } from "../../objects/object-file.mjs";
+import { marksBy } from "../../objects/operation-marks.mjs";
+
+/**
+ * @param {import("./asking.mjs").Asker} asker
+ * @param {string} url of the module of the object
+ * @param {() => import("../../objects/object-calls.mjs").ObjectCall[]} calls
+ * @returns {import("../../objects/object-client.mjs").OperationMarks} what the client of the object calls
+ */
+export const learnedMarks = (asker, url, calls) => marksBy({
+  lacks: (name) =>
+    asker.refuse(`\`operations\` names \`${name}\`, and the object has no such method`, lineOfOperation(url, name)),
+  begins: (call) => asker.begins(call),
+  ends: (outcome) => asker.ends(outcome),
+  refuse(what, call) {
+    const { name, text } = calls()[call];
+    asker.refuse(`${text} returns ${what}, and that can't be compared`, lineOfOperation(url, name));
+  },
+});

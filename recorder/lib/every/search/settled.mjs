@@ -1,0 +1,58 @@
+// The states of agents that use an object from which nothing leads on: no operation begins or ends any more in what is
+// reached from them.
+
+/** @typedef {import("./search.mjs").Search} Search */
+
+/**
+ * The edges of a search that is closed, by the states to which they lead.
+ * @param {Search} search
+ * @returns {{ begins: Int32Array, sources: Int32Array }} `begins` of each state, and behind the last one
+ */
+export function sourcesIn({ count: states, targets, starts }) {
+  const begins = new Int32Array(states + 1);
+  for (let at = 0; at < targets.count; at += 1) begins[targets.items[at] + 1] += 1;
+  for (let state = 0; state < states; state += 1) begins[state + 1] += begins[state];
+  const sources = new Int32Array(targets.count);
+  const next = begins.slice();
+  for (let state = 0; state < states; state += 1) {
+    for (let at = starts.items[state]; at < starts.items[state + 1]; at += 1) sources[next[targets.items[at]]++] = state;
+  }
+  return { begins, sources };
+}
+
+/**
+ * @param {{ begins: Int32Array, sources: Int32Array }} edges
+ * @param {Uint8Array} marked by states, which gets a 1 for each from which a marked one is reached
+ */
+export function markBefore({ begins, sources }, marked) {
+  const queue = [];
+  for (let state = 0; state < marked.length; state += 1) if (marked[state] === 1) queue.push(state);
+  for (let state = queue.pop(); state !== undefined; state = queue.pop()) {
+    for (let at = begins[state]; at < begins[state + 1]; at += 1) {
+      if (marked[sources[at]] === 1) continue;
+      marked[sources[at]] = 1;
+      queue.push(sources[at]);
+    }
+  }
+}
+
+/**
+ * @param {Search} search that is closed, of agents that use an object
+ * @returns {Uint8Array} of each state whether another set of the monitor is reached from it
+ */
+export function goingOnIn(search) {
+  const { count: states, starts, targets, world } = search;
+  const sets = new Int32Array(states);
+  for (let state = 0; state < states; state += 1) {
+    world.load(state);
+    sets[state] = /** @type {import("./operations.mjs").MonitoredOperations} */ (world.operations).set;
+  }
+  const goesOn = new Uint8Array(states);
+  for (let state = 0; state < states; state += 1) {
+    for (let at = starts.items[state]; at < starts.items[state + 1]; at += 1) {
+      if (sets[targets.items[at]] !== sets[state]) goesOn[state] = 1;
+    }
+  }
+  markBefore(sourcesIn(search), goesOn);
+  return goesOn;
+}

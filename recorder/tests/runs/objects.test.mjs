@@ -1,0 +1,175 @@
+// Modules of objects, by `--all` and by seeds: what is right, what isn't linearizable, and what loses a wake-up.
+
+import assert from "node:assert/strict";
+import { existsSync, readFileSync } from "node:fs";
+import { join } from "node:path";
+import { describe, test } from "node:test";
+import { fileURLToPath, pathToFileURL } from "node:url";
+import { learnApart } from "../../lib/every/learning/apart.mjs";
+import { Refused, explore } from "../../recorder.mjs";
+import { difference } from "../../../tests/objects/compare.mjs";
+import { drawn } from "../../../tests/objects/draw.mjs";
+import { commandHere } from "../helpers/command-here.mjs";
+import { fileIn, moduleOf, temporaryFolder } from "../helpers/common.mjs";
+
+/** @param {string} name of an example's module of an object */
+const example = (name) => fileURLToPath(new URL(`../../examples/${name}.object.mjs`, import.meta.url));
+
+/**
+ * The text of a module of an object, which has words.
+ * @param {string} members of its class
+ * @param {string} operations
+ * @param {string} [more] lines behind it
+ */
+const objectOf = (members, operations, more = "") => `import { blocked } from "${new URL("../../object.mjs", import.meta.url)}";
+class Tried { constructor(buffer) { this.w = new Int32Array(buffer); } ${members} }
+export const setup = { buffers: [16] };
+export const object = ({ buffers }) => new Tried(buffers[0]);
+export const operations = { ${operations} };
+export const unused = blocked;
+${more}`;
+
+/** @param {import("node:test").TestContext} context @param {string} text @param {object} [more] */
+const learned = (context, text, more = {}) => learnApart({
+  module: pathToFileURL(moduleOf(context, text)).href, args: [], place: { agents: 2 }, timeouts: "early",
+  limit: 200_000, within: 60, each: 2, ...more,
+}, { seconds: 20 });
+
+/** @param {{ findings: { kind: string, text: string }[] }} report @returns {string[]} */
+const foundIn = ({ findings }) => findings.map(({ kind, text }) => `${kind}: ${text.split("\n")[0]}`);
+
+const LOCK = "lock() { while (Atomics.compareExchange(this.w, 0, 0, 1) !== 0) Atomics.wait(this.w, 0, 1); }";
+const NOTIFIES = "unlock() { Atomics.store(this.w, 0, 0); Atomics.notify(this.w, 0, 1); }";
+const OF_LOCK = 'lock: [], unlock: { after: "lock" }';
+
+describe("every use by two agents with up to two operations each", () => {
+  for (const [what, text, wanted] of /** @type {[string, string, string[]][]} */ ([
+    ["of a lock is right, though its holder may not give it back", objectOf(`${LOCK} ${NOTIFIES}`, OF_LOCK), []],
+    ["of a lock that doesn't notify loses a wake-up",
+      objectOf(`${LOCK} unlock() { Atomics.store(this.w, 0, 0); }`, OF_LOCK),
+      ["lost wake-up: lock() waits for ever, and in every order that fits some operation that waits could go on"]],
+    ["of a lock that spins, and is never free again, is found too",
+      objectOf("lock() { while (Atomics.exchange(this.w, 0, 1) !== 0); } unlock() { Atomics.store(this.w, 0, 2); }", OF_LOCK,
+        "export class Model { h = false; lock() { if (this.h) return blocked; this.h = true; } unlock() { this.h = false; } }"),
+      ["lost wake-up: lock() waits for ever, and in every order that fits some operation that waits could go on"]],
+    ["of a lock that spins is right",
+      objectOf("lock() { while (Atomics.exchange(this.w, 0, 1) !== 0); } unlock() { Atomics.store(this.w, 0, 0); }", OF_LOCK),
+      []],
+    ["of a counter by load and store isn't linearizable",
+      objectOf("add() { const n = Atomics.load(this.w, 0); Atomics.store(this.w, 0, n + 1); return n; }", "add: []"),
+      ["not linearizable: add() returns 0, and in every order that fits it returns 1"]],
+    ["without a call of Atomics is right: each operation is an act of its own",
+      objectOf("name() { return 'tried'; }", "name: []"), []],
+    ["whose result goes by the number of calls of this agent alone isn't right",
+      objectOf("calls = 0; next() { this.calls += 1; Atomics.load(this.w, 0); return this.calls; }", "next: []"),
+      ["not linearizable: next() returns 1, and in every order that fits it returns 2"]],
+    ["that throws as it does alone is right, and is named",
+      objectOf("fail() { Atomics.load(this.w, 0); throw new RangeError('no'); }", "fail: []"), []],
+    ["may fail where that is said", objectOf(
+      `push() { Atomics.add(this.w, 0, 1); }
+       tryPop() { const n = Atomics.load(this.w, 0);
+         return n > 0 && Atomics.compareExchange(this.w, 0, n, n - 1) === n ? n : undefined; }`,
+      "push: [], tryPop: { mayFail: undefined }"), []],
+  ])) {
+    test(what, async (context) => {
+      const report = await learned(context, text);
+      assert.deepEqual([report.isClosed, report.hidden, foundIn(report)], [true, [], wanted]);
+    });
+  }
+
+  test("that may fail, but isn't said to, isn't linearizable", async (context) => {
+    const report = await learned(context, objectOf(
+      `push() { Atomics.add(this.w, 0, 1); }
+       tryPop() { const n = Atomics.load(this.w, 0);
+         return n > 0 && Atomics.compareExchange(this.w, 0, n, n - 1) === n ? n : undefined; }`, "push: [], tryPop: []"));
+    assert.match(foundIn(report).join("\n"), /^not linearizable: tryPop\(\) returns undefined, and in every order that fits/);
+  });
+
+  test("a model's counts, and what always throws alone, are reported", async (context) => {
+    const { object } = await learned(context,
+      objectOf("fail() { Atomics.load(this.w, 0); throw new RangeError('no'); }", "fail: []"));
+    assert.deepEqual([object?.hasModel, object?.alwaysThrow, object?.modelStates, object?.notJudged], [false, ["fail"], 1, 0]);
+  });
+});
+
+describe("a module that can't be tried is refused", () => {
+  for (const [what, text, why] of /** @type {[string, string, RegExp][]} */ ([
+    ["if it names no method", objectOf("push() {}", "pushh: []"),
+      /names `pushh`, and the object has no such method, at agents\.mjs:5/],
+    ["if an operation returns a promise", objectOf("async push() { Atomics.load(this.w, 0); }", "push: []"), /promise/],
+    ["if it returns a view", objectOf("view() { return this.w; }", "view: []"), /view\(\) returns a buffer, a view of one or a proxy.*, at agents\.mjs:5/],
+    ["if it returns a function", objectOf("fn() { return () => 1; }", "fn: []"), /returns a function/],
+    ["if its model looks at a clock", objectOf("push() { return 1; }", "push: []",
+      "export class Model { push() { return Date.now() > 5 ? 1 : 2; } }"), /`Model` looks at a clock, at agents\.mjs:7:\d+/],
+    ["if its model draws a random number", objectOf("push() { return 1; }", "push: []",
+      "export class Model { push() { return Math.random() > 0.5 ? 1 : 2; } }"), /`Model` looks at chance, at/],
+    ["if its operations are none", objectOf("push() {}", "push: 1"), /the operation `push` must have a list of calls/],
+  ])) {
+    test(what, async (context) => {
+      await assert.rejects(learned(context, text), (/** @type {Error} */ error) => {
+        assert.ok(error instanceof Refused);
+        assert.match(error.message, why);
+        return true;
+      });
+    });
+  }
+
+  test("by seeds, too", async (context) => {
+    const module = moduleOf(context, objectOf("push() {}", "pushh: []"));
+    await assert.rejects(async () => {
+      for await (const outcome of explore({ module, seeds: 1 })) assert.equal(outcome.fails, false);
+    }, /names `pushh`, and the object has no such method/);
+  });
+});
+
+describe("the verdicts are those of a checker that goes through permutations", () => {
+  for (const seed of [2, 5, 9, 11]) {
+    const { mutation, name, text } = drawn(seed);
+    test(`seed ${seed}: ${name}, ${mutation ?? "right"}`, async (context) => {
+      const file = fileIn(temporaryFolder(context), "drawn.object.mjs", text);
+      assert.equal(await difference(file, 2, 1), undefined);
+    });
+  }
+});
+
+describe("the examples", () => {
+  test("the queue with sequence numbers isn't linearizable, and the run that shows it is kept", async (context) => {
+    const out = temporaryFolder(context);
+    const module = example("sequence-queue");
+    const words = ["--all", "--agents", "2", "--each", "2", "--seeds", "1..10", "--out", out];
+    const done = await commandHere([module, ...words]);
+    assert.deepEqual([done.status, done.stderr], [1, ""]);
+    assert.match(done.stdout, /^not linearizable: 2 agents, 3 operations; shown by \d+ acts with 1 change of agents\n/);
+    assert.match(done.stdout, /\n {2}tryTake\(\) returns undefined, and in every order that fits it returns [12]\n/);
+    assert.match(done.stdout, /\n {2}\.\. {2,}tryPut\([12]\) returns true\n {2}\.\. {2,}tryTake\(\) returns undefined\n/);
+    assert.ok(existsSync(join(out, "all-1.html")));
+    const replayed = await commandHere([module, "--agents", "2", "--each", "2", "--replay", join(out, "all-1.json")]);
+    assert.deepEqual([replayed.status, replayed.stderr], [1, ""]);
+    assert.match(replayed.stdout, /1 of 1 run failed: 1 not linearizable/);
+  });
+
+  test("the queue of one producer and one consumer is right", async () => {
+    const done = await commandHere([example("bounded-queue"), "--all", "--agents", "2", "--each", "2", "--seeds", "1..10"]);
+    assert.deepEqual([done.status, done.stderr], [0, ""]);
+    const title = "every use by 2 agents with up to 2 operations each was tried under every schedule: all are "
+      + "linearizable, and no wake-up is lost (`Model` says what is right)\n";
+    assert.equal(done.stdout.slice(0, title.length), title);
+    assert.match(done.stdout, /the search isn't proved \(the proved search doesn't know the operations of objects\)/);
+  });
+
+  test("seeds find the flaw of the first, and it is shortened to three operations", async (context) => {
+    const out = temporaryFolder(context);
+    const words = ["--agents", "3", "--seeds", "1..40", "--jobs", "1", "--out", out, "--fail-fast"];
+    const done = await commandHere([example("sequence-queue"), ...words]);
+    assert.deepEqual([done.status, done.stderr], [1, ""]);
+    assert.match(done.stdout, /not linearizable/);
+    assert.match(done.stdout, /\nshortened: .* calls to \d+, in /);
+    assert.match(readFileSync(join(out, "first.html").replace("first", kept(out)), "utf8"), /not linearizable/);
+  });
+});
+
+/** @param {string} folder @returns {string} the name of the run that is kept there */
+function kept(folder) {
+  const seed = Array.from({ length: 40 }, (_, at) => at + 1).find((one) => existsSync(join(folder, `seed-${one}.html`)));
+  return `seed-${seed}`;
+}
