@@ -76,8 +76,12 @@ export interface EverySchedule {
   choices: number;
   /** The line at which an agent looks at a clock and keeps the time from round to round; null if none does. */
   keptClock: string | null;
+  /** The line at which an agent draws eight or more random bytes and keeps them from round to round; else null. */
+  keptDraw: string | null;
   /** Whether an agent draws random numbers: only the least, one in the middle and the greatest were tried. */
   drawsRandom: boolean;
+  /** Whether an agent draws eight or more random bytes at once: only draws that are never equal were tried. */
+  drawsUnique: boolean;
   /** How many steps were learned; each twice. */
   edges: number;
   /** How many of these were learned both times by the same history. */

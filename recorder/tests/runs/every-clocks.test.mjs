@@ -58,8 +58,8 @@ const kindsOf = (found) => [...new Set(found.map(({ kind }) => kind))];
 
 test("a semaphore with a timeout by a deadline, for any number of rounds", async (context) => {
   const right = agents(semaphore(), CHECK);
-  const { counts, findings, hidden, isClosed, keptClock } = await learned(context, right, { place: { agents: 3 } });
-  assert.deepEqual([isClosed, hidden, findings, keptClock], [true, [], [], undefined]);
+  const { counts, findings, hidden, isClosed, kept } = await learned(context, right, { place: { agents: 3 } });
+  assert.deepEqual([isClosed, hidden, findings, kept], [true, [], [], undefined]);
   assert.ok(counts.choices > 2);
   const never = await learned(context, right, { timeouts: "never" });
   assert.deepEqual([never.isClosed, never.findings], [true, []]);
@@ -119,7 +119,7 @@ test("a time that an agent keeps from round to round is named, and its clock goe
     Atomics.load(words, 0);
     if (performance.now() > 1e8) break;
   }`;
-  assert.equal((await learned(context, agents(later))).keptClock, "agents.mjs:7:21");
+  assert.deepEqual((await learned(context, agents(later))).kept, { line: "agents.mjs:7:21", isDraw: false });
 });
 
 test("a random number is the least, one in the middle or the greatest", async (context) => {
@@ -132,7 +132,7 @@ test("a random number is the least, one in the middle or the greatest", async (c
     Atomics.store(words, 0, 1);
   }`;
   const right = await learned(context, agents(backs, CHECK), { place: { agents: 3 } });
-  assert.deepEqual([right.isClosed, right.findings, right.hidden, right.drawsRandom], [true, [], [], true]);
+  assert.deepEqual([right.isClosed, right.findings, right.hidden, right.drawn.numbers], [true, [], [], true]);
   const drawn = agents(`
   const [one, other] = [Math.random(), crypto.randomInt(5, 8)];
   if (!(one >= 0 && one < 1) || other < 5 || other > 7) throw new Error("out of range");
@@ -148,8 +148,67 @@ test("a random number is the least, one in the middle or the greatest", async (c
   const same = await everySchedule({ ...FEW_WORKERS, module: moduleOf(context, agents(alike)), seeds: 1 });
   assert.deepEqual(same.found.map(({ drewSame, notShown }) => [drewSame, notShown]), [[true, null]]);
   assert.match(everyText(same), /\n {4}two agents draw the same random number there\n/);
-  const bytes = `import crypto from "node:crypto";\n${agents("Atomics.store(words, 1, crypto.randomBytes(1)[0]);")}`;
-  await assert.rejects(learned(context, bytes), refusedInALine(/it asks for random bytes, at agents\.mjs:6:34/));
+});
+
+test("fewer than eight random bytes are the least, some in the middle or the greatest", async (context) => {
+  const drawn = agents(`
+  const [[one], few, [sign]] = [crypto.getRandomValues(new Uint16Array(1)), randomBytes(3), signed()];
+  if (![0, 0x8000, 0xffff].includes(one) || ![-128, 0, 127].includes(sign)) throw new Error(\`\${[one, sign]}\`);
+  const filled = nodeCrypto.randomFillSync(new Uint8Array(4), 1, 2);
+  if (filled[0] + filled[3] !== 0 || filled[1] !== filled[2] || few[0] !== few[2]) throw new Error(\`\${filled}\`);
+  Atomics.store(words, 1, 64 * (one & 3) + 16 * (few[1] & 3) + 4 * (filled[1] & 3) + (sign & 3));`);
+  const signed = "const signed = () => nodeCrypto.webcrypto.getRandomValues(new Int8Array(1));";
+  const text = `import nodeCrypto, { randomBytes } from "node:crypto";\n${signed}\n${drawn}`;
+  const data = await everySchedule({ ...FEW_WORKERS, module: moduleOf(context, text), agents: 1, seeds: 6 });
+  assert.deepEqual([data.closed, data.found, data.hidden, data.realRuns], [true, [], [], 6]);
+  assert.deepEqual([data.finalCount, data.drawsRandom, data.drawsUnique], [16, true, false]);
+  const alike = "if (Atomics.add(words, 1, crypto.getRandomValues(new Uint8Array(1))[0]) === 255) throw 255;";
+  const same = await everySchedule({ ...FEW_WORKERS, module: moduleOf(context, agents(alike)), seeds: 1 });
+  assert.deepEqual(same.found.map(({ drewSame, notShown }) => [drewSame, notShown]), [[false, null]]);
+  await assert.rejects(learned(context, agents("crypto.getRandomValues(words);")),
+    refusedInALine(/it draws random bytes into shared memory, at agents\.mjs:5:10/));
+  await assert.rejects(learned(context, agents("crypto.subtle;")), refusedInALine(/it reads `crypto\.subtle`/));
+});
+
+/** @param {string} draw @param {string} [then] in each round @returns {string} a lock whose owner leaves its name */
+const named = (draw, then = "") => `import { randomBytes } from "node:crypto";\n${agents(`
+  const [names, name] = [new BigInt64Array(buffers[0]), ${draw}];
+  const mine = typeof name === "string" ? BigInt(\`0x\${name.slice(0, 8)}\`) : name[0];
+  while (again()) {
+    if (Atomics.compareExchange(names, 0, 1n, mine) !== 1n) continue;
+    if (Atomics.load(names, 0) !== mine) throw new Error("two are inside");
+    ${then}
+    Atomics.store(names, 0, 1n);
+  }`)}`;
+
+test("a UUID, and eight random bytes, are never equal to others", async (context) => {
+  for (const draw of ["crypto.randomUUID()", "crypto.getRandomValues(new BigInt64Array(1))"]) {
+    const module = moduleOf(context, named(draw));
+    const data = await everySchedule({ ...FEW_WORKERS, module, agents: 3, seeds: 10 });
+    assert.deepEqual([data.closed, data.found, data.hidden, data.realRuns], [true, [], [], 10]);
+    assert.deepEqual([data.drawsRandom, data.drawsUnique, data.keptClock], [false, true, null]);
+    assert.equal(data.keptDraw, "agents.mjs:7:64");
+    assert.match(everyText(data), /\n {2}of eight and more random bytes only draws that are never equal were tried\n/);
+    assert.match(everyText(data), /\n {2}what is drawn differs from round to round: an agent keeps its draw at agents/);
+  }
+  const within = await learned(context, named("[2n]", "if (crypto.randomUUID() === crypto.randomUUID()) throw 1;"));
+  assert.deepEqual([within.isClosed, within.hidden, within.kept], [true, [], undefined]);
+  const each = named("[2n]", "Atomics.store(words, 1, randomBytes(8)[0]);");
+  const open = await learned(context, each, { limit: 3_000 });
+  assert.deepEqual([open.isClosed, open.bound, open.kept?.isDraw], [false, "states", true]);
+});
+
+test("a run whose agents have drawn bytes that are never equal is kept, and replayed", async (context) => {
+  const fails = "if (Atomics.exchange(words, 1, 1) === 1) throw new Error(crypto.randomUUID());";
+  const module = moduleOf(context, named("crypto.randomUUID()", fails));
+  const out = temporaryFolder(context);
+  const done = await commandHere([module, "--all", "--seeds", "1..3", "--out", out]);
+  assert.equal(done.status, 1, done.stdout);
+  const { agents: choices } = JSON.parse(readFileSync(join(out, "all-1.choices.json"), "utf8"));
+  assert.ok(choices.flat().some(([does]) => does === "lasting unique"), JSON.stringify(choices));
+  assert.match(readFileSync(join(out, "all-1.explained"), "utf8"), /\nagent \d drew random bytes that are never equal/);
+  const replayed = await commandHere([module, "--replay", join(out, "all-1.json")]);
+  assert.deepEqual([replayed.status, replayed.stderr], [1, ""]);
 });
 
 test("what is made of a look besides the time keeps moments apart", async (context) => {

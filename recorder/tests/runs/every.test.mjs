@@ -121,7 +121,8 @@ const SPECIES = "const made = [1]; made.constructor = { [Symbol.species]: functi
 test("what can't be learned is refused, with its line", async (context) => {
   for (const [text, wanted] of /** @type {[string, RegExp][]} */ ([
     [LOADS("new Intl.DateTimeFormat().format();"), /it looks at a clock, at agents\.mjs:5:\d+$/],
-    [`import crypto from "node:crypto";\n${LOADS("crypto.randomUUID();")}`, /it asks for random bytes, at .*:6:10$/],
+    [`import crypto from "node:crypto";\nconst name = crypto.randomUUID();\n${LOADS("name;")}`,
+      /it asks for a random number, at .*:2:21$/],
     [LOADS("Atomics.add(new Int32Array(new SharedArrayBuffer(4)), 0, 1);"), /that isn't recorded, at agents\.mjs:5/],
     [LOADS("eval('1');"), /it uses `eval`, at agents\.mjs:5:3$/],
     [LOADS("(() => 0).constructor('return 1')();"), /it uses `Function`, at agents\.mjs:5:13$/],

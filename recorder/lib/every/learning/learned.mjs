@@ -38,10 +38,10 @@ export class Learned {
     this.initial = this.#initial(length);
     if (this.exports.init !== undefined || this.exports.check !== undefined) code.leave();
     this.isShared = this.plan.canBlock.every((can) => can);
-    /** Whether agents look at a clock. */
+    /** Whether agents look at a clock, or make draws that are never equal. */
     this.hasClock = false;
-    /** @type {string | undefined} the line of a look whose time agents keep from round to round, if they keep any */
-    this.keptClock = undefined;
+    /** @type {import("./clock-rounds.mjs").KeptLook | undefined} what agents keep of it from round to round, if any */
+    this.kept = undefined;
     /** @type {Learner} */
     this.learner = this.#newLearner();
     /** @type {Program | undefined} */
@@ -72,7 +72,7 @@ export class Learned {
     };
     const learner = new Learner(asker, agents, own);
     learner.hasClock = this.hasClock;
-    asker.clock = new OwnClock(this.keptClock !== undefined);
+    asker.clock = new OwnClock(this.kept !== undefined);
     // Each automaton has its own, so they need not be gone through.
     code.builtins.names.set(learner.number, "number").set(learner.changesNumber, "changesNumber");
     code.builtins.names.set(learner.choices.again, "again").set(learner.choices.choose, "choose");
@@ -91,7 +91,7 @@ export class Learned {
       } catch (why) {
         if (why instanceof LooksAtNumber) this.isShared = false;
         else if (why instanceof LooksAtClock) this.hasClock = true;
-        else if (why instanceof KeepsClock) this.keptClock = why.line;
+        else if (why instanceof KeepsClock) this.kept = why.kept;
         else throw why;
         this.learner = this.#newLearner();
       }

@@ -42,8 +42,7 @@ export function learningReportOf(learned, search) {
   };
   return {
     isClosed: search.isClosed, bound: search.bound, isShared, plan, hasLikes: search.world.hasLikes,
-    neverEnds: kinds.neverEnds, keptClock: learned.keptClock,
-    drawsRandom: positions.nodes.flat().some(isRandom),
+    neverEnds: kinds.neverEnds, kept: learned.kept, drawn: drawnIn(positions),
     /** All schedules up to so many acts were tried. */
     depth: search.isClosed ? undefined : search.depths.items[search.expanded],
     result: resultOf(search, kinds, named),
@@ -70,8 +69,11 @@ function countsOf({ nodes }) {
   };
 }
 
-/** @param {Node} node @returns {boolean} whether it draws a random number */
-const isRandom = ({ does, limit }) => isChoice({ does }) && kindOfAsked(/** @type {number} */ (limit)) === "random";
+/** @param {Positions} positions @returns {{ numbers: boolean, unique: boolean }} what agents draw */
+function drawnIn({ nodes }) {
+  const kinds = new Set(nodes.flat().filter(isChoice).map(({ limit }) => kindOfAsked(/** @type {number} */ (limit))));
+  return { numbers: kinds.has("random"), unique: kinds.has("unique") || kinds.has("lasting unique") };
+}
 
 /** @param {Node} node @returns {NodeData} */
 const dataOf = ({ edges: _edges, automaton: _automaton, ...asked }) => asked;
