@@ -22,13 +22,18 @@ ${more}`;
 
 const CHECK = "export const check = ([buffer]) => new Int32Array(buffer)[0] === 1;\n";
 
+const ANY = "while (again())";
+const TWO = "for (let round = 0; round < 2; round += 1)";
+const GIVES_UP_WRONGLY = "Atomics.compareExchange(words, 0, 1, 0); return false;";
+
 /**
  * A semaphore of one permit, of which an agent gets one within 50 ms, or gives up.
  * @param {object} [how] what is wrong
  * @param {string} [how.givesUp] what an agent does that gives up
+ * @param {string} [how.rounds] how a loop over its rounds begins
  * @param {string} [how.wakes] what it does when it has given its permit back
  */
-const semaphore = ({ givesUp = "return false;", wakes = "Atomics.notify(words, 0, 1);" } = {}) => `
+const semaphore = ({ givesUp = "return false;", rounds = ANY, wakes = "Atomics.notify(words, 0, 1);" } = {}) => `
   const acquire = () => {
     const deadline = performance.now() + 50;
     for (;;) {
@@ -39,7 +44,7 @@ const semaphore = ({ givesUp = "return false;", wakes = "Atomics.notify(words, 0
       if (permits <= 0) Atomics.wait(words, 0, permits, left);
     }
   };
-  while (again()) {
+  ${rounds} {
     if (!acquire()) continue;
     if (Atomics.add(words, 1, 1) > 0) throw new Error("two are inside");
     Atomics.sub(words, 1, 1);
@@ -66,8 +71,7 @@ test("a semaphore with a timeout by a deadline, for any number of rounds", async
 });
 
 test("a permit that is lost when an agent gives up is found, and shown by real runs", async (context) => {
-  const givesUp = "Atomics.compareExchange(words, 0, 1, 0); return false;";
-  const module = moduleOf(context, agents(semaphore({ givesUp }), CHECK));
+  const module = moduleOf(context, agents(semaphore({ givesUp: GIVES_UP_WRONGLY }), CHECK));
   const out = temporaryFolder(context);
   const done = await commandHere([module, "--all", "--seeds", "1..10", "--out", out]);
   assert.equal(done.status, 1, done.stderr);
@@ -90,6 +94,43 @@ test("a lost wake-up that a timeout hides is found with `never`, and shown", asy
   const { closed, found, realRuns } = await everySchedule(never);
   assert.deepEqual([closed, kindsOf(found), realRuns], [true, ["deadlock"], 3]);
   assert.equal(found[0].notShown, null);
+});
+
+test("a semaphore with a timeout by a deadline, for two rounds without `again`", async (context) => {
+  /** @param {{ givesUp?: string, wakes?: string }} how @param {object} [more] */
+  const found = async (how, more = {}) => {
+    const text = agents(semaphore({ ...how, rounds: TWO }), CHECK);
+    const wanted = { place: { agents: 3 }, limit: 1_000_000, within: 600, ...more };
+    const { findings, hidden, isClosed } = await learned(context, text, wanted);
+    assert.deepEqual(hidden, []);
+    return [isClosed, kindsOf(findings)];
+  };
+  const never = { timeouts: "never" };
+  assert.deepEqual(await found({}), [true, []]);
+  assert.deepEqual(await found({}, never), [true, []]);
+  assert.deepEqual(await found({ wakes: "" }, never), [true, ["deadlock"]]);
+  assert.deepEqual(await found({ givesUp: GIVES_UP_WRONGLY }), [true, ["check"]]);
+  const module = moduleOf(context, agents(semaphore({ rounds: TWO }), CHECK));
+  const { closed, found: none, realRuns } = await everySchedule({ ...FEW_WORKERS, module, seeds: 20 });
+  assert.deepEqual([closed, none, realRuns], [true, [], 20]);
+});
+
+test("a backoff by chance, for two rounds without `again`", async (context) => {
+  /** @param {string} fails whether an agent fails to get the lock */
+  const backoff = (fails) => agents(`for (let round = 0; round < 2; round += 1) {
+    for (let tries = 0; ${fails}; tries = Math.min(tries + 1, 3)) {
+      Atomics.wait(words, 1, 0, Math.random() * 2 ** tries);
+    }
+    if (Atomics.exchange(words, 1, 1) === 1) throw new Error("two are inside");
+    Atomics.store(words, 1, 0);
+    Atomics.store(words, 0, 1);
+  }`, CHECK);
+  const right = backoff("Atomics.compareExchange(words, 0, 1, 0) !== 1");
+  const { findings, hidden, isClosed } = await learned(context, right, { place: { agents: 3 } });
+  assert.deepEqual([isClosed, hidden, findings], [true, [], []]);
+  const wrong = backoff("Atomics.load(words, 0) !== 1 || Atomics.store(words, 0, 0) > 0");
+  const data = await everySchedule({ ...FEW_WORKERS, module: moduleOf(context, wrong), seeds: 5 });
+  assert.deepEqual([data.closed, kindsOf(data.found), data.found[0].notShown], [true, ["threw"], null]);
 });
 
 test("clocks of each kind show an agent its own time", async (context) => {
