@@ -52,8 +52,8 @@ export interface EverySchedule {
   isWhole: boolean;
   agents: number;
   /**
-   * Whether states that differ only by an exchange of like agents count as one. That is so if no agent looks at its
-   * number, and two agents can both block, or both can't.
+   * Whether states that differ only by an exchange of like agents count as one. That is so if two agents do the same at
+   * the same lines, and can both block, or both can't.
    */
   areAlike: boolean;
   states: number;

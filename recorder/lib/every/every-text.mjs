@@ -9,7 +9,8 @@ import { LET_END } from "./advice.mjs";
 
 const MOST_LISTED = 8;
 
-const ALIKE = "states that differ only by an exchange of like agents counted as one: no agent looks at its number";
+const ALIKE =
+  "states that differ only by an exchange of like agents counted as one: these do the same at the same lines";
 
 const FRESHENED = "the modules keep something from run to run, so each real run has loaded them anew";
 

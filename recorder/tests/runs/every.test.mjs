@@ -45,8 +45,8 @@ test("a right lock: every schedule was tried, and nothing was found", async (con
     /^ {2}the search is proved; what .*: 39 moments of an agent, each of 78 edges twice, by (\d+) of \1 ways to mo/);
   assert.match(learned, /ways to moments that have several; 20 real runs agree$/);
   assert.match(rest[0], /^ {2}two moments counted as one only if all that the agent's code can still read was the /);
-  assert.equal(rest[1], "  states that differ only by an exchange of like agents counted as one: no agent looks at "
-    + "its number");
+  assert.equal(rest[1], "  states that differ only by an exchange of like agents counted as one: these do the "
+    + "same at the same lines");
   assert.equal(rest[2], "other numbers of agents, rounds or arguments weren't tried");
   assert.equal(rest.at(-2), `kept in ${out}: all.automata.json`);
   const file = JSON.parse(readFileSync(join(out, "all.automata.json"), "utf8"));

@@ -7,6 +7,7 @@ import { Search } from "../search/search.mjs";
 import { CantLearn } from "./asked-nodes.mjs";
 import { OwnClock } from "../../agent/own-clock.mjs";
 import { KeepsClock } from "./clock-rounds.mjs";
+import { AreUnlike, JoinedAutomata, UnlikeAgents } from "./joined-automata.mjs";
 import { Learner, LooksAtClock, LooksAtNumber } from "./learner.mjs";
 import { PART } from "./learning-progress.mjs";
 import { problemOf } from "./thrown.mjs";
@@ -42,6 +43,9 @@ export class Learned {
     this.hasClock = false;
     /** @type {import("./clock-rounds.mjs").KeptLook | undefined} what agents keep of it from round to round, if any */
     this.kept = undefined;
+    this.unlike = new UnlikeAgents(this.plan.canBlock);
+    /** @type {JoinedAutomata | undefined} those of the last search */
+    this.joined = undefined;
     /** @type {Learner} */
     this.learner = this.#newLearner();
     /** @type {Program | undefined} */
@@ -80,33 +84,47 @@ export class Learned {
   }
 
   /**
-   * Learns and searches, from the beginning again if the agents look at their numbers or at a clock.
+   * Learns and searches, from the beginning again if the agents look at their numbers or at a clock, or aren't alike.
+   * @template Report
+   * @param {(search: Search) => Report} report what is made of it
    * @param {(states: number) => boolean} [isLate]
-   * @returns {Search}
+   * @returns {Report}
    */
-  search(isLate) {
+  search(report, isLate) {
     for (;;) {
       try {
-        return this.#search(isLate);
+        return report(this.#search(isLate));
       } catch (why) {
-        if (why instanceof LooksAtNumber) this.isShared = false;
-        else if (why instanceof LooksAtClock) this.hasClock = true;
-        else if (why instanceof KeepsClock) this.kept = why.kept;
-        else throw why;
-        this.learner = this.#newLearner();
+        this.#beginAgain(why);
       }
     }
   }
 
+  /** @param {unknown} why the search ended before its end */
+  #beginAgain(why) {
+    if (why instanceof AreUnlike) {
+      this.unlike.add(why);
+      return;
+    }
+    if (why instanceof LooksAtNumber) this.isShared = false;
+    else if (why instanceof LooksAtClock) this.hasClock = true;
+    else if (why instanceof KeepsClock) this.kept = why.kept;
+    else throw why;
+    this.learner = this.#newLearner();
+  }
+
   /** @param {(states: number) => boolean} [isLate] */
   #search(isLate) {
-    const { bases, initial, learner, plan, wanted: { limit, timeouts } } = this;
+    const { bases, initial, isShared, learner, plan, wanted: { limit, timeouts } } = this;
     // What an agent writes before its first call is seen by later ones.
     const bytes = Uint8Array.from(initial);
-    const agents = plan.canBlock.map((canBlock, agent) => ({ canBlock, root: learner.root(agent, bytes) }));
+    const joined = new JoinedAutomata(learner, isShared ? [...plan.canBlock.keys()] : this.unlike.leaders());
+    this.joined = joined;
+    const roots = joined.roots(bytes);
+    const agents = plan.canBlock.map((canBlock, agent) => ({ canBlock, root: roots[agent] }));
     this.program = {
       lengths: plan.buffers, bases, initial, agents, nodes: learner.nodes, mayLack: false,
-      learn: (node, answer, found) => learner.learn(node, answer, found),
+      learn: (node, answer, found) => joined.learn(node, answer, found),
     };
     const search = new Search(this.program, { timeouts, limit, isLate });
     search.run();

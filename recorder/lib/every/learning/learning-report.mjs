@@ -35,7 +35,9 @@ export function learningReportOf(learned, search) {
   const kinds = new Kinds(search).find();
   const findings = new Findings(learned, search, kinds).all();
   const positions = new Positions(program);
-  const edges = edgesOf(positions);
+  // What each agent does is learned again, also if several go by one automaton.
+  const own = new Positions({ agents: learner.roots.map((root) => ({ root: /** @type {Node} */ (root) })) });
+  const edges = edgesOf(own);
   const named = {
     position: (/** @type {Node} */ node) => positions.of(node),
     blocksOf: (/** @type {number} */ memory) => blocksIn(search.world, memory),
@@ -48,14 +50,14 @@ export function learningReportOf(learned, search) {
     result: resultOf(search, kinds, named),
     file: fileOf(program, positions),
     findings,
-    counts: countsOf(positions),
+    counts: countsOf(own),
     edges,
     ways: new NodeWays(edges).counts(),
-    nodes: positions.nodes.flat().map(dataOf),
+    nodes: own.nodes.flat().map(dataOf),
     hidden: [...learner.hidden].map(([why, kind]) => ({ why, ...kind })).sort((one, other) => other.nodes - one.nodes),
     runs: learner.runs, renewals: code.renewals,
     changesBuiltins: code.builtins.haveChanged(),
-    widest: widestOf(learned, positions),
+    widest: widestOf(learned, own),
   };
 }
 

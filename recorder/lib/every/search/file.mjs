@@ -37,7 +37,7 @@ export function basesOf(lengths) {
 
 /** The nodes in use, each at its position in its automaton. */
 export class Positions {
-  /** @param {Program} program */
+  /** @param {{ agents: { root: Node }[] }} program */
   constructor({ agents }) {
     /** @type {Node[]} the first node of each automaton, by their positions in the file */
     this.roots = [...new Set(agents.map(({ root }) => root))];
