@@ -85,8 +85,8 @@ export interface EverySchedule {
   isWhole: boolean;
   agents: number;
   /**
-   * Whether states that differ only by an exchange of like agents count as one. That is so if no agent looks at its
-   * number, and two agents can both block, or both can't.
+   * Whether states that differ only by an exchange of like agents count as one. That is so if two agents do the same at
+   * the same lines, and can both block, or both can't.
    */
   areAlike: boolean;
   states: number;
@@ -109,8 +109,12 @@ export interface EverySchedule {
   choices: number;
   /** The line at which an agent looks at a clock and keeps the time from round to round; null if none does. */
   keptClock: string | null;
+  /** The line at which an agent draws eight or more random bytes and keeps them from round to round; else null. */
+  keptDraw: string | null;
   /** Whether an agent draws random numbers: only the least, one in the middle and the greatest were tried. */
   drawsRandom: boolean;
+  /** Whether an agent draws eight or more random bytes at once: only draws that are never equal were tried. */
+  drawsUnique: boolean;
   /** How many steps were learned; each twice. */
   edges: number;
   /** How many of these were learned both times by the same history. */

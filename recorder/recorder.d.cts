@@ -149,9 +149,11 @@ export interface Outcome {
 /**
  * What an agent chose: `again()` returned a boolean, or `choose(n)`, with n as the first number, the second one. In a
  * replay of a run of `--all` there may be others: whether a long time had passed at a look at a clock (1), or not (0);
- * and which random number was drawn. The first number says how many there were to choose from.
+ * which random number was drawn; and that random bytes were drawn that are never equal to others (unique). The first
+ * number says how many there were to choose from.
  */
-export type Choice = ["again", boolean] | ["choose" | "time" | "lasting time" | "random", number, number];
+export type Choice = ["again", boolean]
+  | ["choose" | "time" | "lasting time" | "random" | "unique" | "lasting unique", number, number];
 
 /** Bytes of a program's buffer, from `from` to `to` - 1, that are in a block of the script and of the trace. */
 export interface MemoryWindow {

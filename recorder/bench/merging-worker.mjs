@@ -15,7 +15,7 @@ installShown();
 /** @param {import("../lib/every/learning/learned-code.mjs").LearnedCode} code @param {boolean} isUnmerged */
 function learned(code, isUnmerged) {
   const one = new Learned(code, asker, { args: [], place: {}, timeouts: "early", limit, isUnmerged });
-  const search = one.search();
+  const search = one.search((found) => found);
   const kinds = new Kinds(search).find();
   return {
     isClosed: search.isClosed, states: search.count, acts: search.acts, nodes: one.learner.nodes.length,

@@ -1,13 +1,15 @@
 // What agents have chosen in a run: what each asked, and what was returned. A kept run has it in a file beside its
 // script.
 
-/** @typedef {"choose" | "time" | "lasting time" | "random"} Chooses what chooses a number */
+/**
+ * @typedef {"choose" | "time" | "lasting time" | "random" | "unique" | "lasting unique"} Chooses what chooses a number
+ */
 
 /**
  * @typedef {["again", boolean] | [Chooses, number, number]} AgentChoice what was asked, and what was returned: of
  * `again()` whether it goes on, of `choose(n)` the number n and the one that was chosen. In runs of `--all` the tool
- * chooses besides whether a long time has passed at a look at a clock, 1 of 2, and which random number is drawn. A
- * lasting time is one that goes on from round to round
+ * chooses besides whether a long time has passed at a look at a clock, 1 of 2, and which random number is drawn. Of
+ * unique bytes, which are never equal to others, there is one choice. Lasting are those that go on from round to round
  */
 
 /** @typedef {{ agents: AgentChoice[][] }} ChoicesFile what such a file has: each agent's choices in their order */
@@ -25,7 +27,7 @@ export const AGAIN = 0;
 const APART = 2_000;
 
 /** @type {readonly Chooses[]} by how often `APART` is added */
-const KINDS = Object.freeze(["choose", "time", "lasting time", "random"]);
+const KINDS = Object.freeze(["choose", "time", "lasting time", "random", "unique", "lasting unique"]);
 
 /** @param {Chooses} kind @param {number} count of numbers @returns {number} what is asked, as one number */
 export const askedOf = (kind, count) => APART * KINDS.indexOf(kind) + count;
@@ -42,8 +44,10 @@ export class UnlikeChoices extends Error {}
 const { isInteger } = Number;
 const { floor } = Math;
 
-/** From how many numbers something else than `choose` chooses at most. */
-const MOST_OF_KIND = Object.freeze({ time: 2, "lasting time": 2, random: 3 });
+/** From how many numbers each kind chooses at most. @type {Readonly<Record<Chooses, number>>} */
+const MOST_OF_KIND = Object.freeze({
+  choose: MOST_NUMBERS, time: 2, "lasting time": 2, random: 3, unique: 1, "lasting unique": 1,
+});
 
 /** @param {unknown} count @returns {count is number} whether `choose` takes it */
 export const canChooseFrom = (count) => isInteger(count) && Number(count) >= 1 && Number(count) <= MOST_NUMBERS;
@@ -66,6 +70,7 @@ export function askedText([does, count]) {
     case "again": return "again()";
     case "choose": return `choose(${count})`;
     case "random": return `a random number, 1 of ${count}`;
+    case "unique": case "lasting unique": return "random bytes that are never equal to others";
     default: return "a look at a clock";
   }
 }
@@ -74,6 +79,7 @@ export function askedText([does, count]) {
 export function choiceText(choice) {
   const [does] = choice;
   if (does === "again" || does === "choose") return `${askedText(choice)}, which returned ${choice.at(-1)}`;
+  if (does === "unique" || does === "lasting unique") return askedText(choice);
   return `${askedText(choice)}, ${does === "random" ? `the one at ${choice[2]}` : passedText(choice)}`;
 }
 
@@ -87,6 +93,7 @@ export function chosenText(choice) {
     case "again": return asked ? "chose to go on" : "chose not to go on";
     case "choose": return `chose ${number} of ${asked}`;
     case "random": return `drew the random number at ${number} of ${asked}`;
+    case "unique": case "lasting unique": return `drew ${askedText(choice)}`;
     default: return `looked at a clock ${passedText(choice)}`;
   }
 }
@@ -130,10 +137,10 @@ function needList(list, agent) {
   }
   const at = list.findIndex((choice) => !isChoice(choice));
   if (at < 0) return;
-  const forms = '["again",true], ["again",false], ["choose",n,k], ["time",n,k], ["lasting time",n,k] or ["random",n,k]';
-  const bounds = `with whole numbers n from 1 to ${MOST_NUMBERS}, 2, 2 or 3 and k from 0 to n - 1`;
+  const forms = `["again",true], ["again",false], ${KINDS.map((kind) => `["${kind}",n,k]`).join(" or ")}`;
+  const bounds = `with whole numbers n from 1 to ${KINDS.map((kind) => MOST_OF_KIND[kind]).join(", ")}`;
   const found = JSON.stringify(list[at]).slice(0, 60);
-  throw new UnlikeChoices(`agents[${agent}][${at}] is ${found}, and must be ${forms}, ${bounds}`);
+  throw new UnlikeChoices(`agents[${agent}][${at}] is ${found}, and must be ${forms}, ${bounds} and k from 0 to n - 1`);
 }
 
 /** @param {unknown} choice @returns {boolean} */
@@ -141,7 +148,7 @@ function isChoice(choice) {
   if (!Array.isArray(choice)) return false;
   const [does, asked, number] = choice;
   if (does === "again") return choice.length === 2 && typeof asked === "boolean";
-  const most = does === "choose" ? MOST_NUMBERS : MOST_OF_KIND[/** @type {keyof typeof MOST_OF_KIND} */ (does)];
+  const most = MOST_OF_KIND[/** @type {Chooses} */ (does)];
   const isAsked = choice.length === 3 && canChooseFrom(asked) && asked <= most;
   return isAsked && isInteger(number) && number >= 0 && number < asked;
 }

@@ -103,8 +103,10 @@ const post = port.postMessage.bind(port);
  */
 const self = { agent: 0, player: undefined, chooser: undefined, buffers: [] };
 const ownClock = new OwnClock(chosenTime === "lasting");
-const chance = chosenTime === undefined ? new Chance()
-  : new ChosenChance((count) => (isRecording() ? self.chooser?.random(count) : undefined));
+const chance = chosenTime === undefined ? new Chance() : new ChosenChance({
+  choose: (count) => (isRecording() ? self.chooser?.random(count) : undefined),
+  draw: () => (isRecording() ? self.chooser?.draw() : undefined),
+});
 const unseen = new Unseen(unrecorded === "allow");
 
 /** @param {unknown} buffer */

@@ -35,6 +35,13 @@ export class Chooser {
     return this.chosen(askedOf("random", count));
   }
 
+  /** @returns {number} a number that no other draw of the run has */
+  draw() {
+    const { agent, context: { ownClock } } = this.part;
+    this.chosen(askedOf(ownClock.isLasting ? "lasting unique" : "unique", 1));
+    return ownClock.draw(agent);
+  }
+
   /**
    * @param {number} asked as `Choosing` takes it
    * @param {Function} [called] the function that the agent's code has called, if that is known

@@ -1,30 +1,38 @@
-// The time that clocks show an agent if the tool chooses when time passes, as in all runs of `--all`: the agent's own.
-// It goes on when the agent looks and a long time has passed, and to the end of a timed wait that has timed out.
+// An agent's own counts, if the tool chooses when time passes and what chance gives, as in all runs of `--all`: the
+// time that clocks show it, and how many draws it has made that are never equal to others. The time goes on when the
+// agent looks and a long time has passed, and to the end of a timed wait that has timed out.
+
+import { SCRIPT_LIMITS } from "../../script/limits.mjs";
 
 /** @typedef {"anew" | "lasting"} ChosenTime whether an agent's clock begins anew in each round, at `again` */
 
 /** How long a long time is, in milliseconds. */
 const LONG = 1e9;
 
+const { agents: MOST_AGENTS } = SCRIPT_LIMITS;
+
 export class OwnClock {
   /** @param {boolean} isLasting whether it goes on from round to round, and doesn't begin anew at `again` */
   constructor(isLasting) {
     this.isLasting = isLasting;
-    /** At which time it begins, in milliseconds. */
+    /** At which time it begins, in milliseconds, and behind how many draws. */
     this.start = 0;
     /** What time it is. */
     this.time = 0;
+    /** How many draws were made. */
+    this.drawn = 0;
   }
 
-  /** @param {number} [time] at which it begins */
-  begin(time = 0) {
-    this.start = time;
-    this.time = time;
+  /** @param {number} [start] at which time it begins, and behind how many draws */
+  begin(start = 0) {
+    this.start = start;
+    this.time = start;
+    this.drawn = start;
   }
 
   /** A round begins. */
   round() {
-    if (!this.isLasting) this.time = this.start;
+    if (!this.isLasting) this.begin(this.start);
   }
 
   /** @param {number} milliseconds that a wait has had, whose time is up */
@@ -36,5 +44,16 @@ export class OwnClock {
   look(many) {
     this.time += many * LONG;
     return this.time;
+  }
+
+  /** @param {number} agent that draws @returns {number} a number that no other draw has, also of another agent */
+  draw(agent) {
+    this.drawn += 1;
+    return this.drawn * MOST_AGENTS + agent;
+  }
+
+  /** @returns {string} how far it is since its beginning */
+  sinceStart() {
+    return `${this.time - this.start} ${this.drawn - this.start}`;
   }
 }

@@ -4,7 +4,7 @@
 import crypto from "node:crypto";
 import process from "node:process";
 import { Random } from "../memory/random.mjs";
-import { apply, construct, likeEngine, proxyOf, put, uncurried } from "../primordials.mjs";
+import { apply, construct, likeEngine, proxyOf, put, tagOf, uncurried } from "../primordials.mjs";
 
 const { Date: EngineDate, Int32Array, Uint8Array, BigInt: big, RangeError, TypeError } = globalThis;
 const { floor } = Math;
@@ -60,6 +60,17 @@ function simulateProcess(now) {
   put(process, "uptime", likeEngine(() => now(true) / 1_000, process.uptime));
 }
 
+/** @typedef {{ size: number, isSigned: boolean }} RandomElements the numbers that random bytes are */
+
+/** @type {RandomElements} */
+const PLAIN_BYTES = { size: 1, isSigned: false };
+
+/** @type {Record<string, true>} */
+const SIGNED = /** @type {any} */ ({ __proto__: null, Int8Array: true, Int16Array: true, Int32Array: true });
+
+/** @param {any} view @returns {RandomElements} */
+const elementsOf = (view) => ({ size: view.BYTES_PER_ELEMENT ?? 1, isSigned: SIGNED[tagOf(view)] === true });
+
 /** A row of random numbers that an agent's code draws from. */
 export class Chance {
   constructor() {
@@ -86,8 +97,9 @@ export class Chance {
   /**
    * Fills bytes.
    * @param {Uint8Array} bytes
+   * @param {RandomElements} _elements that they are
    */
-  fill(bytes) {
+  fill(bytes, _elements) {
     for (let at = 0; at < bytes.length; at += 1) bytes[at] = this.random.next() >>> 24;
   }
 }
@@ -103,7 +115,7 @@ export function simulateChance(chance) {
   const getRandomValues = likeEngine((/** @type {ArrayBufferView} */ view) => {
     // The engine's own makes the checks, and its numbers are overwritten.
     apply(fillView, webcrypto, [view]);
-    chance.fill(new Uint8Array(view.buffer, view.byteOffset, view.byteLength));
+    chance.fill(new Uint8Array(view.buffer, view.byteOffset, view.byteLength), elementsOf(view));
     return view;
   }, fillView);
   const randomUUID = likeEngine(() => uuidOf(chance), crypto.randomUUID);
@@ -123,17 +135,15 @@ function simulateNodeChance(chance) {
   put(crypto, "randomBytes", likeEngine((/** @type {number} */ size, /** @type {unknown} */ done) => {
     if (done !== undefined) return apply(randomBytes, crypto, [size, done]);
     const bytes = bytesFrom(size);
-    chance.fill(bytes);
+    chance.fill(bytes, PLAIN_BYTES);
     return bytes;
   }, randomBytes));
   put(crypto, "randomFillSync", likeEngine((/** @type {any} */ view, offset = 0, size = undefined) => {
     apply(randomFillSync, crypto, size === undefined ? [view, offset] : [view, offset, size]);
     const each = isView(view) ? /** @type {any} */ (view).BYTES_PER_ELEMENT ?? 1 : 1;
-    const bytes = isView(view)
-      ? new Uint8Array(view.buffer, view.byteOffset, view.byteLength)
-      : new Uint8Array(view);
-    const to = size === undefined ? bytes.length : (offset + size) * each;
-    for (let at = offset * each; at < to; at += 1) bytes[at] = chance.random.next() >>> 24;
+    const { buffer, byteOffset, byteLength } = isView(view) ? view : new Uint8Array(view);
+    const length = size === undefined ? byteLength - offset * each : size * each;
+    chance.fill(new Uint8Array(buffer, byteOffset + offset * each, length), elementsOf(view));
     return view;
   }, randomFillSync));
   /** @type {(least: number, most?: any, done?: unknown) => unknown} */
@@ -160,7 +170,7 @@ function simulateNodeChance(chance) {
  */
 function uuidOf(chance, time) {
   const bytes = bytesFrom(16);
-  chance.fill(bytes);
+  chance.fill(bytes, PLAIN_BYTES);
   if (time !== undefined) {
     for (let at = 5, left = time; at >= 0; at -= 1, left = floor(left / 256)) bytes[at] = left % 256;
   }

@@ -45,8 +45,8 @@ function placeOf({ lengths, canBlock }, options) {
  */
 function chosenTimeIn(agents) {
   const kinds = new Set(agents.flat().map(([does]) => does));
-  if (kinds.has("lasting time")) return "lasting";
-  return kinds.has("time") || kinds.has("random") ? "anew" : undefined;
+  if (kinds.has("lasting time") || kinds.has("lasting unique")) return "lasting";
+  return kinds.has("time") || kinds.has("random") || kinds.has("unique") ? "anew" : undefined;
 }
 
 export class Replay extends Replaying {

@@ -27,6 +27,8 @@ const ENDLESS = /makes no call of Atomics/;
 const OF_ENDLESS = "let the loop end, or call Atomics in each of its turns";
 const FEWER = "fewer agents, rounds and different values make fewer states";
 const LONGER = "give it more time (--within)";
+const FEWER_DRAWS = "draw eight or more random bytes, as a UUID, at an agent's beginning and in no loop: each draw is "
+  + "another value, so no two rounds are the same";
 
 /** A line at which an agent can get so many results is worth a word. */
 const MANY_ANSWERS = 8;
@@ -45,5 +47,6 @@ export function adviceOf(open, report) {
   const { answers, line } = report.widest;
   const isWide = line !== undefined && answers >= MANY_ANSWERS;
   const narrower = isWide ? [`let ${line} get fewer different values`] : [];
-  return [...kinds, ...narrower, FEWER, ...(report.bound === "time" ? [LONGER] : [])];
+  const draws = report.drawn.unique ? [FEWER_DRAWS] : [];
+  return [...kinds, ...draws, ...narrower, FEWER, ...(report.bound === "time" ? [LONGER] : [])];
 }

@@ -60,7 +60,9 @@ import { adviceOf } from "./advice.mjs";
  * @property {number} moments of an agent: calls, choices, and reads that are acts of their own
  * @property {number} choices how many of these are choices
  * @property {string | null} keptClock the line at which an agent sees a time that it keeps from round to round
+ * @property {string | null} keptDraw the line at which it draws what it keeps so
  * @property {boolean} drawsRandom whether an agent draws random numbers
+ * @property {boolean} drawsUnique whether it draws eight or more random bytes at once, which are never equal to others
  * @property {number} edges each was learned twice
  * @property {number} edgesByOne of these, both times by the same history
  * @property {number} ways that lead to nodes that have several: each is an edge, behind the shortest way to its start
@@ -85,7 +87,8 @@ import { adviceOf } from "./advice.mjs";
 /** What stands where nothing could be learned. */
 const NOTHING = Object.freeze({
   states: 0, acts: 0, depth: 0, finals: [], finalCount: 0, found: [], neverEnds: false, moments: 0, choices: 0,
-  keptClock: null, drawsRandom: false, edges: 0, edgesByOne: 0, ways: 0, waysTried: 0, hidden: [], widest: null,
+  keptClock: null, keptDraw: null, drawsRandom: false, drawsUnique: false, edges: 0, edgesByOne: 0, ways: 0,
+  waysTried: 0, hidden: [], widest: null,
 });
 
 /** @param {import("./every-use.mjs").EveryUseResult} tried @returns {EveryData} */
@@ -96,13 +99,15 @@ export function dataOf({ report, open, shown, onlyRuns, uses, ...tried }) {
   const advice = adviceOf(open, report);
   if (report === undefined) return { ...NOTHING, agents: 0, areAlike: false, advice, ...common };
   const { counts, depth = null, findings, hasLikes, hidden, neverEnds, plan, result, ways, widest } = report;
-  const { drawsRandom, keptClock = null } = report;
+  const { drawn, kept } = report;
+  const keeps = { keptClock: kept?.isDraw === false ? kept.line : null, keptDraw: kept?.isDraw ? kept.line : null };
   const found = findings.map((finding) => dataOfFinding(finding, shown.find((each) => each.finding === finding)));
   return {
     ...common, agents: plan.agents, areAlike: hasLikes, states: result.states, acts: result.acts, depth,
     finals: finalsOf(report), finalCount: result.final.count, found: [...found, ...onlyRuns.map(dataOfRuns)],
-    neverEnds, moments: counts.moments, choices: counts.choices, keptClock, drawsRandom, edges: counts.edges,
-    edgesByOne: ways.edgesByOne, ways: ways.all, waysTried: ways.tried, hidden, advice,
+    neverEnds, moments: counts.moments, choices: counts.choices, ...keeps, drawsRandom: drawn.numbers,
+    drawsUnique: drawn.unique, edges: counts.edges, edgesByOne: ways.edgesByOne, ways: ways.all, waysTried: ways.tried,
+    hidden, advice,
     widest: { ...widest, line: widest.line ?? null },
   };
 }

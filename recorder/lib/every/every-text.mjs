@@ -11,7 +11,8 @@ import { OF_HISTORIES, historyLines, monitorLines, rightLines, sizesText } from 
 
 const MOST_LISTED = 8;
 
-const ALIKE = "states that differ only by an exchange of like agents counted as one: no agent looks at its number";
+const ALIKE =
+  "states that differ only by an exchange of like agents counted as one: these do the same at the same lines";
 
 const FRESHENED = "the modules keep something from run to run, so each real run has loaded them anew";
 
@@ -99,9 +100,11 @@ function bySearch({ acts, changes, detail, states }) {
 const byRuns = ({ runs, seed }, made) => `in ${digits(runs)} of ${countText(made, "real run")}, seed ${seed} the first`;
 
 /** @param {EveryData} data @returns {string[]} what was chosen of clocks and chance */
-const chosenLines = ({ drawsRandom, keptClock }) => [
+const chosenLines = ({ drawsRandom, drawsUnique, keptClock, keptDraw }) => [
   ...(drawsRandom ? ["of random numbers only the least, one in the middle and the greatest were tried"] : []),
+  ...(drawsUnique ? ["of eight and more random bytes only draws that are never equal were tried"] : []),
   ...(keptClock === null ? [] : [`clocks go on from round to round: an agent keeps its time of ${keptClock}`]),
+  ...(keptDraw === null ? [] : [`what is drawn differs from round to round: an agent keeps its draw at ${keptDraw}`]),
 ];
 
 /** @param {EveryData} data */

@@ -121,7 +121,7 @@ export class Every {
       this.keepsMore = report.renewals > 0;
       if (report.changesBuiltins) throw new NotAsLearned(CHANGES_BUILTINS);
       if (!report.isClosed) return await this.#open(report, openText(report));
-      if (report.neverEnds || report.keptClock !== undefined) real = await this.#begunAnew(real, report);
+      if (report.neverEnds || report.kept !== undefined) real = await this.#begunAnew(real, report);
       const again = this.#learnAgain(report);
       const { running } = real;
       // The second learning knows more about why a run differs.
@@ -191,9 +191,9 @@ export class Every {
    * @param {{ runs: Runs }} before
    * @param {LearningReport} report
    */
-  async #begunAnew(before, { keptClock, neverEnds }) {
+  async #begunAnew(before, { kept, neverEnds }) {
     if (neverEnds) this.how.cutAfter = CUT_AFTER;
-    if (keptClock !== undefined) this.how.chosenTime = "lasting";
+    if (kept !== undefined) this.how.chosenTime = "lasting";
     const [real] = await Promise.all([this.#begun(), before.runs.close()]);
     return real;
   }
@@ -231,9 +231,9 @@ export class Every {
 
   /** @param {LearningReport} report */
   async #learnAgain(report) {
-    const { each, edges, isShared, keptClock, nodes, plan } = report;
+    const { each, edges, isShared, kept, nodes, plan } = report;
     const { over, options: { args, fresh, module, seconds, timeouts } } = this;
-    const clocks = { isLasting: keptClock !== undefined, isEndless: timeouts === "never" };
+    const clocks = { isLasting: kept !== undefined, isEndless: timeouts === "never" };
     const given = { module, args, plan, isShared, isFresh: fresh === true, ...clocks, nodes, edges, each };
     const differs = await learnAgain(given, { seconds, over, thread: this.threads?.again });
     if (differs === TIME_OVER) throw new NotLearnedAgain(report);
@@ -277,8 +277,8 @@ export class Every {
   }
 
   /** @param {LearningReport} report @returns {EveryRunOptions} of the runs that show what was found */
-  #ofShown({ keptClock }) {
-    return { ...this.options, chosenTime: keptClock === undefined ? "anew" : "lasting" };
+  #ofShown({ kept }) {
+    return { ...this.options, chosenTime: kept === undefined ? "anew" : "lasting" };
   }
 
   /** @param {LearningReport} report that is closed */

@@ -20,6 +20,9 @@ function splitmix32(start) {
   };
 }
 
+/** @param {number} number below 2^32, or its remainder is taken @returns {number} a word that no other number has */
+export const mixedWord = (number) => splitmix32(number)();
+
 /** @param {number} word @param {number} by */
 const rotate = (word, by) => (word << by) | (word >>> (32 - by));
 

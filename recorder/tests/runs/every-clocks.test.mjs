@@ -22,13 +22,18 @@ ${more}`;
 
 const CHECK = "export const check = ([buffer]) => new Int32Array(buffer)[0] === 1;\n";
 
+const ANY = "while (again())";
+const TWO = "for (let round = 0; round < 2; round += 1)";
+const GIVES_UP_WRONGLY = "Atomics.compareExchange(words, 0, 1, 0); return false;";
+
 /**
  * A semaphore of one permit, of which an agent gets one within 50 ms, or gives up.
  * @param {object} [how] what is wrong
  * @param {string} [how.givesUp] what an agent does that gives up
+ * @param {string} [how.rounds] how a loop over its rounds begins
  * @param {string} [how.wakes] what it does when it has given its permit back
  */
-const semaphore = ({ givesUp = "return false;", wakes = "Atomics.notify(words, 0, 1);" } = {}) => `
+const semaphore = ({ givesUp = "return false;", rounds = ANY, wakes = "Atomics.notify(words, 0, 1);" } = {}) => `
   const acquire = () => {
     const deadline = performance.now() + 50;
     for (;;) {
@@ -39,7 +44,7 @@ const semaphore = ({ givesUp = "return false;", wakes = "Atomics.notify(words, 0
       if (permits <= 0) Atomics.wait(words, 0, permits, left);
     }
   };
-  while (again()) {
+  ${rounds} {
     if (!acquire()) continue;
     if (Atomics.add(words, 1, 1) > 0) throw new Error("two are inside");
     Atomics.sub(words, 1, 1);
@@ -58,16 +63,15 @@ const kindsOf = (found) => [...new Set(found.map(({ kind }) => kind))];
 
 test("a semaphore with a timeout by a deadline, for any number of rounds", async (context) => {
   const right = agents(semaphore(), CHECK);
-  const { counts, findings, hidden, isClosed, keptClock } = await learned(context, right, { place: { agents: 3 } });
-  assert.deepEqual([isClosed, hidden, findings, keptClock], [true, [], [], undefined]);
+  const { counts, findings, hidden, isClosed, kept } = await learned(context, right, { place: { agents: 3 } });
+  assert.deepEqual([isClosed, hidden, findings, kept], [true, [], [], undefined]);
   assert.ok(counts.choices > 2);
   const never = await learned(context, right, { timeouts: "never" });
   assert.deepEqual([never.isClosed, never.findings], [true, []]);
 });
 
 test("a permit that is lost when an agent gives up is found, and shown by real runs", async (context) => {
-  const givesUp = "Atomics.compareExchange(words, 0, 1, 0); return false;";
-  const module = moduleOf(context, agents(semaphore({ givesUp }), CHECK));
+  const module = moduleOf(context, agents(semaphore({ givesUp: GIVES_UP_WRONGLY }), CHECK));
   const out = temporaryFolder(context);
   const done = await commandHere([module, "--all", "--seeds", "1..10", "--out", out]);
   assert.equal(done.status, 1, done.stderr);
@@ -90,6 +94,43 @@ test("a lost wake-up that a timeout hides is found with `never`, and shown", asy
   const { closed, found, realRuns } = await everySchedule(never);
   assert.deepEqual([closed, kindsOf(found), realRuns], [true, ["deadlock"], 3]);
   assert.equal(found[0].notShown, null);
+});
+
+test("a semaphore with a timeout by a deadline, for two rounds without `again`", async (context) => {
+  /** @param {{ givesUp?: string, wakes?: string }} how @param {object} [more] */
+  const found = async (how, more = {}) => {
+    const text = agents(semaphore({ ...how, rounds: TWO }), CHECK);
+    const wanted = { place: { agents: 3 }, limit: 1_000_000, within: 600, ...more };
+    const { findings, hidden, isClosed } = await learned(context, text, wanted);
+    assert.deepEqual(hidden, []);
+    return [isClosed, kindsOf(findings)];
+  };
+  const never = { timeouts: "never" };
+  assert.deepEqual(await found({}), [true, []]);
+  assert.deepEqual(await found({}, never), [true, []]);
+  assert.deepEqual(await found({ wakes: "" }, never), [true, ["deadlock"]]);
+  assert.deepEqual(await found({ givesUp: GIVES_UP_WRONGLY }), [true, ["check"]]);
+  const module = moduleOf(context, agents(semaphore({ rounds: TWO }), CHECK));
+  const { closed, found: none, realRuns } = await everySchedule({ ...FEW_WORKERS, module, seeds: 20 });
+  assert.deepEqual([closed, none, realRuns], [true, [], 20]);
+});
+
+test("a backoff by chance, for two rounds without `again`", async (context) => {
+  /** @param {string} fails whether an agent fails to get the lock */
+  const backoff = (fails) => agents(`for (let round = 0; round < 2; round += 1) {
+    for (let tries = 0; ${fails}; tries = Math.min(tries + 1, 3)) {
+      Atomics.wait(words, 1, 0, Math.random() * 2 ** tries);
+    }
+    if (Atomics.exchange(words, 1, 1) === 1) throw new Error("two are inside");
+    Atomics.store(words, 1, 0);
+    Atomics.store(words, 0, 1);
+  }`, CHECK);
+  const right = backoff("Atomics.compareExchange(words, 0, 1, 0) !== 1");
+  const { findings, hidden, isClosed } = await learned(context, right, { place: { agents: 3 } });
+  assert.deepEqual([isClosed, hidden, findings], [true, [], []]);
+  const wrong = backoff("Atomics.load(words, 0) !== 1 || Atomics.store(words, 0, 0) > 0");
+  const data = await everySchedule({ ...FEW_WORKERS, module: moduleOf(context, wrong), seeds: 5 });
+  assert.deepEqual([data.closed, kindsOf(data.found), data.found[0].notShown], [true, ["threw"], null]);
 });
 
 test("clocks of each kind show an agent its own time", async (context) => {
@@ -119,7 +160,7 @@ test("a time that an agent keeps from round to round is named, and its clock goe
     Atomics.load(words, 0);
     if (performance.now() > 1e8) break;
   }`;
-  assert.equal((await learned(context, agents(later))).keptClock, "agents.mjs:7:21");
+  assert.deepEqual((await learned(context, agents(later))).kept, { line: "agents.mjs:7:21", isDraw: false });
 });
 
 test("a random number is the least, one in the middle or the greatest", async (context) => {
@@ -132,7 +173,7 @@ test("a random number is the least, one in the middle or the greatest", async (c
     Atomics.store(words, 0, 1);
   }`;
   const right = await learned(context, agents(backs, CHECK), { place: { agents: 3 } });
-  assert.deepEqual([right.isClosed, right.findings, right.hidden, right.drawsRandom], [true, [], [], true]);
+  assert.deepEqual([right.isClosed, right.findings, right.hidden, right.drawn.numbers], [true, [], [], true]);
   const drawn = agents(`
   const [one, other] = [Math.random(), crypto.randomInt(5, 8)];
   if (!(one >= 0 && one < 1) || other < 5 || other > 7) throw new Error("out of range");
@@ -148,8 +189,67 @@ test("a random number is the least, one in the middle or the greatest", async (c
   const same = await everySchedule({ ...FEW_WORKERS, module: moduleOf(context, agents(alike)), seeds: 1 });
   assert.deepEqual(same.found.map(({ drewSame, notShown }) => [drewSame, notShown]), [[true, null]]);
   assert.match(everyText(same), /\n {4}two agents draw the same random number there\n/);
-  const bytes = `import crypto from "node:crypto";\n${agents("Atomics.store(words, 1, crypto.randomBytes(1)[0]);")}`;
-  await assert.rejects(learned(context, bytes), refusedInALine(/it asks for random bytes, at agents\.mjs:6:34/));
+});
+
+test("fewer than eight random bytes are the least, some in the middle or the greatest", async (context) => {
+  const drawn = agents(`
+  const [[one], few, [sign]] = [crypto.getRandomValues(new Uint16Array(1)), randomBytes(3), signed()];
+  if (![0, 0x8000, 0xffff].includes(one) || ![-128, 0, 127].includes(sign)) throw new Error(\`\${[one, sign]}\`);
+  const filled = nodeCrypto.randomFillSync(new Uint8Array(4), 1, 2);
+  if (filled[0] + filled[3] !== 0 || filled[1] !== filled[2] || few[0] !== few[2]) throw new Error(\`\${filled}\`);
+  Atomics.store(words, 1, 64 * (one & 3) + 16 * (few[1] & 3) + 4 * (filled[1] & 3) + (sign & 3));`);
+  const signed = "const signed = () => nodeCrypto.webcrypto.getRandomValues(new Int8Array(1));";
+  const text = `import nodeCrypto, { randomBytes } from "node:crypto";\n${signed}\n${drawn}`;
+  const data = await everySchedule({ ...FEW_WORKERS, module: moduleOf(context, text), agents: 1, seeds: 6 });
+  assert.deepEqual([data.closed, data.found, data.hidden, data.realRuns], [true, [], [], 6]);
+  assert.deepEqual([data.finalCount, data.drawsRandom, data.drawsUnique], [16, true, false]);
+  const alike = "if (Atomics.add(words, 1, crypto.getRandomValues(new Uint8Array(1))[0]) === 255) throw 255;";
+  const same = await everySchedule({ ...FEW_WORKERS, module: moduleOf(context, agents(alike)), seeds: 1 });
+  assert.deepEqual(same.found.map(({ drewSame, notShown }) => [drewSame, notShown]), [[false, null]]);
+  await assert.rejects(learned(context, agents("crypto.getRandomValues(words);")),
+    refusedInALine(/it draws random bytes into shared memory, at agents\.mjs:5:10/));
+  await assert.rejects(learned(context, agents("crypto.subtle;")), refusedInALine(/it reads `crypto\.subtle`/));
+});
+
+/** @param {string} draw @param {string} [then] in each round @returns {string} a lock whose owner leaves its name */
+const named = (draw, then = "") => `import { randomBytes } from "node:crypto";\n${agents(`
+  const [names, name] = [new BigInt64Array(buffers[0]), ${draw}];
+  const mine = typeof name === "string" ? BigInt(\`0x\${name.slice(0, 8)}\`) : name[0];
+  while (again()) {
+    if (Atomics.compareExchange(names, 0, 1n, mine) !== 1n) continue;
+    if (Atomics.load(names, 0) !== mine) throw new Error("two are inside");
+    ${then}
+    Atomics.store(names, 0, 1n);
+  }`)}`;
+
+test("a UUID, and eight random bytes, are never equal to others", async (context) => {
+  for (const draw of ["crypto.randomUUID()", "crypto.getRandomValues(new BigInt64Array(1))"]) {
+    const module = moduleOf(context, named(draw));
+    const data = await everySchedule({ ...FEW_WORKERS, module, agents: 3, seeds: 10 });
+    assert.deepEqual([data.closed, data.found, data.hidden, data.realRuns], [true, [], [], 10]);
+    assert.deepEqual([data.drawsRandom, data.drawsUnique, data.keptClock], [false, true, null]);
+    assert.equal(data.keptDraw, "agents.mjs:7:64");
+    assert.match(everyText(data), /\n {2}of eight and more random bytes only draws that are never equal were tried\n/);
+    assert.match(everyText(data), /\n {2}what is drawn differs from round to round: an agent keeps its draw at agents/);
+  }
+  const within = await learned(context, named("[2n]", "if (crypto.randomUUID() === crypto.randomUUID()) throw 1;"));
+  assert.deepEqual([within.isClosed, within.hidden, within.kept], [true, [], undefined]);
+  const each = named("[2n]", "Atomics.store(words, 1, randomBytes(8)[0]);");
+  const open = await learned(context, each, { limit: 3_000 });
+  assert.deepEqual([open.isClosed, open.bound, open.kept?.isDraw], [false, "states", true]);
+});
+
+test("a run whose agents have drawn bytes that are never equal is kept, and replayed", async (context) => {
+  const fails = "if (Atomics.exchange(words, 1, 1) === 1) throw new Error(crypto.randomUUID());";
+  const module = moduleOf(context, named("crypto.randomUUID()", fails));
+  const out = temporaryFolder(context);
+  const done = await commandHere([module, "--all", "--seeds", "1..3", "--out", out]);
+  assert.equal(done.status, 1, done.stdout);
+  const { agents: choices } = JSON.parse(readFileSync(join(out, "all-1.choices.json"), "utf8"));
+  assert.ok(choices.flat().some(([does]) => does === "lasting unique"), JSON.stringify(choices));
+  assert.match(readFileSync(join(out, "all-1.explained"), "utf8"), /\nagent \d drew random bytes that are never equal/);
+  const replayed = await commandHere([module, "--replay", join(out, "all-1.json")]);
+  assert.deepEqual([replayed.status, replayed.stderr], [1, ""]);
 });
 
 test("what is made of a look besides the time keeps moments apart", async (context) => {

@@ -71,7 +71,7 @@ const REACHES = [
   "performance.mark('a')", "Buffer.allocUnsafe(1)",
   "new TextDecoder().decode(new Uint8Array(1), { stream: true })", "util.debuglog('a', () => {})",
   "threads.threadId", "threads.parentPort.on", "new threads.Worker('')",
-  "hooks.monitorEventLoopDelay()", "randomBytes(1)", "fs.readFileSync.name",
+  "hooks.monitorEventLoopDelay()", "generateKeySync('aes', { length: 128 })", "fs.readFileSync.name",
   "fs.readFileSync('a')", "EventEmitter.setMaxListeners(1)", "EventEmitter.on.name", "os.cpus()", "timers.setTimeout()",
   "new FinalizationRegistry(() => {}).unregister({})", "new console.Console()", "console._stdout",
 ];
@@ -160,7 +160,7 @@ function memberOf(code) {
 }
 
 const BEGINS = `import assert from "node:assert";
-import { createHash, randomBytes } from "node:crypto";
+import { createHash, generateKeySync } from "node:crypto";
 import { EventEmitter } from "events";
 import fs from "node:fs";
 import os from "node:os";

@@ -45,8 +45,8 @@ test("a right lock: every schedule was tried, and nothing was found", async (con
     /^ {2}the search is proved; what .*: 39 moments of an agent, each of 78 edges twice, by (\d+) of \1 ways to mo/);
   assert.match(learned, /ways to moments that have several; 20 real runs agree$/);
   assert.match(rest[0], /^ {2}two moments counted as one only if all that the agent's code can still read was the /);
-  assert.equal(rest[1], "  states that differ only by an exchange of like agents counted as one: no agent looks at "
-    + "its number");
+  assert.equal(rest[1], "  states that differ only by an exchange of like agents counted as one: these do the "
+    + "same at the same lines");
   assert.equal(rest[2], "other numbers of agents, rounds or arguments weren't tried");
   assert.equal(rest.at(-2), `kept in ${out}: all.automata.json`);
   const file = JSON.parse(readFileSync(join(out, "all.automata.json"), "utf8"));
@@ -121,7 +121,8 @@ const SPECIES = "const made = [1]; made.constructor = { [Symbol.species]: functi
 test("what can't be learned is refused, with its line", async (context) => {
   for (const [text, wanted] of /** @type {[string, RegExp][]} */ ([
     [LOADS("new Intl.DateTimeFormat().format();"), /it looks at a clock, at agents\.mjs:5:\d+$/],
-    [`import crypto from "node:crypto";\n${LOADS("crypto.randomUUID();")}`, /it asks for random bytes, at .*:6:10$/],
+    [`import crypto from "node:crypto";\nconst name = crypto.randomUUID();\n${LOADS("name;")}`,
+      /it asks for a random number, at .*:2:21$/],
     [LOADS("Atomics.add(new Int32Array(new SharedArrayBuffer(4)), 0, 1);"), /that isn't recorded, at agents\.mjs:5/],
     [LOADS("eval('1');"), /it uses `eval`, at agents\.mjs:5:3$/],
     [LOADS("(() => 0).constructor('return 1')();"), /it uses `Function`, at agents\.mjs:5:13$/],

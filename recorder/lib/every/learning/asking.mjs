@@ -65,6 +65,9 @@ export class Asker {
   /** @type {CantLearn | undefined} why the agent can't be learned */
   refused;
 
+  /** Which agent runs now: an agent that uses it looks at its number. */
+  agentNumber = () => 0;
+
   constructor() {
     /** @type {number[]} of each buffer where it begins in the bytes of all */
     this.bases = [];
@@ -92,9 +95,9 @@ export class Asker {
     this.clock = new OwnClock(false);
     /** At which time it begins. */
     this.start = 0;
-    /** @type {number | undefined} which of its looks is to show another time, to find what keeps it */
+    /** @type {number | undefined} which of its looks is to show something else, to find what keeps it */
     this.shiftedLook = undefined;
-    /** How often the agent has looked at a clock. */
+    /** How often the agent has looked at a clock, or made a draw that is never equal to others. */
     this.looks = 0;
     /** @type {string | undefined} why what the agent makes of a choice can't be shown */
     this.unshown = undefined;
@@ -299,7 +302,20 @@ export class Asker {
     const passed = this.choose(askedOf(clock.isLasting ? "lasting time" : "time", isEndless ? 1 : 2));
     this.unshown = undefined;
     this.looks += 1;
-    return clock.look(passed) + (this.shiftedLook === this.looks ? OTHER_START : 0);
+    return clock.look(passed) + this.#shift();
+  }
+
+  /** @param {string} what is made of it @returns {number} a number that no other draw of a run has */
+  draw(what) {
+    const { clock } = this;
+    this.choose(askedOf(clock.isLasting ? "lasting unique" : "unique", 1), what);
+    this.looks += 1;
+    return clock.draw(this.agentNumber()) + this.#shift();
+  }
+
+  /** @returns {number} by how much a look shows something else than it should */
+  #shift() {
+    return this.shiftedLook === this.looks ? OTHER_START : 0;
   }
 
   /**

@@ -122,7 +122,12 @@ export class Findings {
   /** Finds the lines of what conflicts, as far as there aren't too many. */
   #findLines() {
     const nodes = new Set([...this.kinds.conflicts.values()].flatMap(({ one, other }) => [one, other]));
-    for (const node of [...nodes].slice(0, MOST_LINES)) this.lines.set(node, this.learned.learner.lineOf(node));
+    const { joined, learner } = this.learned;
+    const lineOf = (/** @type {Node} */ node) => learner.lineOf(node);
+    for (const node of [...nodes].slice(0, MOST_LINES)) {
+      joined?.needLine(node, lineOf);
+      this.lines.set(node, lineOf(node));
+    }
   }
 
   /** @param {number} state @returns {StateFinding[]} what it has, each once */

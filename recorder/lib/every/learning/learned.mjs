@@ -9,6 +9,7 @@ import { Search } from "../search/search.mjs";
 import { CantLearn } from "./asked-nodes.mjs";
 import { OwnClock } from "../../agent/own-clock.mjs";
 import { KeepsClock } from "./clock-rounds.mjs";
+import { AreUnlike, JoinedAutomata, UnlikeAgents } from "./joined-automata.mjs";
 import { Learner, LooksAtClock, LooksAtNumber } from "./learner.mjs";
 import { learnedMarks } from "./learned-marks.mjs";
 import { PART } from "./learning-progress.mjs";
@@ -53,10 +54,13 @@ export class Learned {
     this.initial = this.#initial(length);
     if (this.exports.init !== undefined || this.exports.check !== undefined) code.leave();
     this.isShared = this.plan.canBlock.every((can) => can);
-    /** Whether agents look at a clock. */
+    /** Whether agents look at a clock, or make draws that are never equal. */
     this.hasClock = false;
-    /** @type {string | undefined} the line of a look whose time agents keep from round to round, if they keep any */
-    this.keptClock = undefined;
+    /** @type {import("./clock-rounds.mjs").KeptLook | undefined} what agents keep of it from round to round, if any */
+    this.kept = undefined;
+    this.unlike = new UnlikeAgents(this.plan.canBlock);
+    /** @type {JoinedAutomata | undefined} those of the last search */
+    this.joined = undefined;
     /** @type {Learner} */
     this.learner = this.#newLearner();
     /** @type {Program | undefined} */
@@ -92,7 +96,7 @@ export class Learned {
     };
     const learner = new Learner(asker, agents, own);
     learner.hasClock = this.hasClock;
-    asker.clock = new OwnClock(this.keptClock !== undefined);
+    asker.clock = new OwnClock(this.kept !== undefined);
     // Each automaton has its own, so they need not be gone through.
     code.builtins.names.set(learner.number, "number").set(learner.changesNumber, "changesNumber");
     code.builtins.names.set(learner.choices.again, "again").set(learner.choices.choose, "choose");
@@ -132,34 +136,48 @@ export class Learned {
   }
 
   /**
-   * Learns and searches, from the beginning again if the agents look at their numbers or at a clock.
+   * Learns and searches, from the beginning again if the agents look at their numbers or at a clock, or aren't alike.
+   * @template Report
+   * @param {(search: Search) => Report} report what is made of it
    * @param {(states: number) => boolean} [isLate]
-   * @returns {Search}
+   * @returns {Report}
    */
-  search(isLate) {
+  search(report, isLate) {
     for (;;) {
       try {
-        return this.#search(isLate);
+        return report(this.#search(isLate));
       } catch (why) {
-        if (why instanceof LooksAtNumber) this.isShared = false;
-        else if (why instanceof LooksAtClock) this.hasClock = true;
-        else if (why instanceof KeepsClock) this.keptClock = why.line;
-        else throw why;
-        this.learner = this.#newLearner();
+        this.#beginAgain(why);
       }
     }
   }
 
+  /** @param {unknown} why the search ended before its end */
+  #beginAgain(why) {
+    if (why instanceof AreUnlike) {
+      this.unlike.add(why);
+      return;
+    }
+    if (why instanceof LooksAtNumber) this.isShared = false;
+    else if (why instanceof LooksAtClock) this.hasClock = true;
+    else if (why instanceof KeepsClock) this.kept = why.kept;
+    else throw why;
+    this.learner = this.#newLearner();
+  }
+
   /** @param {(states: number) => boolean} [isLate] */
   #search(isLate) {
-    const { bases, initial, learner, plan, wanted: { limit, timeouts } } = this;
+    const { bases, initial, isShared, learner, plan, wanted: { limit, timeouts } } = this;
     // What an agent writes before its first call is seen by later ones.
     const bytes = Uint8Array.from(initial);
-    const agents = plan.canBlock.map((canBlock, agent) => ({ canBlock, root: learner.root(agent, bytes) }));
+    const joined = new JoinedAutomata(learner, isShared ? [...plan.canBlock.keys()] : this.unlike.leaders());
+    this.joined = joined;
+    const roots = joined.roots(bytes);
+    const agents = plan.canBlock.map((canBlock, agent) => ({ canBlock, root: roots[agent] }));
     this.object = this.code.isObject ? this.monitored() : undefined;
     this.program = {
       lengths: plan.buffers, bases, initial, agents, nodes: learner.nodes, mayLack: false,
-      learn: (node, answer, found) => learner.learn(node, answer, found), operations: this.object?.operations,
+      learn: (node, answer, found) => joined.learn(node, answer, found), operations: this.object?.operations,
     };
     const search = new Search(this.program, { timeouts, limit, isLate });
     search.run();

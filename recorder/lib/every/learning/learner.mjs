@@ -22,7 +22,7 @@ import { namesRewritten, thrownText } from "./thrown.mjs";
 /** The agents look at their numbers, so each has an automaton of its own. */
 export class LooksAtNumber extends Error {}
 
-/** They look at a clock, so what time it is for them is a part of their state. */
+/** They look at a clock, or make draws that are never equal: how far their own clocks are is a part of their state. */
 export class LooksAtClock extends Error {}
 
 /** After so many accesses between two calls each read is compared with the ones before. */
@@ -89,7 +89,7 @@ export class Learner {
     /** @type {number[]} by the numbers of nodes their places, as far as these are known */
     this.places = [];
     this.looksAtNumber = false;
-    /** Whether what time it is for an agent is a part of its state. */
+    /** Whether how far an agent's own clock is is a part of its state. */
     this.hasClock = false;
     /** Which agent runs now. */
     this.agent = 0;
@@ -183,6 +183,7 @@ export class Learner {
     const fn = this.agentNow();
     this.runs += 1;
     this.agent = agent;
+    asker.agentNumber = this.number;
     const { count, args } = agents;
     const given = { buffers: [...asker.buffers], agent, agents: count, args: [...args], ...this.choices };
     if (agents.isShared) putNumber(given, this.number, this.changesNumber);
@@ -244,10 +245,10 @@ export class Learner {
    */
   keyOf(automaton, asked) {
     if (this.key === undefined) return undefined;
-    const { clock, start, unshown } = this.asker;
+    const { clock, unshown } = this.asker;
     try {
       if (unshown !== undefined) throw new CantShow(unshown);
-      return `${automaton} ${this.hasClock ? clock.time - start : ""} ${this.key(asked)}`;
+      return `${automaton} ${this.hasClock ? clock.sinceStart() : ""} ${this.key(asked)}`;
     } catch (why) {
       if (!(why instanceof CantShow)) throw this.#failed(why);
       const known = this.hidden.get(why.message);

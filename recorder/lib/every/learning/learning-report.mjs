@@ -45,8 +45,10 @@ export function learningReportOf(learned, search) {
   const kinds = new Kinds(search).find();
   const findings = new Findings(learned, search, kinds).all();
   const positions = new Positions(program);
-  const all = learned.object === undefined ? positions : new Positions(program, true);
-  const edges = edgesOf(all);
+  // What each agent does is learned again, also if several go by one automaton.
+  const roots = learner.roots.map((root) => ({ root: /** @type {Node} */ (root) }));
+  const own = new Positions({ agents: roots }, learned.object !== undefined);
+  const edges = edgesOf(own);
   const named = {
     position: (/** @type {Node} */ node) => positions.of(node),
     blocksOf: (/** @type {number} */ memory) => blocksIn(search.world, memory),
@@ -54,22 +56,21 @@ export function learningReportOf(learned, search) {
   return {
     isClosed: search.isClosed, bound: search.bound, isShared, plan, hasLikes: search.world.hasLikes,
     each: learned.object === undefined ? undefined : code.each,
-    neverEnds: kinds.neverEnds, keptClock: learned.keptClock,
-    drawsRandom: positions.nodes.flat().some(isRandom),
+    neverEnds: kinds.neverEnds, kept: learned.kept, drawn: drawnIn(positions),
     /** All schedules up to so many acts were tried. */
     depth: search.isClosed ? undefined : search.depths.items[search.expanded],
     result: resultOf(search, kinds, named),
     file: fileOf(program, positions),
     findings,
-    counts: countsOf(all),
+    counts: countsOf(own),
     object: objectDataOf(learned, kinds),
     edges,
     ways: new NodeWays(edges).counts(),
-    nodes: all.nodes.flat().map(dataOf),
+    nodes: own.nodes.flat().map(dataOf),
     hidden: [...learner.hidden].map(([why, kind]) => ({ why, ...kind })).sort((one, other) => other.nodes - one.nodes),
     runs: learner.runs, renewals: code.renewals,
     changesBuiltins: code.builtins.haveChanged(),
-    widest: widestOf(learned, positions),
+    widest: widestOf(learned, own),
   };
 }
 
@@ -96,8 +97,11 @@ function countsOf({ nodes }) {
   };
 }
 
-/** @param {Node} node @returns {boolean} whether it draws a random number */
-const isRandom = ({ does, limit }) => isChoice({ does }) && kindOfAsked(/** @type {number} */ (limit)) === "random";
+/** @param {Positions} positions @returns {{ numbers: boolean, unique: boolean }} what agents draw */
+function drawnIn({ nodes }) {
+  const kinds = new Set(nodes.flat().filter(isChoice).map(({ limit }) => kindOfAsked(/** @type {number} */ (limit))));
+  return { numbers: kinds.has("random"), unique: kinds.has("unique") || kinds.has("lasting unique") };
+}
 
 /** @param {Node} node @returns {NodeData} */
 const dataOf = ({ edges: _edges, automaton: _automaton, ...asked }) => asked;

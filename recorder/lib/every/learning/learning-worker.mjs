@@ -58,11 +58,10 @@ function reported(given) {
   code = loadCode(given.module, asker, platform, given.flaw);
   const learned = new Learned(code, asker, given);
   const until = now() + 1_000 * given.within;
-  const search = learned.search((states) => {
+  return learned.search((search) => learningReportOf(learned, search), (states) => {
     words[PROGRESS.STATES] = states;
     return now() > until;
   });
-  return learningReportOf(learned, search);
 }
 
 /** @param {any} problem @returns {object} what is said about it */

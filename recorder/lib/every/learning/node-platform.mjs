@@ -12,7 +12,7 @@ import {
 import { methodOf, replace, replaceEach } from "../../agent/ordinary/patch.mjs";
 import { checksSelf } from "./engine-writes.mjs";
 import { utilMakers } from "./util-makers.mjs";
-import { HARMLESS_GLOBALS, LANGUAGE, OF_MODULES, OF_PROCESS, SAYS } from "./platform-names.mjs";
+import { HARMLESS_GLOBALS, LANGUAGE, OF_MODULES, OF_PROCESS, OF_WEB_CRYPTO, SAYS } from "./platform-names.mjs";
 import { StandIns } from "./stand-ins.mjs";
 
 /** @typedef {import("./stand-ins.mjs").TakenMembers} TakenMembers */
@@ -58,8 +58,11 @@ export class NodePlatform {
     const { performance: clock } = realm;
     const once = taken(["now", "timeOrigin"]);
     this.performance = this.standIns.object(clock, "performance", once);
+    this.crypto = this.standIns.object(realm.crypto, "crypto", taken(OF_WEB_CRYPTO));
     /** @type {Record<string, object>} */
-    const own = { console: this.console, performance: this.performance, process: this.process };
+    const own = {
+      console: this.console, crypto: this.crypto, performance: this.performance, process: this.process,
+    };
     const known = new Set(LANGUAGE);
     for (const name of Object.getOwnPropertyNames(globalThis)) {
       if (known.has(name)) continue;
@@ -232,6 +235,7 @@ export class NodePlatform {
   /** @param {string} name of a module @returns {Record<string, unknown>} what is in the place of some of its members */
   #given(name) {
     if (name === "perf_hooks") return { performance: this.performance };
+    if (name === "crypto") return { webcrypto: this.crypto };
     // A thread that was handed nothing has null.
     if (name === "worker_threads") return { workerData: null };
     return name === "util" ? utilMakers(this.refuse) : {};

@@ -31,9 +31,13 @@ export const SAYS = [
   "info", "log", "table", "time", "timeEnd", "timeLog", "timeStamp", "trace", "warn",
 ];
 
-/** What of `crypto` is computed from what it is given. Random numbers refuse by themselves. */
+/** What of `globalThis.crypto` draws random bytes. */
+export const OF_WEB_CRYPTO = ["getRandomValues", "randomUUID"];
+
+/** What of `crypto` is computed from what it is given, or draws random numbers. */
 const OF_CRYPTO = [
-  "Hash", "Hmac", "constants", "createHash", "createHmac", "getCiphers", "getCurves", "getHashes", "hash", "hkdfSync",
+  "Hash", "Hmac", "constants", "createHash", "createHmac", "getCiphers", "getCurves", "getHashes", "getRandomValues",
+  "hash", "hkdfSync",
   "pbkdf2Sync", "randomBytes", "randomFillSync", "randomInt", "randomUUID", "randomUUIDv7", "scryptSync",
   "timingSafeEqual",
 ];

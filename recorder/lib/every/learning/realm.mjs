@@ -1,5 +1,4 @@
-// The world of an agent that is learned: `Atomics` and arrays that ask, clocks and chance that are refused, and no
-// output.
+// The world of an agent that is learned: `Atomics`, arrays, clocks and chance that ask, and no output.
 
 import { syncBuiltinESMExports } from "node:module";
 import { types } from "node:util";
@@ -33,9 +32,11 @@ export function installRealm(asker) {
   /** @param {string} what @returns {never} */
   const refuse = (what) => asker.refuse(what);
   simulateTime((isPlain) => (isRecording() ? asker.look(isPlain) : 0));
-  const draw = (/** @type {number} */ count, /** @type {string | undefined} */ what) =>
-    (isRecording() ? asker.choose(askedOf("random", count), what) : refuse("it asks for a random number"));
-  simulateChance(new LearnedChance(draw, () => refuse("it asks for random bytes")));
+  const needRecording = () => isRecording() || refuse("it asks for a random number");
+  simulateChance(new LearnedChance({
+    choose: (count, what) => needRecording() && asker.choose(askedOf("random", count), what),
+    draw: (what) => needRecording() && asker.draw(what),
+  }, () => refuse("it draws random bytes into shared memory")));
   watchOrdinary({
     blockOf: (buffer) => asker.buffers.indexOf(/** @type {any} */ (buffer)),
     seen: (place, from, to, writes) => {
@@ -83,13 +84,18 @@ export function installShown() {
   syncBuiltinESMExports();
 }
 
-/** Stands for a row of random numbers: bytes are refused. */
+/** Draws by choice. Shared bytes are refused: they are written before it is known what is drawn. */
 class LearnedChance extends ChosenChance {
-  /** @param {ChosenChance["choose"]} choose @param {() => never} refuse */
-  constructor(choose, refuse) {
-    super(choose);
-    this.fill = refuse;
-    this.random = /** @type {any} */ ({ next: refuse });
+  /** @param {import("../../agent/chosen-chance.mjs").ChanceChoices} choices @param {() => never} refuse */
+  constructor(choices, refuse) {
+    super(choices);
+    this.refuse = refuse;
+  }
+
+  /** @override @param {Uint8Array} bytes @param {import("../../agent/time.mjs").RandomElements} elements */
+  fill(bytes, elements) {
+    if (types.isSharedArrayBuffer(bytes.buffer)) this.refuse();
+    super.fill(bytes, elements);
   }
 }
 

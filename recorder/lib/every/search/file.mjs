@@ -37,7 +37,10 @@ export function basesOf(lengths) {
 
 /** The nodes in use, each at its position in its automaton. */
 export class Positions {
-  /** @param {Program} program @param {boolean} [hasMarks] whether marks are among them: no file has any */
+  /**
+   * @param {{ agents: { root: Node }[] }} program
+   * @param {boolean} [hasMarks] whether marks are among them: no file has any
+   */
   constructor({ agents }, hasMarks = false) {
     /** @type {Node[]} the first node of each automaton, by their positions in the file */
     this.roots = [...new Set(agents.map(({ root }) => root))];

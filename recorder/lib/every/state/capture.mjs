@@ -23,6 +23,9 @@ const CHOOSING = new URL("../../agent/choosing.mjs", import.meta.url).href;
 const CHANCE = new URL("../../agent/chosen-chance.mjs", import.meta.url).href;
 const MARKS = new URL("../../objects/operation-marks.mjs", import.meta.url).href;
 const TIME = new URL("../../agent/time.mjs", import.meta.url).href;
+/** What a look at a clock or a draw of random bytes goes through: none has anything to do behind it. */
+const OF_LOOKS = [TIME, ...["agent/ordinary/guards", "agent/ordinary/patch", "every/learning/realm"].map((name) =>
+  new URL(`../../${name}.mjs`, import.meta.url).href)];
 const LEARNING = new URL("../learning/", import.meta.url).href;
 const PRELUDE = new URL("./prelude.mjs", import.meta.url).href;
 const STATE = new URL("./", import.meta.url).href;
@@ -239,10 +242,10 @@ function needsDirect(frames) {
   const at = frames.findIndex((site) => !isOfRecorder(fileOf(site)));
   const rest = frames.slice(at + 1);
   if (fileOf(frames[at]) === ATOMICS && rest.length === 0) return OF_ATOMICS;
-  const isOfTool = (/** @type {NodeJS.CallSite} */ site) => fileOf(site) === TIME;
+  const isOfLook = (/** @type {NodeJS.CallSite} */ site) => OF_LOOKS.includes(fileOf(site));
   const isOfClient = fileOf(frames[at]) === CHOOSING || fileOf(frames[at]) === MARKS;
   if (isOfClient && rest.length === 0) return OF_CHOICES;
-  if ((isOfTool(frames[at]) || fileOf(frames[at]) === CHANCE) && rest.every(isOfTool)) return OF_CHOICES;
+  if ((fileOf(frames[at]) === TIME || fileOf(frames[at]) === CHANCE) && rest.every(isOfLook)) return OF_CHOICES;
   const isElement = fileOf(frames[at]) === ELEMENTS && /\bget$/.test(frames[at].getFunctionName() ?? "");
   const isStep = rest.every((site) => fileOf(site) === ITERATORS);
   if (isElement && isStep) return rest.length > 0 ? OF_ITERATORS : undefined;
