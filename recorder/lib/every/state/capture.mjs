@@ -4,6 +4,7 @@
 import { framesHere } from "../../agent/frames.mjs";
 import { mapGet, mapSet, stringify } from "../../primordials.mjs";
 import { NodeSettings } from "./node-settings.mjs";
+import { PRELUDE } from "./installed-loops.mjs";
 import { readingIterators } from "./shown-iterators.mjs";
 import { isStepOfOthers } from "./loop-steps.mjs";
 import { CantShow } from "./object-kinds.mjs";
@@ -23,7 +24,6 @@ const CHOOSING = new URL("../../agent/choosing.mjs", import.meta.url).href;
 const CHANCE = new URL("../../agent/chosen-chance.mjs", import.meta.url).href;
 const TIME = new URL("../../agent/time.mjs", import.meta.url).href;
 const LEARNING = new URL("../learning/", import.meta.url).href;
-const PRELUDE = new URL("./prelude.mjs", import.meta.url).href;
 const STATE = new URL("./", import.meta.url).href;
 const ITERATORS = new URL("./shown-iterators.mjs", import.meta.url).href;
 
@@ -104,7 +104,7 @@ export class Capture {
 
   /** @param {string} file @returns {boolean} whether it is of the agents: a line of the prelude says nothing to them */
   #isOfAgents(file) {
-    return this.texts.has(file) && file !== PRELUDE;
+    return this.texts.has(file) && !PRELUDE.includes(file);
   }
 
   /** @param {NodeJS.CallSite | undefined} site at which an agent asks for something */
