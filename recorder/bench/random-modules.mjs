@@ -8,11 +8,18 @@ const HELPERS = `class Word {
   #words; #at;
   constructor(words, at = 0) { this.#words = words; this.#at = at; }
   get value() { return Atomics.load(this.#words, this.#at); }
+  set value(k) { Atomics.store(this.#words, this.#at, k & 7); }
   bump(k = 1) { return Atomics.add(this.#words, this.#at, k); }
   take() { return Atomics.compareExchange(this.#words, this.#at, 0, 1) === 0 ? 1 : 0; }
 }
 class Base { constructor(k) { this.k = k; } value() { return this.k; } }
 class Sub extends Base { constructor(k, z = 1) { super(k); this.z = z; } value() { return super.value() + this.z; } }
+class Steps {
+  constructor(words, left = 2) { this.words = words; this.left = left; }
+  [Symbol.iterator]() { return this; }
+  next() { this.left -= 1; return this.left < 0 ? { done: true } : { value: Atomics.load(this.words, this.left) }; }
+  return() { this.left = -1; return {}; }
+}
 const depth = (n, f) => (n <= 0 ? f() : depth(n - 1, f) + 1);
 const twice = (f, x) => f?.(f(x) & 3);`;
 
@@ -28,6 +35,9 @@ const CALLS = [
   (one) => `(Atomics.wait(words, ${one.word()}, ${one.below(2)}, 10) === "timed-out" ? 1 : 0)`,
   (one) => `Atomics.notify(words, ${one.word()}${one.of(["", ", 1", ", 0"])})`,
   (one) => `new Word(words, ${one.word()}).${one.of(["value", "bump()", "bump(2)", "take()"])}`,
+  (one) => `(new Word(words, ${one.word()}).value${one.of(["++", "--", ` = ${one.below(4)}`])})`,
+  (one) => `(({ value, k = value }) => k)(new Word(words, ${one.word()}))`,
+  (one) => `new Set(new Steps(words, ${1 + one.below(2)})).size`,
   () => "Number(Atomics.add(wide, 2, 1n))", () => "Atomics.add(bytes, 11, 1)",
   (one) => `Atomics.sub(words, ${one.word()}, 1)`,
 ];
@@ -46,6 +56,9 @@ const EXPRESSIONS = [
   (one, depth) => `[${one.below(3)}, 1].map((y) => (y + ${one.expression(depth)}) & 7)[0]`,
   (one, depth) => `[${one.below(2)}, 1].reduce((s, y) => (s + y + ${one.expression(depth)}) & 7, ${one.name()})`,
   (one, depth) => `((a, b = ${one.name()}) => (a * 2 + b) & 7)(${one.expression(depth)})`,
+  (one, depth) => `((a = ${one.expression(depth)}, b = ${one.expression(depth)}, c = a) => (a * 2 + b + c) & 7)`
+    + `(${one.of(["", one.name(), `undefined, ${one.name()}`])})`,
+  (one, depth) => `"ab".replace(/[ab]/g, (c, at) => (at + ${one.expression(depth)}) & 3).length`,
   (one, depth) => `new Sub(${one.expression(depth)}).value()`,
   (one, depth) => `Math.max(${one.expression(depth)}, ...[${one.expression(depth)}])`,
   (one, depth) => `(${one.name()}, ${one.expression(depth)})`,
@@ -63,7 +76,7 @@ const STATEMENTS = [
   (one, depth) => `try { ${one.leaving()} ${one.inner(depth)} } finally ${one.unleft(depth)}`,
   (one, depth) => `try { ${one.leaving()} ${one.inner(depth)} } catch ${one.block(depth)} `
     + `finally ${one.unleft(depth)}`,
-  (one, depth) => one.closure(depth),
+  (one, depth) => one.closure(depth), (one) => one.elements(),
   (one, depth) => `switch (${one.expression(1)}) { case 1: ${one.block(depth)} case 2: ${one.block(depth)} break; `
     + `default: ${one.block(depth)} }`,
   (one) => `Atomics.store(words, ${one.word()}, ${one.below(3)}); Atomics.notify(words, ${one.word()});`,
@@ -191,6 +204,14 @@ class Part {
   leaving() {
     const ways = ["throw 1;", `throw new Error("t");`, `return ${this.name()};`];
     return `if (${this.condition(1)}) ${this.of(this.isInLoop ? [...ways, "continue;", "break;"] : ways)}`;
+  }
+
+  /** @returns {string} names that get what is gone through */
+  elements() {
+    const name = this.newName("e");
+    const text = `const [${name}, ${this.of(["", "..."])}more${name}] = new Steps(words, ${1 + this.below(3)});`;
+    this.readable.push(`(${name} | 0)`);
+    return text;
   }
 
   /** @param {number} depth */

@@ -3,11 +3,10 @@
 
 import util from "node:util";
 import { parentPort, workerData } from "node:worker_threads";
-import { AgentModules } from "../../lib/every/learning/agent-modules.mjs";
 import { NodePlatform } from "../../lib/every/learning/node-platform.mjs";
+import { madePrelude } from "../../lib/every/learning/prelude-modules.mjs";
 import { Runtime } from "../../lib/every/state/runtime.mjs";
 
-const PRELUDE = new URL("../../lib/every/state/prelude.mjs", import.meta.url).href;
 const TypedArray = Object.getPrototypeOf(Int8Array);
 const PLATFORM = new NodePlatform((what) => {
   throw new Error(what);
@@ -183,13 +182,45 @@ function* sortsCompared({ sort, toSorted }) {
   }
 }
 
-const graph = new AgentModules(PLATFORM);
-graph.take(PRELUDE);
-const { arrayLoops, typedLoops, mapLoops, setLoops, arrayMakers } = /** @type {any} */ (
-  graph.made(new Runtime().calls).get(PRELUDE));
+/** What is looked for in a text. @type {any[]} */
+const PATTERNS = [
+  "b", "", "ab", /a/g, /b(c)?/, /(?<x>[ab])(?<y>c)?/g, /$/g, /^/gm, /(?:)/gu, /[^c]/gy, /c/y, /\u{1f600}/gu, null, 5,
+  { toString: () => "a" }, { [Symbol.replace]: () => "own" },
+];
+
+/** @param {Function} replaces @param {number} seed @returns {string} what it calls with, and returns */
+function replacedBy(replaces, seed) {
+  const one = new Case(seed);
+  const text = one.one(["", "a", "abcab", "aab\u{1f600}c\nb", new String("ab"), 5, null]);
+  const pattern = one.one(PATTERNS);
+  if (pattern instanceof RegExp) pattern.lastIndex = one.number(3);
+  const by = one.one([one.callback("self"), one.callback("self"), one.callback("self"), "-$&-", undefined]);
+  try {
+    one.say("returns", Reflect.apply(replaces, text, [pattern, by]));
+  } catch (error) {
+    one.say("throws", error instanceof Error ? `${error.name}: ${error.message}` : error);
+  }
+  one.say("left", pattern?.lastIndex);
+  return one.said.join("\n");
+}
+
+/** @param {Record<string, Function>} calls @param {number} count @yields {string} what they do otherwise */
+function* replacesCompared(calls, count) {
+  for (const [name, replaces] of Object.entries(calls)) {
+    for (let seed = 1; seed <= count; seed += 1) {
+      const [mine, others] = [replaces, /** @type {any} */ (String.prototype)[name]].map((one) =>
+        replacedBy(one, seed * 104729));
+      if (mine !== others) yield `${name}, ${seed}:\n${mine}\n--- the engine:\n${others}`;
+    }
+  }
+}
+
+const { prelude } = madePrelude(PLATFORM, new Runtime());
+const { arrayLoops, typedLoops, mapLoops, setLoops, arrayMakers, stringCalls } = prelude;
 const { count } = workerData;
 parentPort?.postMessage([
   ...compared(arrayLoops, Array.prototype, count), ...compared(typedLoops, TypedArray.prototype, count),
   ...compared(mapLoops, Map.prototype, count), ...compared(setLoops, Set.prototype, count),
   ...compared(arrayMakers, Array, count), ...sortsCompared(arrayLoops),
+  ...replacesCompared(stringCalls, count),
 ]);

@@ -4,11 +4,10 @@ import util from "node:util";
 import { parentPort, workerData } from "node:worker_threads";
 import { AgentModules } from "../../lib/every/learning/agent-modules.mjs";
 import { NodePlatform } from "../../lib/every/learning/node-platform.mjs";
+import { madePrelude } from "../../lib/every/learning/prelude-modules.mjs";
 import { beginInstalled } from "../../lib/every/state/installed.mjs";
-import { knownSteps, ownSteps, takeStep } from "../../lib/every/state/loop-steps.mjs";
 import { Runtime } from "../../lib/every/state/runtime.mjs";
 
-const PRELUDE = new URL("../../lib/every/state/prelude.mjs", import.meta.url).href;
 const PLATFORM = new NodePlatform((what) => {
   throw new Error(what);
 });
@@ -36,12 +35,7 @@ function saidBy(exported) {
 function rewrittenExports(url) {
   const runtime = new Runtime();
   runtime.installed = beginInstalled();
-  const own = new AgentModules(PLATFORM);
-  own.take(PRELUDE);
-  const { elementsOf, iterable, othersSteps, takeSteps } = /** @type {any} */ (own.made(runtime.calls).get(PRELUDE));
-  takeStep(othersSteps.next);
-  takeSteps(knownSteps, ownSteps);
-  Object.assign(runtime.calls, { elementsOf, iterable });
+  madePrelude(PLATFORM, runtime);
   const graph = new AgentModules(PLATFORM);
   graph.take(url, true);
   return graph.made(runtime.calls).get(url) ?? {};

@@ -64,8 +64,11 @@ test("an agent that asks what its number is as a property looks at it", async (c
     "given.__lookupSetter__('agent') ?? given.agent",
     "Object.defineProperty(given, 'agent', { enumerable: true }).agent",
     "Object.defineProperties(given, { agent: {} }).agent", "Reflect.defineProperty(given, 'agent', {}) && given.agent",
+    "+/agent: (\\d)/.exec(util.inspect(given, { depth: 0 }))[1]",
+    "+/agent: (\\d)/.exec(util.formatWithOptions({ depth: 0 }, given))[1]",
   ]) {
-    const module = moduleOf(context, `export const setup = { agents: 2, buffers: [8] };
+    const module = moduleOf(context, `import util from "node:util";
+export const setup = { agents: 2, buffers: [8] };
 export default (given) => {
   const number = ${number};
   Atomics.store(new Int32Array(given.buffers[0]), number, number + 1);

@@ -117,6 +117,75 @@ const WITHOUT_SEMICOLONS = {
 
 /** Bodies of functions that go by what a rewritten text could change. */
 const BODIES = {
+  "values of members that are assigned and updated": `
+    const o = { n: 1, get g() { return say(this.n); }, set g(v) { this.n = say(v) * 2; }, b: 5n, t: "7" };
+    const f = (k) => (say(k), o);
+    say(f(1).n = f(2).g = 3, o.n++, ++o.n, o.g--, --f(3).g, o.b++, --o.b, o.t++, o.missing++, o?.n);
+    const l = [1, 2]; let i = 0; say(l[i++]++, l[i]--, -l[i++]++, typeof ++l[0], l, i);
+    class P { #n = 1; m() { return this.#n++ + ++this.#n * 10; } k() { return (this.#n = 4) + this.#n; } }
+    const p = new P(); say(p.m(), p.k(), (o.q = () => 0).name, (o.r = class {}).name);
+    try { Object.freeze(o).n++; } catch (e) { say(e.message); }
+    try { say(o.n = say(9)); } catch (e) { say(e.message); }
+    try { say(undefined.x++); } catch (e) { say(e.message); }`,
+  "promises that are made, and what settles them": `
+    const ends = (p) => p.catch(() => {});
+    let r; const p = new Promise((resolve, reject) => { say(resolve.length, resolve.name, "prototype" in resolve,
+      resolve(1), reject(2), resolve === reject, typeof reject); r = resolve; return 7; });
+    say(p, r(3), p instanceof Promise, new Promise((resolve) => { resolve(p); resolve(2); }) === p);
+    let reads = 0; new Promise((resolve) => { resolve({ get then() { reads += 1; return undefined; } }); say(reads); });
+    ends(new Promise(() => { throw 5; })); ends(new Promise((_, reject) => { reject(say(4)); throw 5; }));
+    for (const bad of [undefined, 5, {}, [() => {}]]) try { new Promise(bad); } catch (e) { say(e.message); }
+    try { Promise(() => {}); } catch (e) { say(e.message); }
+    class Own extends Promise {} say(new Own((resolve) => resolve(2)).constructor.name);
+    say(new Promise(function () { say(this, arguments.length); }));`,
+  "sets and maps that are made of other things": `
+    const it = (...list) => ({ [Symbol.iterator]: () => ({ return: () => say("closed") && {},
+      next: () => list.length ? { value: list.shift() } : { done: true } }) });
+    say(new Set(it(1, 2, 1)), new Map(it([1, 2], [1, 3], { 0: 4, 1: 5 }, (a) => a)), new Set(), new Set(null),
+      new Set("aba"), new Map(new Map([[1, 2]])), new Set(new Set([3])), new Map([]), new Set([1, 1]));
+    for (const bad of [5, {}, it(1), it(null), { [Symbol.iterator]: 5 }, { [Symbol.iterator]: () => 5 }]) {
+      try { say(new Map(bad)); } catch (e) { say(e.message); }
+      try { say(new Set(bad)); } catch (e) { say(e.message); }
+    }
+    { class Set { constructor(x) { say(x); } } new Set(3); }`,
+  "what patterns take of other things": `
+    const it = (...list) => ({ [Symbol.iterator]: () => ({ return: () => say("closed") && {},
+      next: () => say("next") && list.length ? { value: list.shift() } : { done: true } }) });
+    { const [a] = it(1, 2); say(a); } { let [a, b, c] = it(1, 2); say(a, b, c); }
+    { const [a, ...b] = it(1, 2, 3); say(a, b); }
+    { const [...a] = it(); say(a); } { var [d, e] = "\u{1f600}b"; say(d, e); } { const [a, b] = [1, 2]; say(a + b); }
+    { const list = [1, 2]; const [a, ...b] = list; say(a, b); } { const [a] = new Set([3]); say(a); }
+    { const [[a, b]] = new Map([[4, 5]]); say(a, b); } { const [a, b] = it(1, 2, 3); const f = () => a + b; say(f()); }
+    { class L extends Array { *[Symbol.iterator]() { yield 7; } } const l = L.of(1); const [a] = l; say(a); }
+    for (const bad of [null, undefined, 5, {}]) try { const [a] = bad; say(a); } catch (e) { say(e.name); }`,
+  "parameters with defaults and patterns": `
+    const f = (a, /* , */ b = say(a), c = () => a + b, ...[]) => [a, b, c()];
+    const g = (a, { b, c: d = say(b) }, e) => [a, b, d, e];
+    const h = ({ a } = say({ a: 4 }), /* ) */
+      b, // , )
+      ...rest /* , */) => ({ a, b, rest }), k = async ({ then = say(1) }) => { say(then); };
+    say(f(1), f(1, 2), g(1, { b: 2 }), h(), h({ a: 1 }, 2, 3), k({}), k({ then: 2 }));
+    function m(a = say(arguments.length), b = (() => this)(), c = (x = a) => x) { var v = 1; let w = b; say(v, w); return c(); }
+    say(m(), m.call(5, undefined), [f, g, h, k, m].map((one) => [one.length, one.name]));
+    class P { #n = 2; constructor({ n = say(3) } = {}, k = new.target.name) { this.n = n; say(k); }
+      m(k = this.#n, l = super.toString === ({}).toString,) { return [k, l]; }
+      static s(k = say(this.name)) { return k; } set v({ a, ...b }) { say(a, b); }
+      async *[say("y")](a = say(6)) { yield a; } }
+    class Q extends P { constructor(k = say(7), ...l) { super(...l); this.k = k; } }
+    say(new P().m(), new P({ n: 1 }, 2).m(5), P.s(), new Q(), new Q(1, { n: 2 }));
+    new P().v = { a: 1, b: 2 };
+    const x = 1; const q = (a = () => x) => { { const x = 2; say(x); } function r() { return a(); } return r(); };
+    say(q(), ((a = b, b) => a)(1), ((a = () => b, b = 4) => a())(), ((a = (b = say(8)) => b) => a())());
+    const u = (a = () => v) => { var v = 1; return a; }, t = (a = say(1)) => { var a = a + 1; return a; }, v = 9;
+    say(u()(), t());
+    for (const bad of [null, undefined, 5, "s"]) {
+      for (const one of [({ a }) => a, ({ a: { b } }) => b, ({}) => 1, ({ ...r }) => r, ({ [say("k")]: a }) => a,
+        ({ a = 2 }) => a, ({ a } = {}) => a, ({ "x y": a }, b = say(2)) => a, function ({ a: z }) { return z; }]) {
+        try { say(one(bad)); } catch (e) { say(e.message); }
+      }
+    }
+    try { ((a = b, b = 1) => a)(); } catch (e) { say(e.message); }
+    try { ((a = say(1), b = a.b.c) => b)(); } catch (e) { say(e.message); }`,
   "names of functions that are assigned": `
     let x = () => 0, y; y = function () {}; var z = async () => 1; const g = function* () {}, c = class {};
     let q; q ??= () => 0; let r; r ||= (() => 1); const o = {}; o.m = () => 0; x = (0, () => 0);

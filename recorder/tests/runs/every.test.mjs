@@ -130,6 +130,7 @@ test("what can't be learned is refused, with its line", async (context) => {
     [LOADS("const { constructor: R } = /a/; R.$1;"), /a regular expression has found last, at agents\.mjs:5:37$/],
     [LOADS("String(agent);"), /it reads the text of a function, at agents\.mjs:5:\d+$/],
     [LOADS("performance.mark('a');"), /it uses `performance\.mark`, at agents\.mjs:5:15$/],
+    [LOADS("let n = 1;\n  if (self <!--n) return;"), /agents\.mjs:6:7: `<!--`, which no module may have$/],
     [LOADS("{ using one = null; }"), /agents\.mjs:5:5: `using`$/],
     [LOADS("buffers[0].kept = 1;"), /gives the object of a buffer a property or another prototype$/],
     [LOADS(OTHER_NEXT), /it changes `arrayIterator`, an object of the language or of node, at agents\.mjs:5:3$/],

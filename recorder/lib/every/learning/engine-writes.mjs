@@ -30,11 +30,12 @@ const OF_FIRST = [
 
 /**
  * Methods that change what they are called on.
- * @type {[object, string[]][]}
+ * @type {[object, (string | symbol)[]][]}
  */
 const OF_SELF = [
   [Array.prototype, ["copyWithin", "fill", "pop", "push", "reverse", "shift", "sort", "splice", "unshift"]],
   [Object.prototype, ["__defineGetter__", "__defineSetter__"]],
+  [RegExp.prototype, [Symbol.search]],
 ];
 
 /** Methods of arrays that change what they return, which a constructor of the agents' own may have made. */

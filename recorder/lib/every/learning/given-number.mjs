@@ -10,12 +10,16 @@ const add = uncurried(WeakSet.prototype.add);
 const has = uncurried(WeakSet.prototype.has);
 const { isFrozen } = Object;
 
+/** @type {object | undefined} what was given to an agent last, with a number that it may look at */
+let lastGiven;
+
 /**
  * @param {object} given what an agent gets
  * @param {() => number} get notices that it is looked at, and returns it
  * @param {() => void} set notices that it gets another value
  */
 export function putNumber(given, get, set) {
+  lastGiven = given;
   for (const one of [get, set]) add(noticing, one);
   defineProperty(given, "agent", { get, set, enumerable: true, configurable: true });
 }
@@ -63,6 +67,13 @@ const ofAccessor = (engine) => methodOf((self, given) => {
   const found = apply(engine, self, given);
   return isObject(found) && has(noticing, found) ? undefined : found;
 }, engine);
+
+/** A text is made of objects: it may have the number. */
+export function showNumberInText() {
+  const found = lastGiven && getOwnPropertyDescriptor(lastGiven, "agent");
+  const shown = inRun(lastGiven, found);
+  if (shown !== found && found?.configurable) defineProperty(/** @type {object} */ (lastGiven), "agent", { ...shown });
+}
 
 /** Lets agents find in the property what they find in a run. It is called once, before any of their code is loaded. */
 export function showNumber() {

@@ -17,10 +17,10 @@ import { keyOf } from "./asked-nodes.mjs";
 import { AgentModules } from "./agent-modules.mjs";
 import { hadOtherNext } from "./iterators.mjs";
 import { PART } from "./learning-progress.mjs";
+import { madePrelude } from "./prelude-modules.mjs";
 
 const REPLACES_NEXT =
   "--all can't learn what the agents do: a module replaces the `next` of all iterators of arrays";
-const PRELUDE = new URL("../state/prelude.mjs", import.meta.url).href;
 const CLIENT = new URL("../../objects/object-client.mjs", import.meta.url).href;
 
 /** @typedef {import("./asked-nodes.mjs").AskedNode} AskedNode */
@@ -203,11 +203,9 @@ export class LearnedCode {
 export function loadCode(url, asker, platform, flaw) {
   guardOwn(undefined);
   const runtime = new Runtime();
-  const own = new AgentModules(platform);
   removeLoops();
-  own.take(PRELUDE);
-  const prelude = /** @type {any} */ (own.made(runtime.calls).get(PRELUDE));
-  installLoops(prelude, runtime.calls);
+  const { prelude, texts: own } = madePrelude(platform, runtime);
+  installLoops(prelude);
   const graph = new AgentModules(platform);
   graph.take(url, true);
   const builtins = new NamedBuiltins();
@@ -221,7 +219,7 @@ export function loadCode(url, asker, platform, flaw) {
   });
   knowFirstPrototypes(builtins);
   runtime.installed = beginInstalled();
-  const texts = new Map([...own.texts, ...graph.texts]);
+  const texts = new Map([...own, ...graph.texts]);
   const capture = new Capture(runtime, builtins, texts, () => asker.buffers, flaw);
   asker.lineHere = capture.line.bind(capture);
   return new LearnedCode(url, asker, graph, runtime, builtins, capture);

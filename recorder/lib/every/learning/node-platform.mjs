@@ -133,6 +133,8 @@ export class NodePlatform {
     for (const [owner, name, keys] of closed) {
       standIns.members(owner, name, new Set(ownKeys(owner).filter((key) => !keys.includes(String(key)))));
     }
+    replace(Event.prototype, util.inspect.custom, (engine) => methodOf((self, given) =>
+      (given[0] < 0 ? apply(engine, self, given) : refuse("it shows the time of an event")), engine));
     replace(TextDecoder.prototype, "decode", (engine) => methodOf((self, given) => {
       // The decoder would keep what it has decoded in part.
       if (given[1]?.stream) refuse("it decodes a text in parts");

@@ -1,10 +1,12 @@
-// What stands for functions of `node:util` that make functions: what they make keeps nothing that isn't shown.
+// What stands for functions of `node:util`: the functions that some make keep nothing that isn't shown, and the texts
+// that others make are those of a run.
 
 import nodeProcess from "node:process";
 import nodeUtil from "node:util";
-import { methodOf, replace } from "../../agent/ordinary/patch.mjs";
-import { apply, defineProperty, getPrototypeOf, hasOwn, likeEngine } from "../../primordials.mjs";
+import { methodOf, replace, replaceEach } from "../../agent/ordinary/patch.mjs";
+import { apply, defineProperty, getPrototypeOf, hasOwn, isObject, likeEngine } from "../../primordials.mjs";
 import { noteMade } from "../state/bound-functions.mjs";
+import { showNumberInText } from "./given-number.mjs";
 
 /** @type {any} */
 const util = nodeUtil;
@@ -35,6 +37,12 @@ const promisifying = (engine) => methodOf((self, given) => {
   return isNoted ? noteMade(made, "promisify", given[0]) : made;
 }, engine);
 
+/** @param {Function} engine what makes a text of objects */
+const showing = (engine) => methodOf((self, given) => {
+  for (let at = 0; at < given.length; at += 1) if (isObject(given[at])) showNumberInText();
+  return apply(engine, self, given);
+}, engine);
+
 /**
  * @param {(what: string) => never} refuse
  * @returns {Record<string, Function>} by their names
@@ -47,7 +55,9 @@ export function utilMakers(refuse) {
   }, engineLog);
   const deprecate = likeEngine((/** @type {unknown[]} */ ...given) =>
     noteMade(apply(engineDeprecate, util, given), "deprecate", given[0]), engineDeprecate);
-  const stands = { debug: debuglog, debuglog, deprecate, promisify: util.promisify };
+  const { format, formatWithOptions, inspect, promisify } = util;
+  const stands = { debug: debuglog, debuglog, deprecate, format, formatWithOptions, inspect, promisify };
   replace(stands, "promisify", promisifying);
+  replaceEach(stands, ["format", "formatWithOptions", "inspect"], showing);
   return stands;
 }

@@ -4,7 +4,8 @@
 import { Refused } from "../../options/refused.mjs";
 import { Info, Scope, newId } from "./scopes.mjs";
 import { ownNameIn } from "./naming.mjs";
-import { givesMembers, hasExpressions, isMethod, runsCode } from "./tree.mjs";
+import { coreOf, declaredParameters } from "./parameters.mjs";
+import { givesElements, givesMembers, hasExpressions, isMethod, namesIn, runsCode } from "./tree.mjs";
 import { VISITS } from "./visits.mjs";
 
 /** @typedef {import("./tree.mjs").Tree} Tree */
@@ -40,6 +41,8 @@ export class Analysis {
     this.privateMethods = new Set();
     /** @type {Set<string>} the names of other private members */
     this.privateOthers = new Set();
+    /** @type {Map<Tree, Scope>} patterns that declare names, each with the scope in which it does */
+    this.declaring = new Map();
     /** Whether it has templates with tags, each with strings that are always the same object. */
     this.hasTags = false;
     /** @type {Tree[]} each `url` of `import.meta` */
@@ -133,7 +136,8 @@ export class Analysis {
     const info = new Info(newId(), tree, within);
     info.holder = holder;
     const own = this.newScope(tree, scope, info, "function");
-    own.visibleFrom = tree.body.start;
+    info.declared = declaredParameters(tree);
+    own.visibleFrom = (info.declared[0] ?? tree.body).start;
     this.infos.set(tree, info);
     this.own.set(tree, own);
     this.functions.push(info);
@@ -143,11 +147,18 @@ export class Analysis {
     for (const name of named) own.declare(name, "pseudo");
     for (const parameter of tree.params) own.declareAll(parameter, "param");
     const here = { scope: own, within: info };
-    for (const parameter of tree.params) this.visitPattern(parameter, here, true);
+    for (const parameter of tree.params) this.#visitParameter(parameter, here);
     if (tree.body.type === "BlockStatement") this.#visitBody(tree, here);
     else this.visit(tree.body, here);
     const { id, type } = tree;
     if (type === "FunctionExpression" && id && !own.names.has(id.name)) own.declare(id.name, "self");
+  }
+
+  /** @param {Tree} parameter @param {EnclosingScope} here */
+  #visitParameter(parameter, here) {
+    this.visitPattern(parameter, here, true);
+    const core = coreOf(parameter);
+    if (core.type !== "Identifier" && runsCode(core)) this.hidden.push([core.start, core.end]);
   }
 
   /**
@@ -157,7 +168,7 @@ export class Analysis {
    */
   #visitBody({ body, params }, { scope, within }) {
     let own = scope;
-    if (params.some(hasExpressions)) {
+    if (params.some(hasExpressions) || (within?.declared.length ?? 0) > 0) {
       own = this.newScope(body, scope, within, "block");
       this.own.set(body, own);
     }
@@ -259,6 +270,7 @@ export class Analysis {
 
   /** @param {Tree} tree @param {EnclosingScope} here */
   visitDeclarator(tree, here) {
+    this.declaring.set(tree.id, here.scope);
     this.visitPattern(tree.id, here, true);
     if (tree.id.type !== "Identifier" && runsCode(tree.id)) this.hidden.push([tree.id.start, tree.id.end]);
     this.visit(tree.init, here);
@@ -324,6 +336,16 @@ export class Analysis {
         this.needsNoMeta(pattern);
         this.visit(pattern, here);
     }
+  }
+
+  /**
+   * @param {Tree} pattern of a declaration
+   * @param {Tree | null} value
+   * @returns {boolean} whether it makes no difference if all that it names is taken first: no code can ask meanwhile
+   */
+  takesElements(pattern, value) {
+    const scope = this.declaring.get(pattern);
+    return givesElements(pattern, value) && namesIn(pattern).every((name) => scope?.find(name)?.isCaptured === false);
   }
 
   /** @param {Tree} tree that gets another value, or is deleted */

@@ -65,8 +65,9 @@ export class CallSites {
     if (info === undefined) return unknown("code at the top level of a module");
     if (info.makes && info.tree.type === "ClassBody" && offset === info.start + 1) return constructorOf(info);
     if (info.isHidden) return unknown("a generator, an async function, a constructor of a derived class or the like");
+    const begins = info.declared[0] ?? info.tree.body;
     // Its frame begins behind them.
-    if (isFunction(info.tree) && offset < info.tree.body.start) return unknown("a parameter that gets its value");
+    if (isFunction(info.tree) && offset < begins.start) return unknown("a parameter that gets its value");
     // A place around all of a function is one of the function outside.
     const isHidden = this.analysis.hidden.some(([from, to]) =>
       from <= offset && offset < to && !(from <= info.start && info.end <= to));

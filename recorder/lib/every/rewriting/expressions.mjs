@@ -73,6 +73,7 @@ export const EXPRESSIONS = {
     writer.write(argument, info);
   },
   NewExpression: (writer, tree, info) => {
+    if (writeNewOfEngine(writer, tree, info)) return;
     if (tree.arguments.some(runsCode)) keepCallee(writer, tree, info, "constructible");
     operands(({ arguments: given }) => given)(writer, tree, info);
     writer.write(tree.callee, info);
@@ -91,7 +92,8 @@ export const EXPRESSIONS = {
   AssignmentExpression: writeAssignment,
   UpdateExpression: writeUpdate,
   VariableDeclarator: (writer, { id, init }, info) => {
-    beginIterating(writer, id, init);
+    if (writer.analysis.takesElements(id, init)) takeElements(writer, id, init);
+    else beginIterating(writer, id, init);
     if (init !== null && givesMembers(id)) writer.within(init, `(${writer.room(info, id.start, id.end)} = (`, "))");
     writer.writeAll([id, init], info);
   },
@@ -220,13 +222,42 @@ function beginIterating(writer, pattern, value) {
   if (goesThrough(pattern, value)) writer.within(/** @type {Tree} */ (value), "$R.iterable((", "))");
 }
 
+/**
+ * What is gone through for a pattern is gone through before that: nothing would show how far the pattern is.
+ * @param {CodeWriter} writer
+ * @param {Tree} pattern
+ * @param {Tree} value
+ */
+function takeElements(writer, { elements }, value) {
+  const isOfRest = elements.at(-1).type === "RestElement";
+  writer.within(value, "$R.takenOf((", `), ${elements.length}, ${isOfRest})`);
+}
+
+/** What is called in place of `new` with a class of the engine and one value: the engine would call code of agents. */
+const MAKES = new Map([["Map", "madeMap"], ["Promise", "madePromise"], ["Set", "madeSet"]]);
+
+/**
+ * @param {CodeWriter} writer
+ * @param {Tree} tree
+ * @param {Info} info
+ * @returns {boolean} whether something else is called: then it was written
+ */
+function writeNewOfEngine(writer, { arguments: given, callee, start }, info) {
+  const makes = callee.type === "Identifier" && writer.isGlobal(callee) ? MAKES.get(callee.name) : undefined;
+  // Parentheses, or a comment, may stand between them.
+  const isPlain = /^new\s+\w+$/.test(writer.source.slice(start, callee.end));
+  if (makes === undefined || !isPlain || given.length !== 1 || given[0].type === "SpreadElement") return false;
+  writer.edits.replace(start, callee.end - start, `$R.${makes}`);
+  writer.writeAll(given, info);
+  return true;
+}
+
 const LOGICAL = new Set(["||=", "&&=", "??="]);
 
 /** @type {Write} */
 function writeAssignment(writer, tree, info) {
   const { left, right, operator } = tree;
-  // While a setter runs, the engine has what the whole is worth.
-  if (left.type === "MemberExpression" && !writer.analysis.unused.has(tree)) hide(writer, tree.start, right.start);
+  if (left.type === "MemberExpression" && !writer.analysis.unused.has(tree)) keepWorth(writer, tree, info);
   const binary = operator === "=" || LOGICAL.has(operator) ? undefined : operator.slice(0, -1);
   if (isPattern(left)) {
     // Else the whole is worth what there was, and no iterator.
@@ -243,6 +274,24 @@ function writeAssignment(writer, tree, info) {
   } else if (binary !== undefined && left.object.type !== "Super") writeChange(writer, tree, info, binary);
   else writeMemberAssignment(writer, tree, info);
 }
+
+/**
+ * While a setter runs, the engine has what the whole is worth: the frame has it instead, up to the end.
+ * @type {Write}
+ */
+function keepWorth(writer, { left, right, operator, start, end }, info) {
+  if (operator !== "=" || left.object.type === "Super") {
+    hide(writer, start, right.start);
+    return;
+  }
+  const room = writer.room(info, start, right.start);
+  writer.edits.before(start, "(");
+  writer.edits.after(end, `, ${takenFrom(room)})`);
+  writer.within(right, `(${room} = (`, "))");
+}
+
+/** @param {string} room in a frame @returns {string} what takes the value from there */
+const takenFrom = (room) => `$R.taken($f, ${room.slice("$f.t[".length, -1)})`;
 
 /**
  * Makes `a += b` be `a = a + (b)`: the engine would say of the sum that it is at the place of a call before it. What
@@ -323,6 +372,27 @@ function writeUpdate(writer, tree, info) {
     writer.edits.after(end, ")");
     return;
   }
-  if (!writer.analysis.unused.has(tree)) hide(writer, tree.start, tree.end);
-  keepMember(writer, tree.argument, info, tree.end);
+  const isUsed = !writer.analysis.unused.has(tree);
+  if (isUsed && argument.object.type !== "Super") writeUsedUpdate(writer, tree, info);
+  else {
+    if (isUsed) hide(writer, start, end);
+    keepMember(writer, argument, info, end);
+  }
+}
+
+/**
+ * `o[k]++` whose value is used: the frame has the value while a setter runs.
+ * @type {Write}
+ */
+function writeUsedUpdate(writer, { argument, operator, prefix, start, end }, info) {
+  const { edits, source } = writer;
+  const room = writer.room(info, start, end);
+  if (!prefix) edits.before(start, "(");
+  const member = keepMember(writer, argument, info, end);
+  const changes = operator === "++" ? "$R.more" : "$R.less";
+  const old = `$R.numeric(${member})`;
+  const worth = prefix ? `(${room} = ${changes}(${old}))` : `${changes}(${room} = ${old})`;
+  // It stands for the end of the member, so that a getter is known to be called there.
+  edits.replace(argument.end, 0, ` = ${worth}, ${takenFrom(room)})`, argument.end - 1);
+  edits.replace(prefix ? start : positionOutsideComments(source, operator, argument.end), 2, prefix ? "(" : "");
 }

@@ -1,5 +1,6 @@
 // Which names of a function it can still read itself after an expression was evaluated: backward over its tree.
 
+import { coreOf } from "./parameters.mjs";
 import { givesMembers, goesThrough, isFunction, isMethod, namesIn } from "./tree.mjs";
 
 /** @typedef {import("./tree.mjs").Tree} Tree */
@@ -299,9 +300,20 @@ class Liveness {
     }, out);
   }
 
+  /** @param {Tree[]} parameters that a function declares at its beginning @param {Alive} out */
+  parameters(parameters, out) {
+    parameters.reduceRight((alive, parameter) => {
+      const core = coreOf(parameter);
+      const begins = this.pattern(core, this.#unwritten(alive, this.#declared(core)));
+      if (givesMembers(core)) this.#noteMembers(core, union(alive, begins));
+      return union(begins, this.before(parameter.right, begins));
+    }, out);
+  }
+
   /** @param {Tree} pattern @param {Tree | null} value @param {Alive} out what may be read where it is taken apart */
   #noteSteps(pattern, value, out) {
-    if (value !== null && goesThrough(pattern, value)) this.note(this.#standIn(value, "BeginOfSteps"), out);
+    const isBegun = this.analysis.takesElements(pattern, value) || goesThrough(pattern, value);
+    if (value !== null && isBegun) this.note(this.#standIn(value, "BeginOfSteps"), out);
   }
 
   /** @param {Tree} pattern @param {Alive} out what may still be read where it gives a name a member */
@@ -432,7 +444,8 @@ class Liveness {
 export function aliveIn(info, analysis) {
   const liveness = new Liveness(info, analysis);
   const { body } = info.tree;
-  if (body.type === "BlockStatement") liveness.all(body.body, NONE);
-  else liveness.before(body, NONE);
+  const isBlock = body.type === "BlockStatement";
+  const begins = isBlock ? liveness.outside(body, liveness.block(body.body, NONE)) : liveness.before(body, NONE);
+  liveness.parameters(info.declared, begins);
   return liveness.after;
 }

@@ -8,7 +8,7 @@ import { childrenOf } from "./tree.mjs";
 const NAMELESS = () => "(intermediate value)";
 
 /** The names that rewritten code has, in a text. Modules that have such a name are refused. */
-export const OWN_NAMES = /\$(?:R|m|f|i|o|x|[enk]\d+|default)\b/;
+export const OWN_NAMES = /\$(?:R|m|f|i|o|x|[enkp]\d+|default)\b/;
 const IS_OWN_NAME = new RegExp(`^${OWN_NAMES.source}$`);
 
 /** If something with this name isn't a function, the agent is refused: its own name isn't known. */

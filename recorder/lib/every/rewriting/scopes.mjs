@@ -67,6 +67,8 @@ export class Info {
     this.outer = outer;
     this.start = tree.start;
     this.end = tree.end;
+    /** @type {Tree[]} the parameters that it declares at its beginning */
+    this.declared = [];
     /** @type {Temporary[]} */
     this.temporaries = [];
     /** @type {Set<Binding>} of outer functions, to which it or what is in it refers */

@@ -85,6 +85,16 @@ export const givesMembers = ({ type, properties }) => type === "ObjectPattern"
 export const goesThrough = (pattern, value) =>
   pattern.type === "ArrayPattern" && value?.type !== "ArrayExpression" && runsCode(value);
 
+/**
+ * @param {Tree} pattern
+ * @param {Tree | null} value
+ * @returns {boolean} whether the pattern gives names the elements of something, one after the other, and runs no code
+ * besides
+ */
+export const givesElements = ({ type, elements }, value) => type === "ArrayPattern" && elements.length > 0
+  && value !== null && value.type !== "ArrayExpression"
+  && elements.every((/** @type {Tree | null} */ one) => one !== null && (one.argument ?? one).type === "Identifier");
+
 /** @param {Tree | null} pattern @returns {string[]} the names that it declares */
 export function namesIn(pattern) {
   if (pattern === null) return [];

@@ -48,7 +48,11 @@ export const VISITS = {
     if (here.within === null) one.refuse(tree, "`await` at the top level");
     one.visit(tree.argument, here);
   },
-  BinaryExpression: visitInside,
+  BinaryExpression: (one, tree, here) => {
+    // Node's parser takes it, and the engine doesn't.
+    if (one.source.startsWith("<!--", tree.right.start - 1)) one.refuse(tree, "`<!--`, which no module may have");
+    visitInside(one, tree, here);
+  },
   BlockStatement: (one, tree, here) => one.visitBlock(tree, here),
   BreakStatement: visitNothing,
   CallExpression: (one, tree, here) => {

@@ -8,6 +8,7 @@ import { Edits } from "./source-edits.mjs";
 import { EXPRESSIONS } from "./expressions.mjs";
 import { NAME_OF_KEY, givingName, namesOfFunctions } from "./function-names.mjs";
 import { DEFAULT } from "./linked-modules.mjs";
+import { writeParameters } from "./parameters.mjs";
 import { STATEMENTS, WITHOUT_FRAME } from "./statements.mjs";
 import { childrenOf, isClass, isConstant, isFunction, isMethod, runsCode } from "./tree.mjs";
 import { WriteGuards } from "./write-guards.mjs";
@@ -264,27 +265,44 @@ export class CodeWriter {
       edits.before(tree.start, begins + before);
       edits.after(tree.end, after + ends);
     }
-    this.withoutVariables(() => this.writeAll(tree.params, null));
     const frame = info.isHidden ? null : info;
     if (frame) this.#needsDeclaredOnce(tree);
     // The number in the comment is found in the function's text.
     const enters = `const $f = $R.enter(${info.id}, ${this.cells(info)}); try {`;
-    const shown = `${this.#argumentsOf(tree)}${this.#environmentsOf(tree, frame)}`;
-    const begins = `${frame ? enters : `/*$R.enter(${info.id},*/`}${shown}`;
-    if (tree.body.type === "BlockStatement") {
-      edits.before(tree.body.start + 1, begins);
-      this.declaring(tree.body.start + 1, () => {
-        this.registerDeclared(tree.body.start + 1, tree.body.body);
-        if (frame) this.atEnd(tree.body, LEAVES);
-        this.writeAll(tree.body.body, frame);
+    const first = `${frame ? enters : `/*$R.enter(${info.id},*/`}${this.#argumentsOf(tree)}`;
+    const begins = `${first}${this.#environmentOf(tree, frame)}`;
+    const { declared } = info;
+    this.withoutVariables(() => {
+      if (declared.length > 0) writeParameters(this, tree, frame, { declared, begins });
+      else this.writeAll(tree.params, null);
+    });
+    this.#writeBody(tree, frame, { isBegun: declared.length > 0, begins });
+  }
+
+  /**
+   * @param {Tree} tree a function
+   * @param {Info | null} frame of it, if it has one
+   * @param {{ isBegun: boolean, begins: string }} how what it begins with, and whether that is there by now
+   */
+  #writeBody(tree, frame, { isBegun, begins }) {
+    const { edits } = this;
+    const { body } = tree;
+    const at = body.type === "BlockStatement" ? body.start + 1
+      : positionOutsideComments(this.source, "=>", tree.params.at(-1)?.end ?? tree.start) + 2;
+    if (body.type === "BlockStatement") {
+      edits.before(at, `${isBegun ? "" : begins}${this.#environmentOf(body, frame)}`);
+      if (isBegun) edits.after(body.end, `${frame ? LEAVES : ""} }`);
+      this.declaring(at, () => {
+        this.registerDeclared(at, body.body);
+        if (frame && !isBegun) this.atEnd(body, LEAVES);
+        this.writeAll(body.body, frame);
       });
     } else {
-      const arrow = positionOutsideComments(this.source, "=>", tree.params.at(-1)?.end ?? tree.start) + 2;
-      edits.before(arrow, `{ ${begins}`);
-      this.declaring(arrow, () => {
-        edits.before(arrow, " return (");
+      edits.before(at, isBegun ? "" : `{ ${begins}`);
+      this.declaring(at, () => {
+        edits.before(at, " return (");
         edits.after(tree.end, `); ${frame ? LEAVES : ""} }`);
-        this.write(tree.body, frame);
+        this.write(body, frame);
       });
     }
   }
@@ -305,12 +323,11 @@ export class CodeWriter {
     return given?.kind === "pseudo" && given.references.length > 0 ? " $R.likeArrays(arguments);" : "";
   }
 
-  /** @param {Tree} tree a function @param {Info | null} frame @returns {string} what makes its names visible */
-  #environmentsOf(tree, frame) {
-    const { own } = this.analysis;
-    const scopes = [own.get(tree), tree.body.type === "BlockStatement" ? own.get(tree.body) : undefined];
-    return scopes.map((scope) => (scope && (frame || this.isSeen(scope, frame))
-      ? ` const $e${scope.id} = ${this.environment(scope, frame)};` : "")).join("");
+  /** @param {Tree} tree a function, or its braces @param {Info | null} frame @returns {string} what shows its names */
+  #environmentOf(tree, frame) {
+    const scope = this.analysis.own.get(tree);
+    const isSeen = scope !== undefined && (frame !== null || this.isSeen(scope, frame));
+    return isSeen ? ` const $e${scope.id} = ${this.environment(scope, frame)};` : "";
   }
 
   /** @param {Tree} tree an object of whose keys functions get their names */

@@ -4,6 +4,7 @@
 import { framesHere } from "../../agent/frames.mjs";
 import { mapGet, mapSet, stringify } from "../../primordials.mjs";
 import { NodeSettings } from "./node-settings.mjs";
+import { PRELUDE } from "./installed-loops.mjs";
 import { readingIterators } from "./shown-iterators.mjs";
 import { isStepOfOthers } from "./loop-steps.mjs";
 import { CantShow } from "./object-kinds.mjs";
@@ -27,7 +28,6 @@ const TIME = new URL("../../agent/time.mjs", import.meta.url).href;
 const OF_LOOKS = [TIME, ...["agent/ordinary/guards", "agent/ordinary/patch", "every/learning/realm"].map((name) =>
   new URL(`../../${name}.mjs`, import.meta.url).href)];
 const LEARNING = new URL("../learning/", import.meta.url).href;
-const PRELUDE = new URL("./prelude.mjs", import.meta.url).href;
 const STATE = new URL("./", import.meta.url).href;
 const ITERATORS = new URL("./shown-iterators.mjs", import.meta.url).href;
 
@@ -47,7 +47,7 @@ export class Capture {
     this.flaw = flaw;
     this.settings = new NodeSettings();
     /** Rewritten modules that aren't the agents' own: a line of them says nothing to people. */
-    this.others = new Set([PRELUDE]);
+    this.others = new Set(PRELUDE);
     /** @type {Map<string, number>} the places at which agents were, each with its number */
     this.places = new Map();
     /** The number of the place at which an agent is whose state was asked for last. */

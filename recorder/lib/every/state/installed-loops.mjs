@@ -5,6 +5,9 @@ import { replace } from "../../agent/ordinary/patch.mjs";
 import { TypedArray } from "../../primordials.mjs";
 import { knownSteps, ownSteps, takeStep } from "./loop-steps.mjs";
 
+/** The URLs of the modules that have these functions. */
+export const PRELUDE = ["./prelude.mjs", "./prelude-makers.mjs"].map((name) => new URL(name, import.meta.url).href);
+
 /** @typedef {Record<string, Function>} Stands by the names of what they stand for */
 
 /** @type {[object, string, Function][]} the engine's functions that others stand for */
@@ -28,26 +31,27 @@ export function removeLoops() {
 
 /**
  * @typedef {"arrayLoops" | "typedLoops" | "mapLoops" | "setLoops" | "arrayMakers" | "functionCalls" | "reflectCalls"
- * | "jsonCalls" | "emitterCalls" | "othersSteps"} StandKind
+ * | "jsonCalls" | "emitterCalls" | "stringCalls"} StandKind
  */
 
-/**
- * @typedef {object} PreludeCalls what the prelude has besides
- * @property {(known: typeof knownSteps, own: typeof ownSteps) => void} takeSteps
- * @property {(given: any) => any} iterable
- * @property {(given: any) => unknown[]} elementsOf
- */
+/** @typedef {(known: typeof knownSteps, own: typeof ownSteps) => void} StepsTaker */
+
+/** What the prelude has for rewritten code, by the names by which that calls it. */
+const CALLED = ["iterable", "elementsOf", "madePromise", "madeSet", "madeMap", "takenOf"];
 
 /**
- * @param {Record<StandKind, Stands> & PreludeCalls} prelude
- * @param {{ iterable: PreludeCalls["iterable"], elementsOf: PreludeCalls["elementsOf"] }} calls of the rewritten code
+ * @param {any} prelude what it exports
+ * @param {Record<string, any>} calls of the rewritten code, which get the prelude's own
  */
-export function installLoops(prelude, calls) {
-  const { arrayLoops, typedLoops, mapLoops, setLoops, arrayMakers, functionCalls, reflectCalls, othersSteps } = prelude;
-  takeStep(/** @type {any} */ (othersSteps.next));
-  prelude.takeSteps(knownSteps, ownSteps);
-  calls.iterable = prelude.iterable;
-  calls.elementsOf = prelude.elementsOf;
+export function callPrelude(prelude, calls) {
+  takeStep(prelude.othersSteps.next);
+  /** @type {StepsTaker} */ (prelude.takeSteps)(knownSteps, ownSteps);
+  for (const name of CALLED) calls[name] = prelude[name];
+}
+
+/** @param {Record<StandKind, Stands>} prelude */
+export function installLoops(prelude) {
+  const { arrayLoops, typedLoops, mapLoops, setLoops, arrayMakers, functionCalls, reflectCalls } = prelude;
   install(Array.prototype, arrayLoops);
   install(TypedArray.prototype, typedLoops);
   install(Map.prototype, mapLoops);
@@ -55,6 +59,7 @@ export function installLoops(prelude, calls) {
   install(Array, arrayMakers);
   install(Function.prototype, functionCalls);
   install(Reflect, reflectCalls);
+  install(String.prototype, prelude.stringCalls);
   install(JSON, prelude.jsonCalls);
   install(EventEmitter.prototype, prelude.emitterCalls);
 }

@@ -371,6 +371,10 @@ function plainMember(object, key) {
 /** @param {unknown} value @returns {boolean} */
 const isPlainObject = (value) => typeof value === "object" && value !== null;
 
+/** @param {any} items @returns {boolean} whether an iterator of the agents' own goes through them */
+export const isOwnIterable = (items) => isPlainObject(items) && !isGoneThrough(items)
+  && typeof plainMember(items, iterator) === "function";
+
 /** @param {any} items @returns {boolean} whether they have nothing but a length and elements */
 function isArrayLike(items) {
   if (typeof items !== "object" || items === null) return false;
@@ -384,7 +388,7 @@ function isArrayLike(items) {
 export const arrayMakers = {
   from(items, f = undefined, that = undefined) {
     const isMapped = typeof f === "function";
-    const isOwn = isPlainObject(items) && !isGoneThrough(items) && typeof plainMember(items, iterator) === "function";
+    const isOwn = isOwnIterable(items);
     if (this !== EngineArray || (!isMapped && (f !== undefined || !isOwn))) return apply(from, this, [items, f, that]);
     if (isArrayLike(items)) {
       const n = lengthIn(items);

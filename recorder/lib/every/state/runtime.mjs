@@ -163,6 +163,9 @@ export class Runtime {
       key,
       method,
       numeric,
+      more: (/** @type {any} */ value) => (typeof value === "bigint" ? value + 1n : value + 1),
+      less: (/** @type {any} */ value) => (typeof value === "bigint" ? value - 1n : value - 1),
+      taken,
       own,
       copied: (/** @type {object} */ given) => ({ ...given }),
       stamped,
@@ -266,6 +269,17 @@ function method(value, name) {
 function nameOfKey(given) {
   if (typeof given === "string") return given;
   return given.description === undefined ? "" : `[${given.description}]`;
+}
+
+/**
+ * @param {RewrittenFrame} frame
+ * @param {number} id
+ * @returns {unknown} a value that was kept there, and isn't needed there any more
+ */
+function taken({ t }, id) {
+  const value = t[id];
+  t[id] = undefined;
+  return value;
 }
 
 /** @param {any} value @returns {number | bigint} what the engine makes of it before it adds one or takes one away */
