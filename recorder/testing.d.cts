@@ -53,8 +53,8 @@ export function testAgents(name: string, options: TrialOptions): Promise<void>;
 export function assertAgents(options: TrialOptions): Promise<void>;
 
 /**
- * A test of node:test that has agents try the operations of an object, as `testAgents` runs agents. With `all` they make
- * every use by 2 agents with up to 2 operations each, and by 3 with 1, unless `agents` or `each` is given.
+ * A test of node:test that has agents try the operations of an object, as `testAgents` runs agents. With `all` they
+ * make every use by 2 agents with up to 2 operations each, and by 3 with 1, unless `agents` or `each` is given.
  */
 export function testObject(name: string, options: TrialOptions): Promise<void>;
 

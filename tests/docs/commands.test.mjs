@@ -41,6 +41,7 @@ const COMMANDS = [
   ["node recorder/record.mjs recorder/examples/mutex-three-state.agents.mjs --all", { status: 0 }],
   ["node recorder/record.mjs recorder/examples/late-notify.agents.mjs --all", { status: 1 }],
   ["node recorder/record.mjs recorder/examples/late-notify-mended.agents.mjs --all", { status: 0 }],
+  ["node recorder/record.mjs recorder/examples/sequence-queue.object.mjs --all --agents 2 --each 2", { status: 1 }],
   ["node recorder/record.mjs counter.agents.mjs --seeds 1..50", { status: 1 }],
   ["node recorder/sabsim.mjs replay --format explained --acts found/seed-13.json", { status: 0 }],
   ["node recorder/sabsim.mjs replay --format explained --acts script.json", { status: 0 }],

@@ -5,7 +5,7 @@ import { TIME_OVER, overAfter } from "../processes/time-over.mjs";
 import { Every } from "./every.mjs";
 
 /** @typedef {import("./every.mjs").EveryResult} EveryResult */
-/** @typedef {{ agents: number, each: number | "any" }} UseSize how many agents, each with how many operations at most */
+/** @typedef {{ agents: number, each: number | "any" }} UseSize agents, each with so many operations at most */
 
 /**
  * @typedef {object} TriedUses what was tried of an object
@@ -101,6 +101,7 @@ export class EveryUse {
 
   /** @param {UseSize[]} sizes @returns {Promise<EveryUseResult>} of the last one that was finished, if one was */
   async #grow(sizes) {
+    /** @type {readonly UseSize[]} */
     const needed = sizes.length === 1 ? sizes : ENOUGH;
     /** @type {UseSize[]} */
     const finished = [];
@@ -114,11 +115,12 @@ export class EveryUse {
       const isFound = tried.shown.length > 0 || tried.onlyRuns.length > 0;
       const isJudged = object?.notJudged === 0 && object.isFinished;
       const isClosed = tried.open === undefined && !tried.isCut && isJudged;
-      const why = tried.open ?? (isJudged ? TIME_OVER : NOT_JUDGED);
+      const why = this.#left() <= 0 ? TIME_OVER : tried.open ?? (isJudged ? TIME_OVER : NOT_JUDGED);
       if (!isClosed && !isFound && last !== undefined) return notFinished(last, size, why);
       if (isClosed) finished.push(size);
       const isEnough = needed.every((one) => isWithin(finished, one));
-      last = { ...tried, uses: { finished: [...finished], size, next: size, open: isClosed ? undefined : why, isEnough } };
+      const open = isClosed ? undefined : why;
+      last = { ...tried, uses: { finished: [...finished], size, next: size, open, isEnough } };
       if (!isClosed || isFound) return last;
     }
     return /** @type {EveryUseResult} */ (last);

@@ -8,7 +8,8 @@ import type { TrialOptions } from "sabsim/test";
 const options: TrialOptions = { module: "./lock.mjs", args: ["counting"], seeds: "1..20" };
 
 export const tested: Promise<void>[] = [
-  testAgents("agents", options), testObject("object", { module: "./queue.mjs" }), testProgram("program", { program: "./main.mjs" }),
+  testAgents("agents", options), testObject("object", { module: "./queue.mjs" }),
+  testProgram("program", { program: "./main.mjs" }),
 ];
 export const asserted = (): Promise<void>[] => [
   assertAgents(options), assertObject({ module: "./queue.mjs", all: true }), assertProgram({ program: "./main.mjs" }),
