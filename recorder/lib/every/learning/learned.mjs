@@ -141,13 +141,22 @@ export class Learned {
       try {
         return this.#search(isLate);
       } catch (why) {
-        if (why instanceof LooksAtNumber) this.isShared = false;
-        else if (why instanceof LooksAtClock) this.hasClock = true;
-        else if (why instanceof KeepsClock) this.keptClock = why.line;
-        else throw why;
-        this.learner = this.#newLearner();
+        this.beginAgain(why);
       }
     }
+  }
+
+  /**
+   * Takes another state of agents for what they do: all is to be learned from the beginning.
+   * @param {unknown} why what was learned can't be kept
+   * @throws it, if it is something else
+   */
+  beginAgain(why) {
+    if (why instanceof LooksAtNumber) this.isShared = false;
+    else if (why instanceof LooksAtClock) this.hasClock = true;
+    else if (why instanceof KeepsClock) this.keptClock = why.line;
+    else throw why;
+    this.learner = this.#newLearner();
   }
 
   /** @param {(states: number) => boolean} [isLate] */
