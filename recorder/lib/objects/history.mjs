@@ -4,8 +4,8 @@
 import { NOT_JUDGED, NO_ORDER } from "./monitor.mjs";
 import { historyTable } from "./history-table.mjs";
 
-/** @typedef {{ agent: number, call: number, outcome?: undefined }} BeginEvent */
-/** @typedef {{ agent: number, call?: undefined, outcome: string }} EndEvent */
+/** @typedef {{ agent: number, call: number, outcome?: undefined, line?: string }} BeginEvent */
+/** @typedef {{ agent: number, call?: undefined, outcome: string, line?: string }} EndEvent the line of its last act */
 /** @typedef {BeginEvent | EndEvent} HistoryEvent */
 
 /**
