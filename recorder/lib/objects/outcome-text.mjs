@@ -174,7 +174,10 @@ function memberOf(object, name) {
 /** @param {unknown} thrown @returns {string} an error by its name and message, and anything else as a result */
 function thrownText(thrown) {
   if (typeof thrown !== "object" || thrown === null || !isNativeError(thrown)) return spelled(thrown);
-  const [name, message] = [memberOf(thrown, "name"), memberOf(thrown, "message")];
+  const name = memberOf(thrown, "name");
+  // The message of an `assert(x)` without a text is made of the code there, which may have been rewritten.
+  const quotes = memberOf(thrown, "generatedMessage") === true && memberOf(thrown, "operator") === "==";
+  const message = quotes ? "" : memberOf(thrown, "message");
   return `${typeof name === "string" ? name : "Error"}: ${typeof message === "string" ? message : ""}`;
 }
 

@@ -100,6 +100,8 @@ describe("a module that can't be tried is refused", () => {
   for (const [what, text, why] of /** @type {[string, string, RegExp][]} */ ([
     ["if it names no method", objectOf("push() {}", "pushh: []"),
       /names `pushh`, and the object has no such method, at agents\.mjs:5/],
+    ["if its model has no method for it", objectOf("push() {}", "push: []", "export class Model { pop() {} }"),
+      /names `push`, and `Model` has no such method, at agents\.mjs:5/],
     ["if an operation returns a promise", objectOf("async push() { Atomics.load(this.w, 0); }", "push: []"), /promise/],
     ["if it returns a view", objectOf("view() { return this.w; }", "view: []"),
       /view\(\) returns a buffer, a view of one or a proxy.*, at agents\.mjs:5/],
@@ -147,8 +149,10 @@ describe("the examples", () => {
     assert.deepEqual([done.status, done.stderr], [1, ""]);
     assert.match(done.stdout, /^not linearizable: 2 agents, 3 operations; shown by \d+ acts with 1 change of agents\n/);
     assert.match(done.stdout, /\n {2}tryTake\(\) returns undefined, and in every order that fits it returns [12]\n/);
-    const behind = /\n {2}\.\. {2,}tryPut\([12]\) returns true\n {2}\.\. {2,}tryTake\(\) returns undefined\n/;
-    assert.match(done.stdout, behind);
+    const lines = done.stdout.split("\n").map((line) => line.trim());
+    assert.match(lines[3], /^tryPut\([12]\), at sequence-queue\.mjs:31:39$/);
+    assert.match(lines[4], /^\.\. {2,}tryPut\([12]\) returns true, at sequence-queue\.mjs:33:15$/);
+    assert.match(lines[5], /^\.\. {2,}tryTake\(\) returns undefined, at sequence-queue\.mjs:43:32$/);
     assert.ok(existsSync(join(out, "all-1.html")));
     const replayed = await commandHere([module, "--agents", "2", "--each", "2", "--replay", join(out, "all-1.json")]);
     assert.deepEqual([replayed.status, replayed.stderr], [1, ""]);

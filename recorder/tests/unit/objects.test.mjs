@@ -38,6 +38,15 @@ describe("the calls of `operations`", () => {
   ])) test(`${why} is said`, () => assert.throws(() => callsOf(operations), why));
 });
 
+/** @param {() => void} body @returns {unknown} what it throws */
+function thrownBy(body) {
+  try {
+    return body();
+  } catch (error) {
+    return error;
+  }
+}
+
 class Pair {
   constructor(/** @type {unknown} */ one) {
     this.one = one;
@@ -70,6 +79,7 @@ describe("the text of an outcome", () => {
   test("an error goes by its name and its message, and the result of a model that waits is told apart", () => {
     assert.equal(outcomeText(new RangeError("too far"), true), "throws RangeError: too far");
     assert.equal(outcomeText(5, true), "throws 5");
+    assert.match(outcomeText(thrownBy(() => assert(1 > 2)), true), /^throws AssertionError: $/);
     assert.equal(outcomeText(blocked, false), "has to wait");
   });
 

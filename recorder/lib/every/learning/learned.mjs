@@ -88,7 +88,7 @@ export class Learned {
     const own = {
       agentNow: () => (isModel ? code.modelNow() : code.agentNow()), line: () => code.line(),
       place: () => code.place(), lineOfError, key, hasChanged: () => code.hasChanged(),
-      marks: code.isObject ? this.#marks() : undefined,
+      marks: code.isObject ? this.#marks(isModel && code.hasModel) : undefined,
     };
     const learner = new Learner(asker, agents, own);
     learner.hasClock = this.hasClock;
@@ -99,10 +99,13 @@ export class Learned {
     return learner;
   }
 
-  /** @returns {import("../../objects/object-client.mjs").OperationMarks} what the client of an object calls */
-  #marks() {
+  /**
+   * @param {boolean} isModel whether the client uses a class `Model`
+   * @returns {import("../../objects/object-client.mjs").OperationMarks} what it calls
+   */
+  #marks(isModel) {
     const { asker, code } = this;
-    const marks = learnedMarks(asker, code.url, () => code.calls());
+    const marks = learnedMarks(asker, code.url, () => code.calls(), isModel ? "`Model`" : "the object");
     const { names } = code.builtins;
     names.set(marks.lacks, "lacks").set(marks.begins, "begins").set(marks.ends, "ends");
     return marks;
