@@ -27,6 +27,16 @@ async function assertAgents(options) {
 }
 
 /** @param {string} name @param {object} options @returns {Promise<void>} */
+function testObject(name, options) {
+  return nodeTest("testObject", "assertObject")(name, {}, bodyOf(name, options, callerOf(testObject)));
+}
+
+/** @param {object} options @returns {Promise<void>} */
+async function assertObject(options) {
+  await triedApart(options, callerOf(assertObject));
+}
+
+/** @param {string} name @param {object} options @returns {Promise<void>} */
 function testProgram(name, options) {
   return nodeTest("testProgram", "assertProgram")(name, {}, bodyOf(name, options, callerOf(testProgram)));
 }
@@ -36,4 +46,4 @@ async function assertProgram(options) {
   await triedApart(options, callerOf(assertProgram));
 }
 
-module.exports = { assertAgents, assertProgram, testAgents, testProgram };
+module.exports = { assertAgents, assertObject, assertProgram, testAgents, testObject, testProgram };

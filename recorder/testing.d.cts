@@ -52,6 +52,15 @@ export function testAgents(name: string, options: TrialOptions): Promise<void>;
 /** The same as a part of any test: it fails with an error named RunFailed if a run fails. */
 export function assertAgents(options: TrialOptions): Promise<void>;
 
+/**
+ * A test of node:test that has agents try the operations of an object, as `testAgents` runs agents. With `all` they
+ * make every use by 2 agents with up to 2 operations each, and by 3 with 1, unless `agents` or `each` is given.
+ */
+export function testObject(name: string, options: TrialOptions): Promise<void>;
+
+/** The same as a part of any test: it fails with an error named RunFailed if a run fails. */
+export function assertObject(options: TrialOptions): Promise<void>;
+
 /** A test of node:test that runs a whole program under the schedules of many seeds, as `testAgents` runs agents. */
 export function testProgram(name: string, options: ProgramTrialOptions): Promise<void>;
 

@@ -1,3 +1,6 @@
-// For test suites: `import { assertAgents, assertProgram, testAgents, testProgram } from "sabsim/test"`.
+// For test suites: `import { testAgents, testObject, testProgram } from "sabsim/test"`, or in any other test
+// `assertAgents`, `assertObject` and `assertProgram`.
 
-export { assertAgents, assertProgram, testAgents, testProgram } from "./lib/suite/tests.mjs";
+export {
+  assertAgents, assertObject, assertProgram, testAgents, testObject, testProgram,
+} from "./lib/suite/tests.mjs";

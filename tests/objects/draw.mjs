@@ -35,7 +35,8 @@ export const FAMILIES = [
     : "return Atomics.exchange(this.w, 0, n);"}
   }
   cas(from, to) {
-    ${is("cas by load") ? "if (Atomics.load(this.w, 0) !== from) return false; Atomics.store(this.w, 0, to); return true;"
+    ${is("cas by load")
+    ? "if (Atomics.load(this.w, 0) !== from) return false; Atomics.store(this.w, 0, to); return true;"
     : "return Atomics.compareExchange(this.w, 0, from, to) === from;"}
   }`,
   },
@@ -44,7 +45,8 @@ export const FAMILIES = [
     mutations: ["insert by load", "remove says yes", "has looks twice"],
     body: (is) => `
   insert(n) {
-    ${is("insert by load") ? "const old = Atomics.load(this.w, 0); Atomics.store(this.w, 0, old | (1 << n)); return (old & (1 << n)) === 0;"
+    ${is("insert by load")
+    ? "const old = Atomics.load(this.w, 0); Atomics.store(this.w, 0, old | (1 << n)); return !(old & (1 << n));"
     : "return (Atomics.or(this.w, 0, 1 << n) & (1 << n)) === 0;"}
   }
   remove(n) {
@@ -67,7 +69,11 @@ export const FAMILIES = [
       const size = packed & 3;
       if (size === 2) return false;
       const next = (size + 1) | (((packed >> 2) | (n << (2 * size))) << 2);
-      ${is("value late") ? "if (Atomics.compareExchange(this.w, 0, packed, (size + 1) | (packed & ~3)) === packed) { Atomics.or(this.w, 0, n << (2 * size + 2)); return true; }"
+      ${is("value late") ? `
+      if (Atomics.compareExchange(this.w, 0, packed, (size + 1) | (packed & ~3)) === packed) {
+        Atomics.or(this.w, 0, n << (2 * size + 2));
+        return true;
+      }`
     : "if (Atomics.compareExchange(this.w, 0, packed, next) === packed) return true;"}
     }
   }
@@ -111,7 +117,8 @@ export const FAMILIES = [
     mutations: ["no notify", "test then set", "never waits right"],
     body: (is) => `
   lock() {
-    ${is("test then set") ? "while (Atomics.load(this.w, 0) !== 0) Atomics.wait(this.w, 0, 1); Atomics.store(this.w, 0, 1);"
+    ${is("test then set")
+    ? "while (Atomics.load(this.w, 0) !== 0) Atomics.wait(this.w, 0, 1); Atomics.store(this.w, 0, 1);"
     : "while (Atomics.compareExchange(this.w, 0, 0, 1) !== 0) Atomics.wait(this.w, 0, 1);"}
     this.w[1] = this.w[1] + 1;
     return this.w[1];
@@ -126,8 +133,16 @@ export const FAMILIES = [
     mutations: ["notifies one", "no notify", "down by load"],
     body: (is) => `
   down() {
-    ${is("down by load") ? "const n = Atomics.load(this.w, 0); if (n === 0) return; Atomics.store(this.w, 0, n - 1); const left = n - 1;"
-    : "let n = Atomics.load(this.w, 0); while (n > 0) { const was = Atomics.compareExchange(this.w, 0, n, n - 1); if (was === n) break; n = was; } const left = n - 1;"}
+    ${is("down by load") ? `
+    const n = Atomics.load(this.w, 0);
+    if (n === 0) return;
+    Atomics.store(this.w, 0, n - 1);` : `
+    let n = Atomics.load(this.w, 0);
+    for (let was = -1; n > 0 && was !== n;) {
+      was = n;
+      n = Atomics.compareExchange(this.w, 0, was, was - 1);
+    }`}
+    const left = n - 1;
     if (left === 0) { ${is("no notify") ? "" : `Atomics.notify(this.w, 0${is("notifies one") ? ", 1" : ""});`} }
   }
   wait() {

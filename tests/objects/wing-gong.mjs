@@ -4,8 +4,8 @@
 //
 // usage: node tests/objects/wing-gong.mjs MODULE AGENTS EACH
 //
-// It prints a line of JSON: whether a use isn't linearizable, loses a wake-up, has a race, or was cut since an operation
-// goes on for long.
+// It prints a line of JSON: whether a use isn't linearizable, loses a wake-up, has a race, or was cut since an
+// operation goes on for long.
 
 import { pathToFileURL } from "node:url";
 import { inspect } from "node:util";
@@ -48,10 +48,14 @@ function FakeArray(buffer, offset = 0) {
   return made;
 }
 
-/** @param {string} does @param {number} count of values */
-const call = (does, count) => (/** @type {object} */ view, /** @type {number} */ index, /** @type {any[]} */ ...given) => {
+/**
+ * @param {string} does
+ * @param {number} count of values
+ * @returns {(view: object, index: number, ...given: any[]) => unknown}
+ */
+const call = (does, count) => (view, index, ...given) => {
   const { at } = /** @type {{ at: number }} */ (arrays.get(view));
-  const values = given.slice(0, count).map((value) => value | 0);
+  const values = given.slice(0, count).map((/** @type {number} */ value) => value | 0);
   if (does === "notify") return answer({ does, at: at + index, values: [given[0] ?? Infinity] });
   return answer({ does, at: at + index, values, isTimed: does === "wait" && given[1] !== undefined });
 };
@@ -90,10 +94,23 @@ function callsOf(operations) {
   const entries = Object.entries(operations).map(([name, given]) =>
     ({ name, ...(Array.isArray(given) ? { args: given } : { args: [], ...given }) }));
   return entries.flatMap((entry) => {
-    const lists = entry.args.length === 0 ? [[]] : entry.args.map((/** @type {any} */ one) => (Array.isArray(one) ? one : [one]));
+    const given = entry.args.map((/** @type {unknown} */ one) => (Array.isArray(one) ? one : [one]));
+    const lists = given.length === 0 ? [[]] : given;
     return lists.map((/** @type {unknown[]} */ args) => ({ ...entry, args, after: [entry.after ?? []].flat() }));
   });
 }
+
+/**
+ * @typedef {object} RunState
+ * @property {number[]} memory
+ * @property {Script[]} scripts of each agent
+ * @property {number[]} line the agents that wait
+ * @property {number[]} woken those that were woken and haven't left
+ * @property {number[]} order which agent made each act
+ */
+
+/** @param {number[]} list @param {number} item @returns {number[]} */
+const without = (list, item) => list.filter((one) => one !== item);
 
 class Checker {
   /** @param {any} module @param {number} agents @param {number} each */
@@ -246,12 +263,13 @@ class Checker {
 
   /** @param {Script[]} scripts */
   #search(scripts) {
-    const first = { memory: this.initial, scripts, line: [], woken: [], order: [] };
     const seen = new Set();
-    const stack = [first];
-    while (stack.length > 0) {
-      const state = /** @type {any} */ (stack.pop());
-      const name = JSON.stringify([state.memory, state.scripts.map(({ answers }) => answers), state.line, state.woken, this.#eventsOf(state)]);
+    /** @type {RunState[]} */
+    const stack = [{ memory: this.initial, scripts, line: [], woken: [], order: [] }];
+    for (let state = stack.pop(); state !== undefined; state = stack.pop()) {
+      const { line, memory, woken } = state;
+      const answers = state.scripts.map((script) => script.answers);
+      const name = JSON.stringify([memory, answers, line, woken, this.#eventsOf(state)]);
       if (seen.has(name)) continue;
       seen.add(name);
       stack.push(...this.#next(state));
@@ -260,12 +278,12 @@ class Checker {
 
   /**
    * The begins and ends of operations, in the order in which acts make them.
-   * @param {any} state
+   * @param {RunState} state
    * @returns {Operation[]}
    */
   #eventsOf({ scripts, order }) {
-    return scripts.flatMap((/** @type {Script} */ script, /** @type {number} */ agent) => {
-      const places = order.flatMap((/** @type {number} */ who, /** @type {number} */ at) => (who === agent ? [at] : []));
+    return scripts.flatMap((script, agent) => {
+      const places = order.flatMap((who, at) => (who === agent ? [at] : []));
       return this.at(agent, script).operations.flatMap(({ call: number, first, last, outcome }) => {
         if (first === last) return [];
         const hasEnded = outcome !== undefined;
@@ -274,7 +292,7 @@ class Checker {
     });
   }
 
-  /** @param {any} state @returns {any[]} */
+  /** @param {RunState} state @returns {RunState[]} */
   #next(state) {
     const { line, scripts, woken } = state;
     const events = this.#eventsOf(state);
@@ -282,42 +300,54 @@ class Checker {
       this.found.wrong = true;
       return [];
     }
-    const requests = scripts.map((/** @type {Script} */ script, /** @type {number} */ agent) => this.at(agent, script).request);
+    const requests = scripts.map((script, agent) => this.at(agent, script).request);
     this.#lookForRaces(requests, state);
-    /** @type {any[]} */
+    /** @type {(RunState | undefined)[]} */
     const found = [];
     for (let agent = 0; agent < this.agents; agent += 1) {
       const request = requests[agent];
       if (request === undefined) continue;
       if (line.includes(agent)) {
-        if (request.isTimed) found.push(this.#answered(state, agent, "timed-out", { line: line.filter((/** @type {number} */ one) => one !== agent) }));
+        if (request.isTimed) found.push(this.#answered(state, agent, "timed-out", { line: without(line, agent) }));
         continue;
       }
       found.push(this.#acted(state, agent, request));
     }
     if (found.length === 0 && woken.length === 0) this.#lookForLost(events);
-    return found.filter((one) => one !== undefined);
+    return found.flatMap((one) => one ?? []);
   }
 
-  /** @param {any} state @param {number} agent @param {Request} request */
+  /**
+   * @param {RunState} state
+   * @param {number} agent that can act
+   * @param {Request} request
+   * @returns {RunState | undefined}
+   */
   #acted(state, agent, request) {
-    const { line, memory, woken } = state;
-    if (woken.includes(agent)) return this.#answered(state, agent, "ok", { woken: woken.filter((/** @type {number} */ one) => one !== agent) });
+    const { line, memory, scripts, woken } = state;
+    if (woken.includes(agent)) return this.#answered(state, agent, "ok", { woken: without(woken, agent) });
     if (request.does === "wait") {
       if (memory[request.at] !== request.values[0]) return this.#answered(state, agent, "not-equal", {});
       return { ...state, line: [...line, agent] };
     }
     if (request.does === "notify") {
-      const there = line.filter((/** @type {number} */ one) => this.at(one, state.scripts[one]).request.at === request.at);
+      const there = line.filter((one) => this.at(one, scripts[one]).request?.at === request.at);
       const woke = there.slice(0, request.values[0]);
-      return this.#answered(state, agent, woke.length, { line: line.filter((/** @type {number} */ one) => !woke.includes(one)), woken: [...woken, ...woke].sort() });
+      const stay = line.filter((one) => !woke.includes(one));
+      return this.#answered(state, agent, woke.length, { line: stay, woken: [...woken, ...woke].sort() });
     }
     const after = memory.slice();
     const value = done(request, after);
     return this.#answered(state, agent, value, { memory: after });
   }
 
-  /** @param {any} state @param {number} agent @param {unknown} value @param {object} changes */
+  /**
+   * @param {RunState} state
+   * @param {number} agent
+   * @param {unknown} value that its call returns
+   * @param {Partial<RunState>} changes
+   * @returns {RunState | undefined} undefined: its operation has gone on for long
+   */
   #answered(state, agent, value, changes) {
     const script = state.scripts[agent];
     const before = this.at(agent, script);
@@ -328,9 +358,8 @@ class Checker {
       return undefined;
     }
     const next = { ops: script.ops, answers: [...script.answers, value] };
-    const after = this.at(agent, next);
     if (many >= STILL && this.#isStill(agent, next)) return undefined;
-    const scripts = state.scripts.map((/** @type {Script} */ one, /** @type {number} */ at) => (at === agent ? next : one));
+    const scripts = state.scripts.map((one, at) => (at === agent ? next : one));
     return { ...state, scripts, order: [...state.order, agent], ...changes };
   }
 
@@ -349,7 +378,7 @@ class Checker {
     return request !== undefined && new Set([...last, JSON.stringify([request, answers.at(-1)])]).size === 1;
   }
 
-  /** @param {(Request | undefined)[]} requests @param {any} state */
+  /** @param {(Request | undefined)[]} requests @param {RunState} state */
   #lookForRaces(requests, { line, memory, woken }) {
     const writes = (/** @type {Request} */ { at, does, values }) => !["load", "read", "wait", "notify"].includes(does)
       && !(does === "compareExchange" && memory[at] !== values[0]);

@@ -95,7 +95,8 @@ export function loadedModule(found, use) {
   needsFunctions({ init, check });
   needsPlain(setup);
   const there = { hasInit: init !== undefined, hasCheck: check !== undefined, isObject };
-  return { module: { default: agent, init, check, isObject }, has: { setup, names: namesIn(exported, agent), ...there } };
+  const module = { default: agent, init, check, isObject };
+  return { module, has: { setup, names: namesIn(exported, agent), ...there } };
 }
 
 /** @param {any} exported by a module of an object @param {{ count?: number, each: number }} use @returns {Function} */

@@ -28,7 +28,7 @@ import { adviceOf } from "./advice.mjs";
  */
 
 /**
- * @typedef {object} UsesData what was tried of an object
+ * @typedef {object} ObjectUsesData what was tried of an object
  * @property {import("./every-use.mjs").UseSize[]} finished the sizes of which every use was tried
  * @property {import("./every-use.mjs").UseSize} size of the search that is reported
  * @property {import("./every-use.mjs").UseSize} next the size that was tried last
@@ -42,7 +42,7 @@ import { adviceOf } from "./advice.mjs";
 
 /**
  * @typedef {object} EveryData
- * @property {UsesData | null} uses what was tried of an object; null: the module is none of an object
+ * @property {ObjectUsesData | null} uses what was tried of an object; null: the module is none of an object
  * @property {boolean} closed whether every schedule was tried
  * @property {string | null} open why not
  * @property {boolean} isWhole whether all was done: every schedule was tried, and nothing was cut short by the time
@@ -115,7 +115,7 @@ export function dataOf({ report, open, shown, onlyRuns, uses, ...tried }) {
 /**
  * @param {import("./every-use.mjs").TriedUses} [uses]
  * @param {LearningReport} [report]
- * @returns {UsesData | null}
+ * @returns {ObjectUsesData | null}
  */
 function usesOf(uses, report) {
   if (uses === undefined || report?.object === undefined) return null;
@@ -158,7 +158,8 @@ const endOf = (outcome) => ({ detail: outcome?.detail.split("\n") ?? null, onlyI
 /** @param {import("./only-runs.mjs").OnlyRun} found @returns {FoundData} */
 function dataOfRuns({ kind, text, runs, outcome }) {
   const { seed, onlyIf } = outcome;
-  const byRun = { states: 0, runs, seed, acts: 0, changes: 0, isEarly: onlyIf !== undefined, operations: 0, drewSame: false };
+  const noSchedule = { acts: 0, changes: 0, operations: 0, drewSame: false };
+  const byRun = { states: 0, runs, seed, isEarly: onlyIf !== undefined, ...noSchedule };
   return { kind, text, ...byRun, ...endOf(outcome), notShown: null };
 }
 

@@ -7,7 +7,7 @@ import { OF_HISTORIES, historyLines, monitorLines, rightLines, sizesText } from 
 
 /** @typedef {import("./data.mjs").EveryData} EveryData */
 /** @typedef {import("./data.mjs").FoundData} FoundData */
-/** @typedef {EveryData & { uses: import("./data.mjs").UsesData }} OfObject */
+/** @typedef {EveryData & { uses: import("./data.mjs").ObjectUsesData }} OfObject */
 
 const MOST_LISTED = 8;
 
@@ -37,7 +37,8 @@ function closedLines(data) {
   const title = `every schedule of ${countText(agents, "agent")} was tried`;
   const none = "none deadlocks, throws, has a data race or fails check";
   const canEnd = found.length === 0 ? "; from every state all agents can still end" : "";
-  const ofAgents = `${title}: ${found.length === 0 ? none : foundText(found)}${neverEnds ? "; no agent ever ends" : canEnd}`;
+  const how = found.length === 0 ? none : foundText(found);
+  const ofAgents = `${title}: ${how}${neverEnds ? "; no agent ever ends" : canEnd}`;
   return [
     ...(data.uses === null ? [ofAgents] : usesLines(/** @type {OfObject} */ (data))),
     ...foundLines(data),

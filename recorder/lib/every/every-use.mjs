@@ -1,11 +1,11 @@
 // Tries every use of an object: with ever more agents and operations, until a failure is found or the time is over.
 
 import { mayBeObject } from "../objects/object-file.mjs";
-import { overAfter } from "../processes/time-over.mjs";
+import { TIME_OVER, overAfter } from "../processes/time-over.mjs";
 import { Every } from "./every.mjs";
 
 /** @typedef {import("./every.mjs").EveryResult} EveryResult */
-/** @typedef {{ agents: number, each: number | "any" }} UseSize how many agents, each with how many operations at most */
+/** @typedef {{ agents: number, each: number | "any" }} UseSize agents, each with so many operations at most */
 
 /**
  * @typedef {object} TriedUses what was tried of an object
@@ -56,16 +56,16 @@ const isWithin = (finished, size) =>
 export class EveryUse {
   /**
    * @param {import("./every.mjs").EveryRunOptions} options
-   * @param {ConstructorParameters<typeof Every>[1]} how
+   * @param {ConstructorParameters<typeof Every>[1] & { isBrief?: boolean }} how as `Every` has it; whether only those
+   * sizes are tried that must be, unless some are given
    */
-  constructor(options, { over = overAfter(options.within), ...how }) {
+  constructor(options, { over = overAfter(options.within), isBrief = false, ...how }) {
+    this.isBrief = isBrief;
     this.options = options;
     this.how = { ...how, over };
     this.begun = performance.now();
     /** @type {Every | undefined} the search that runs */
     this.every = undefined;
-    /** @type {number | undefined} how many real runs were made, as `Every` has it */
-    this.found = 0;
   }
 
   /** How many states were found so far. */
@@ -82,7 +82,8 @@ export class EveryUse {
   async run() {
     if (!mayBeObject(this.options.module)) return await this.#search(this.options);
     const { agents, each } = /** @type {any} */ (this.options);
-    return await this.#grow(sizesOf({ agents, each }));
+    const isOpen = agents === undefined && each === undefined;
+    return await this.#grow(this.isBrief && isOpen ? [...ENOUGH] : sizesOf({ agents, each }));
   }
 
   /** @param {import("./every.mjs").EveryRunOptions} options @returns {Promise<EveryResult>} */
@@ -98,27 +99,28 @@ export class EveryUse {
     return this.options.within - (performance.now() - this.begun) / 1_000;
   }
 
-  /** @param {UseSize[]} sizes @returns {Promise<EveryUseResult>} */
+  /** @param {UseSize[]} sizes @returns {Promise<EveryUseResult>} of the last one that was finished, if one was */
   async #grow(sizes) {
-    const isGiven = sizes.length === 1;
+    /** @type {readonly UseSize[]} */
+    const needed = sizes.length === 1 ? sizes : ENOUGH;
     /** @type {UseSize[]} */
     const finished = [];
     /** @type {EveryUseResult | undefined} */
     let last;
     for (const size of sizes) {
-      const isEnough = isGiven ? finished.length > 0 : ENOUGH.every((one) => isWithin(finished, one));
-      if (last !== undefined && this.#left() <= 0) return notFinished(last, size, "its time was over", isEnough);
+      if (last !== undefined && this.#left() <= 0) return notFinished(last, size, TIME_OVER);
       const tried = await this.#search({ ...this.options, ...size, within: Math.max(this.#left(), 0) });
-      if (tried.report !== undefined && tried.report.object === undefined) return await this.#search(this.options);
+      const { object } = tried.report ?? {};
+      if (tried.report !== undefined && object === undefined) return await this.#search(this.options);
       const isFound = tried.shown.length > 0 || tried.onlyRuns.length > 0;
-      const isJudged = tried.report?.object?.notJudged === 0 && tried.report.object.isFinished;
+      const isJudged = object?.notJudged === 0 && object.isFinished;
       const isClosed = tried.open === undefined && !tried.isCut && isJudged;
-      if (!isClosed && !isFound && last !== undefined) {
-        return notFinished(last, size, tried.open ?? (isJudged ? "its time was over" : NOT_JUDGED), isEnough);
-      }
+      const why = this.#left() <= 0 ? TIME_OVER : tried.open ?? (isJudged ? TIME_OVER : NOT_JUDGED);
+      if (!isClosed && !isFound && last !== undefined) return notFinished(last, size, why);
       if (isClosed) finished.push(size);
-      const uses = { finished: [...finished], size, next: size, open: undefined, isEnough: isGiven && isClosed };
-      last = { ...tried, uses };
+      const isEnough = needed.every((one) => isWithin(finished, one));
+      const open = isClosed ? undefined : why;
+      last = { ...tried, uses: { finished: [...finished], size, next: size, open, isEnough } };
       if (!isClosed || isFound) return last;
     }
     return /** @type {EveryUseResult} */ (last);
@@ -129,8 +131,7 @@ export class EveryUse {
  * @param {EveryUseResult} last of the sizes that were finished
  * @param {UseSize} next that wasn't
  * @param {string} open why
- * @param {boolean} isEnough
  * @returns {EveryUseResult}
  */
-const notFinished = (last, next, open, isEnough) =>
-  ({ ...last, uses: { .../** @type {TriedUses} */ (last.uses), next, open, isEnough } });
+const notFinished = (last, next, open) =>
+  ({ ...last, uses: { .../** @type {TriedUses} */ (last.uses), next, open } });

@@ -4,11 +4,13 @@ import { countText } from "../run/words/summary-words.mjs";
 
 /** @typedef {import("./data.mjs").EveryData} EveryData */
 /** @typedef {import("./data.mjs").FoundData} FoundData */
-/** @typedef {import("./data.mjs").UsesData} UsesData */
+/** @typedef {import("./data.mjs").ObjectUsesData} ObjectUsesData */
 /** @typedef {import("./every-use.mjs").UseSize} UseSize */
 
 /** What is about the history of an object, and not about what its agents do besides. */
 export const OF_HISTORIES = new Set(["not linearizable", "lost wake-up"]);
+
+const AS_ITSELF = "what is right is the object as itself, used by one agent alone";
 
 const TOO_MANY = "it needs more than 65,536 states of what is right, or 100,000 configurations";
 
@@ -38,14 +40,14 @@ export function sizesText(sizes) {
   return `every use ${[sizeText(first), ...further].join(", ")}, and ${last},`;
 }
 
-/** @param {UsesData} uses @returns {string} what is right, in words */
+/** @param {ObjectUsesData} uses @returns {string} what is right, in words */
 function rightText({ alwaysThrow, hasModel }) {
-  const what = hasModel ? "`Model` says what is right" : "what is right is the object as itself, used by one agent alone";
+  const what = hasModel ? "`Model` says what is right" : AS_ITSELF;
   if (alwaysThrow.length === 0) return what;
   return `${what}; ${alwaysThrow.join(", ")} always ${alwaysThrow.length === 1 ? "throws" : "throw"} there`;
 }
 
-/** @param {EveryData & { uses: UsesData }} data of a search in which nothing was found @returns {string[]} */
+/** @param {EveryData & { uses: ObjectUsesData }} data of a search in which nothing was found @returns {string[]} */
 export function rightLines({ uses }) {
   const tried = `${sizesText(uses.finished)} was tried under every schedule`;
   const title = `${tried}: all are linearizable, and no wake-up is lost (${rightText(uses)})`;
@@ -59,7 +61,7 @@ function shownText({ acts, changes, detail }) {
 }
 
 /**
- * @param {EveryData & { uses: UsesData }} data
+ * @param {EveryData & { uses: ObjectUsesData }} data
  * @param {FoundData} found about the history
  * @returns {string[]} lines
  */
@@ -73,9 +75,10 @@ export function historyLines({ agents, uses }, found) {
   return [`${kind}: ${use}; ${shownText(found)}`, ...lines, ...rests, `  (${rightText(uses)})`];
 }
 
-/** @param {EveryData & { uses: UsesData }} data @returns {string[]} about the monitor */
+/** @param {EveryData & { uses: ObjectUsesData }} data @returns {string[]} about the monitor */
 export function monitorLines({ uses: { modelStates, notJudged, sets } }) {
   const model = `${countText(modelStates, "state")} of what is right`;
   const counts = `${model}, and ${countText(sets, "set")} of what operations may have done`;
-  return notJudged === 0 ? [counts] : [counts, `in ${countText(notJudged, "state")} the history wasn't judged: ${TOO_MANY}`];
+  if (notJudged === 0) return [counts];
+  return [counts, `in ${countText(notJudged, "state")} the history wasn't judged: ${TOO_MANY}`];
 }

@@ -7,7 +7,10 @@
 /** What stands beside other agents' rows while an operation goes on. */
 const GOES_ON = "..";
 
-/** @typedef {{ agent: number, text: string }} TableCell */
+/** @typedef {{ agent: number, text: string, isOpen: boolean }} TableCell whether its operation goes on */
+
+/** @param {HistoryEvent} event @returns {string} where its last act is, if that is known */
+const lineText = ({ line }) => (line === undefined ? "" : `, at ${line}`);
 
 /**
  * @param {ObjectCall[]} calls
@@ -18,13 +21,15 @@ function cellsOf(calls, events) {
   /** @type {TableCell[]} */
   const cells = [];
   for (let at = 0; at < events.length; at += 1) {
-    const { agent, call, outcome } = events[at];
+    const event = events[at];
+    const { agent, call, outcome } = event;
     const next = events[at + 1];
-    if (call === undefined) cells.push({ agent, text: `${GOES_ON} ${outcome}` });
-    else if (next?.agent === agent && next.outcome !== undefined) {
-      cells.push({ agent, text: `${calls[call].text} ${next.outcome}` });
+    if (call === undefined) {
+      cells.push({ agent, text: `${GOES_ON} ${outcome}${lineText(event)}`, isOpen: false });
+    } else if (next?.agent === agent && next.outcome !== undefined) {
+      cells.push({ agent, text: `${calls[call].text} ${next.outcome}${lineText(next)}`, isOpen: false });
       at += 1;
-    } else cells.push({ agent, text: calls[call].text });
+    } else cells.push({ agent, text: `${calls[call].text}${lineText(event)}`, isOpen: true });
   }
   return cells;
 }
@@ -44,12 +49,10 @@ export function historyTable(calls, events) {
   const line = (row) => row.map((text, at) => text.padEnd(widths[at])).join("  ").trimEnd();
   /** @type {Set<number>} */
   const open = new Set();
-  const rows = cells.map(({ agent, text }) => {
-    const row = agents.map((each) => (each === agent ? text : open.has(each) ? GOES_ON : ""));
-    const isOver = text.startsWith(GOES_ON) || calls.every((call) => call.text !== text);
-    if (isOver) open.delete(agent);
-    else open.add(agent);
-    return row;
+  const rows = cells.map(({ agent, isOpen, text }) => {
+    if (isOpen) open.add(agent);
+    else open.delete(agent);
+    return agents.map((each) => (each === agent ? text : open.has(each) ? GOES_ON : ""));
   });
   return [titles, ...rows].map(line);
 }

@@ -4,8 +4,8 @@
 import { NOT_JUDGED, NO_ORDER } from "./monitor.mjs";
 import { historyTable } from "./history-table.mjs";
 
-/** @typedef {{ agent: number, call: number, outcome?: undefined }} BeginEvent */
-/** @typedef {{ agent: number, call?: undefined, outcome: string }} EndEvent */
+/** @typedef {{ agent: number, call: number, outcome?: undefined, line?: string }} BeginEvent */
+/** @typedef {{ agent: number, call?: undefined, outcome: string, line?: string }} EndEvent the line of its last act */
 /** @typedef {BeginEvent | EndEvent} HistoryEvent */
 
 /**
@@ -96,7 +96,8 @@ export function verdictOf(object, events, ending) {
   if (ending === "limit") return undefined;
   const waiting = [...openIn(events).values()].map((call) => calls[call]);
   const who = waiting.map(({ text }) => text).join(" and ");
-  const detail = [`${who} ${waiting.length === 1 ? "waits" : "wait"} ${LOST}`, ...historyTable(calls, events)].join("\n");
+  const what = `${who} ${waiting.length === 1 ? "waits" : "wait"} ${LOST}`;
+  const detail = [what, ...historyTable(calls, events)].join("\n");
   const names = [...new Set(waiting.map(({ name }) => `\`${name}\``))].sort().join(" and ");
   return { ending: "lost wake-up", detail, about: `${names} could go on, and waits for ever` };
 }

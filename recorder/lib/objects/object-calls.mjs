@@ -16,7 +16,15 @@ import { outcomeText, spelled } from "./outcome-text.mjs";
  * @property {string} text the call, as it is shown
  */
 
-/** @typedef {{ name: string, args: unknown[][], run?: Function, after: string[], agents?: number[], mayFail?: string }} Entry */
+/**
+ * @typedef {object} OperationEntry an operation, as `operations` has it
+ * @property {string} name
+ * @property {unknown[][]} args of each of its calls
+ * @property {Function} [run]
+ * @property {string[]} after
+ * @property {number[]} [agents]
+ * @property {string} [mayFail]
+ */
 
 const { Error: EngineError } = globalThis;
 
@@ -76,7 +84,7 @@ function agentsIn(name, agents) {
   return agents;
 }
 
-/** @param {string} name @param {any} given what `operations` has for the name @returns {Entry} */
+/** @param {string} name @param {any} given what `operations` has for the name @returns {OperationEntry} */
 function entryOf(name, given) {
   if (isArray(given)) return { name, args: argumentsIn(name, given), after: [] };
   if (typeof given !== "object" || given === null) return refuse(name, "must have a list of calls, as [1, 2]");
@@ -95,7 +103,11 @@ function entryOf(name, given) {
   };
 }
 
-/** @param {Entry[]} entries @param {Entry} entry @returns {number[]} the positions of those that come after it */
+/**
+ * @param {OperationEntry[]} entries
+ * @param {OperationEntry} entry
+ * @returns {number[]} the positions of those that come after it
+ */
 function freedBy(entries, { name }) {
   /** @type {number[]} */
   const freed = [];
@@ -121,7 +133,7 @@ function argumentText(value) {
   }
 }
 
-/** @param {Entry[]} entries each operation needs those that come before it */
+/** @param {OperationEntry[]} entries each operation needs those that come before it */
 function needNames(entries) {
   /** @type {string[]} */
   const names = [];
@@ -145,7 +157,7 @@ export function callsOf(operations) {
   }
   const names = ownKeys(operations);
   if (names.length === 0) throw new EngineError(`\`operations\` names no method: give some, ${EXAMPLE}`);
-  /** @type {Entry[]} */
+  /** @type {OperationEntry[]} */
   const entries = [];
   for (let at = 0; at < names.length; at += 1) {
     const name = names[at];
@@ -156,7 +168,7 @@ export function callsOf(operations) {
   return callsIn(entries);
 }
 
-/** @param {Entry[]} entries @returns {ObjectCall[]} */
+/** @param {OperationEntry[]} entries @returns {ObjectCall[]} */
 function callsIn(entries) {
   /** @type {ObjectCall[]} */
   const calls = [];

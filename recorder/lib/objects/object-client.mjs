@@ -49,21 +49,22 @@ function allowedOf({ calls, isAlone }, free, given) {
 }
 
 /** @param {ObjectUse} use @param {any} object @param {OperationMarks} marks */
-function needMethods({ calls }, object, marks) {
+function needMethods({ calls, isModel }, object, marks) {
   for (let at = 0; at < calls.length; at += 1) {
     const { name, run } = calls[at];
-    if (run === undefined && typeof object[name] !== "function") marks.lacks(name);
+    if ((isModel || run === undefined) && typeof object[name] !== "function") marks.lacks(name);
   }
 }
 
 /**
- * An operation of the object.
+ * An operation of the object, or of its model, which has a method for each.
  * @param {any} object
  * @param {import("./object-calls.mjs").ObjectCall} call
+ * @param {boolean} isModel
  * @returns {unknown}
  */
-function made(object, { args, name, run }) {
-  if (run !== undefined) return run(object, ...args);
+function made(object, { args, name, run }, isModel) {
+  if (run !== undefined && !isModel) return run(object, ...args);
   const method = object[name];
   return method.call(object, ...args);
 }
@@ -92,7 +93,7 @@ export function clientOf(use) {
       let hasThrown = false;
       marks.begins(number);
       try {
-        value = made(object, call);
+        value = made(object, call, isModel);
       } catch (error) {
         value = error;
         hasThrown = true;

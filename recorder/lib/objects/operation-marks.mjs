@@ -6,7 +6,7 @@ import { NoOutcome, outcomeText } from "./outcome-text.mjs";
  * @typedef {object} TakesMarks what is done with the marks
  * @property {(name: string) => void} lacks as `OperationMarks` has it
  * @property {(call: number) => void} begins
- * @property {(outcome: string) => void} ends
+ * @property {(outcome: string, thrown: unknown) => void} ends also gets what was thrown, if something was
  * @property {(what: string, call: number) => void} refuse a call has returned something with which nothing can be
  * compared
  */
@@ -25,7 +25,7 @@ export function marksBy(takes) {
   const ends = (/** @type {unknown} */ value, /** @type {boolean} */ hasThrown) => {
     const { outcome, refused } = outcomeOf(value, hasThrown);
     if (outcome === undefined) takes.refuse(refused, last);
-    else takes.ends(outcome);
+    else takes.ends(outcome, hasThrown ? value : undefined);
   };
   return { lacks, begins, ends };
 }

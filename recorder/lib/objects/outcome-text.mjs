@@ -3,7 +3,9 @@
 // their classes. It runs beside the agents' code, so it uses functions that were kept before, and calls no getter.
 
 import { types } from "node:util";
-import { getOwnPropertyDescriptor, getPrototypeOf, is, isArray, ownKeys, stringify, uncurried } from "../primordials.mjs";
+import {
+  getOwnPropertyDescriptor, getPrototypeOf, is, isArray, ownKeys, stringify, uncurried,
+} from "../primordials.mjs";
 
 const {
   isAnyArrayBuffer, isArrayBufferView, isBoxedPrimitive, isDate, isMap, isNativeError, isPromise, isProxy, isRegExp,
@@ -97,7 +99,8 @@ function entriesOf(object, around) {
 function whatItIs(object) {
   if (isPromise(object)) return "a promise";
   // Views of recorded memory are proxies here.
-  if (isProxy(object) || isArrayBufferView(object) || isAnyArrayBuffer(object)) return "a buffer, a view of one or a proxy";
+  const isView = isProxy(object) || isArrayBufferView(object) || isAnyArrayBuffer(object);
+  if (isView) return "a buffer, a view of one or a proxy";
   return isWeakMap(object) || isWeakSet(object) ? "a weak collection" : undefined;
 }
 
@@ -119,7 +122,9 @@ function insideOf(object) {
 
 /** @param {object} object @param {object[]} around @returns {string} */
 function objectText(object, around) {
-  for (let at = 0; at < around.length; at += 1) if (around[at] === object) return `<the object ${around.length - at} out>`;
+  for (let at = 0; at < around.length; at += 1) {
+    if (around[at] === object) return `<the object ${around.length - at} out>`;
+  }
   const what = whatItIs(object);
   if (what !== undefined) return refuse(what);
   const deeper = [];
@@ -169,7 +174,10 @@ function memberOf(object, name) {
 /** @param {unknown} thrown @returns {string} an error by its name and message, and anything else as a result */
 function thrownText(thrown) {
   if (typeof thrown !== "object" || thrown === null || !isNativeError(thrown)) return spelled(thrown);
-  const [name, message] = [memberOf(thrown, "name"), memberOf(thrown, "message")];
+  const name = memberOf(thrown, "name");
+  // The message of an `assert(x)` without a text is made of the code there, which may have been rewritten.
+  const quotes = memberOf(thrown, "generatedMessage") === true && memberOf(thrown, "operator") === "==";
+  const message = quotes ? "" : memberOf(thrown, "message");
   return `${typeof name === "string" ? name : "Error"}: ${typeof message === "string" ? message : ""}`;
 }
 

@@ -28,6 +28,9 @@ import { OTHER_INPUT } from "./words/summary-words.mjs";
  * @property {boolean} isFirst whether it may be the first failing run
  */
 
+/** The detail of a run that ends so has its operations with their lines. */
+const OF_HISTORIES = new Set(["not linearizable", "lost wake-up"]);
+
 const ANOTHER_WAY = "the run went another way when it was made once more to learn its lines of code";
 const BY_AGENTS = "its agents do something else then, as if a module keeps something in its own variables";
 
@@ -344,13 +347,14 @@ function endOf({ ending, races, detail: known }, found) {
 }
 
 /**
- * A run that was made once more and noted its lines may know more about how it ended: where an await is.
+ * A run that was made once more and noted its lines may know more about how it ended: where an await is, or where
+ * operations of an object are.
  * @param {Outcome} outcome
  * @param {{ detail: string }} again
  * @returns {string} the detail of the outcome
  */
 const learnedDetail = ({ ending, detail }, again) =>
-  (ending === "failed" && again.detail.startsWith(detail) ? again.detail : detail);
+  (OF_HISTORIES.has(ending) || (ending === "failed" && again.detail.startsWith(detail)) ? again.detail : detail);
 
 /** @param {RunResult} found @returns {import("./outcome.mjs").Aside} */
 const asideOf = ({ waiting, divergence, choices }) =>

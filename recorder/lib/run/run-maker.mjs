@@ -7,6 +7,7 @@ import { NOBODY, ORDER } from "../memory/layout.mjs";
 import { OperationList } from "../memory/operation-list.mjs";
 import { RecordedMemory } from "../memory/recorded-memory.mjs";
 import { Notes } from "../memory/notes.mjs";
+import { Sources } from "../memory/sources.mjs";
 import { agentsState } from "./agents-state.mjs";
 import { historyOf } from "./ending/run-history.mjs";
 import { initialStores } from "./initial.mjs";
@@ -99,6 +100,7 @@ export class RunMaker {
     this.notes = memory.notes.map((each) => new Notes(each));
     this.choices = memory.choices.map((each) => new Choices(each));
     this.operations = memory.operations?.map((each) => new OperationList(each));
+    this.sources = memory.sources.map((each) => new Sources(each));
     this.agents = plan.canBlock.map((_, agent) => agent);
     /** @type {import("./agents-state.mjs").RunState} */
     this.state = State === undefined ? agentsState(this.memory, this.agents)
@@ -173,6 +175,13 @@ export class RunMaker {
     return found.racy && races === "fail" ? { ...found, ending: "race" } : found;
   }
 
+  /** @param {number} agent @param {number} event of the log @returns {string | undefined} its line, if it was noted */
+  #lineOf(agent, event) {
+    const { log, sourceNames, sources } = this;
+    const number = log.sourceAt(event);
+    return number === 0 ? undefined : sourceNames.nameOf(sources[agent].list()[number]);
+  }
+
   /**
    * @param {RunResult} found
    * @returns {Promise<import("../objects/history.mjs").Verdict | undefined>} what the history of a run of an object
@@ -181,7 +190,7 @@ export class RunMaker {
   async #verdict({ ending }) {
     const { log, operations } = this;
     if (operations === undefined || ending === "failed") return undefined;
-    const events = historyOf(operations.map((each) => each.read()), log);
+    const events = historyOf(operations.map((each) => each.read()), log, this.#lineOf.bind(this));
     return (await this.#answered({ history: { events, ending } })).verdict;
   }
 

@@ -15,7 +15,7 @@ import { RunFailed } from "./run-failed.cjs";
  */
 export async function everyTried(options, caller) {
   const { signal, ...taken } = everyOptions(options, caller.folder);
-  const data = dataOf(await new EveryUse(taken, { signal, job: jobHere(taken) }).run());
+  const data = dataOf(await new EveryUse(taken, { signal, job: jobHere(taken), isBrief: true }).run());
   const text = everyText(data).trimEnd();
   if (!data.isWhole || data.found.length > 0) throw new RunFailed(text, caller.place);
   return text;

@@ -1,4 +1,4 @@
-// Tests of modules of agents and of whole programs, for node's own test runner and for others.
+// Tests of modules of agents and of objects, and of whole programs, for node's own test runner and for others.
 
 import { callerOf } from "../library/caller.cjs";
 import { nodeTest } from "./node-test.cjs";
@@ -24,6 +24,26 @@ export function testAgents(name, options) {
  */
 export async function assertAgents(options) {
   await tried(options, callerOf(assertAgents));
+}
+
+/**
+ * A test of node:test that has agents try the operations of an object, under the schedules of many seeds, up to the
+ * first run that fails.
+ * @param {string} name
+ * @param {TrialOptions} options
+ * @returns {Promise<void>} as `test` of node:test returns it
+ */
+export function testObject(name, options) {
+  return nodeTest("testObject", "assertObject")(name, {}, bodyOf(name, options, callerOf(testObject)));
+}
+
+/**
+ * Has agents try the operations of an object in the same way, as a part of any test.
+ * @param {TrialOptions} options
+ * @returns {Promise<void>} fails with RunFailed if a run fails
+ */
+export async function assertObject(options) {
+  await tried(options, callerOf(assertObject));
 }
 
 /**

@@ -15,13 +15,15 @@ import { fileIn, moduleOf, temporaryFolder } from "../helpers/common.mjs";
 /** @param {string} name of an example's module of an object */
 const example = (name) => fileURLToPath(new URL(`../../examples/${name}.object.mjs`, import.meta.url));
 
+const OBJECT = new URL("../../object.mjs", import.meta.url);
+
 /**
  * The text of a module of an object, which has words.
  * @param {string} members of its class
  * @param {string} operations
  * @param {string} [more] lines behind it
  */
-const objectOf = (members, operations, more = "") => `import { blocked } from "${new URL("../../object.mjs", import.meta.url)}";
+const objectOf = (members, operations, more = "") => `import { blocked } from "${OBJECT}";
 class Tried { constructor(buffer) { this.w = new Int32Array(buffer); } ${members} }
 export const setup = { buffers: [16] };
 export const object = ({ buffers }) => new Tried(buffers[0]);
@@ -39,7 +41,13 @@ const learned = (context, text, more = {}) => learnApart({
 const foundIn = ({ findings }) => findings.map(({ kind, text }) => `${kind}: ${text.split("\n")[0]}`);
 
 const LOCK = "lock() { while (Atomics.compareExchange(this.w, 0, 0, 1) !== 0) Atomics.wait(this.w, 0, 1); }";
+const SPINS = "lock() { while (Atomics.exchange(this.w, 0, 1) !== 0); }";
 const NOTIFIES = "unlock() { Atomics.store(this.w, 0, 0); Atomics.notify(this.w, 0, 1); }";
+const WEAK = `push() { Atomics.add(this.w, 0, 1); }
+  tryPop() {
+    const n = Atomics.load(this.w, 0);
+    return n > 0 && Atomics.compareExchange(this.w, 0, n, n - 1) === n ? n : undefined;
+  }`;
 const OF_LOCK = 'lock: [], unlock: { after: "lock" }';
 
 describe("every use by two agents with up to two operations each", () => {
@@ -49,12 +57,14 @@ describe("every use by two agents with up to two operations each", () => {
       objectOf(`${LOCK} unlock() { Atomics.store(this.w, 0, 0); }`, OF_LOCK),
       ["lost wake-up: lock() waits for ever, and in every order that fits some operation that waits could go on"]],
     ["of a lock that spins, and is never free again, is found too",
-      objectOf("lock() { while (Atomics.exchange(this.w, 0, 1) !== 0); } unlock() { Atomics.store(this.w, 0, 2); }", OF_LOCK,
-        "export class Model { h = false; lock() { if (this.h) return blocked; this.h = true; } unlock() { this.h = false; } }"),
+      objectOf(`${SPINS} unlock() { Atomics.store(this.w, 0, 2); }`, OF_LOCK, `export class Model {
+        held = false;
+        lock() { if (this.held) return blocked; this.held = true; }
+        unlock() { this.held = false; }
+      }`),
       ["lost wake-up: lock() waits for ever, and in every order that fits some operation that waits could go on"]],
     ["of a lock that spins is right",
-      objectOf("lock() { while (Atomics.exchange(this.w, 0, 1) !== 0); } unlock() { Atomics.store(this.w, 0, 0); }", OF_LOCK),
-      []],
+      objectOf(`${SPINS} unlock() { Atomics.store(this.w, 0, 0); }`, OF_LOCK), []],
     ["of a counter by load and store isn't linearizable",
       objectOf("add() { const n = Atomics.load(this.w, 0); Atomics.store(this.w, 0, n + 1); return n; }", "add: []"),
       ["not linearizable: add() returns 0, and in every order that fits it returns 1"]],
@@ -65,11 +75,7 @@ describe("every use by two agents with up to two operations each", () => {
       ["not linearizable: next() returns 1, and in every order that fits it returns 2"]],
     ["that throws as it does alone is right, and is named",
       objectOf("fail() { Atomics.load(this.w, 0); throw new RangeError('no'); }", "fail: []"), []],
-    ["may fail where that is said", objectOf(
-      `push() { Atomics.add(this.w, 0, 1); }
-       tryPop() { const n = Atomics.load(this.w, 0);
-         return n > 0 && Atomics.compareExchange(this.w, 0, n, n - 1) === n ? n : undefined; }`,
-      "push: [], tryPop: { mayFail: undefined }"), []],
+    ["may fail where that is said", objectOf(WEAK, "push: [], tryPop: { mayFail: undefined }"), []],
   ])) {
     test(what, async (context) => {
       const report = await learned(context, text);
@@ -78,17 +84,15 @@ describe("every use by two agents with up to two operations each", () => {
   }
 
   test("that may fail, but isn't said to, isn't linearizable", async (context) => {
-    const report = await learned(context, objectOf(
-      `push() { Atomics.add(this.w, 0, 1); }
-       tryPop() { const n = Atomics.load(this.w, 0);
-         return n > 0 && Atomics.compareExchange(this.w, 0, n, n - 1) === n ? n : undefined; }`, "push: [], tryPop: []"));
-    assert.match(foundIn(report).join("\n"), /^not linearizable: tryPop\(\) returns undefined, and in every order that fits/);
+    const report = await learned(context, objectOf(WEAK, "push: [], tryPop: []"));
+    assert.match(foundIn(report).join("\n"), /^not linearizable: tryPop\(\) returns undefined, and in every order/);
   });
 
   test("a model's counts, and what always throws alone, are reported", async (context) => {
     const { object } = await learned(context,
       objectOf("fail() { Atomics.load(this.w, 0); throw new RangeError('no'); }", "fail: []"));
-    assert.deepEqual([object?.hasModel, object?.alwaysThrow, object?.modelStates, object?.notJudged], [false, ["fail"], 1, 0]);
+    const { alwaysThrow, hasModel, modelStates, notJudged } = /** @type {any} */ (object);
+    assert.deepEqual([hasModel, alwaysThrow, modelStates, notJudged], [false, ["fail"], 1, 0]);
   });
 });
 
@@ -96,11 +100,15 @@ describe("a module that can't be tried is refused", () => {
   for (const [what, text, why] of /** @type {[string, string, RegExp][]} */ ([
     ["if it names no method", objectOf("push() {}", "pushh: []"),
       /names `pushh`, and the object has no such method, at agents\.mjs:5/],
+    ["if its model has no method for it", objectOf("push() {}", "push: []", "export class Model { pop() {} }"),
+      /names `push`, and `Model` has no such method, at agents\.mjs:5/],
     ["if an operation returns a promise", objectOf("async push() { Atomics.load(this.w, 0); }", "push: []"), /promise/],
-    ["if it returns a view", objectOf("view() { return this.w; }", "view: []"), /view\(\) returns a buffer, a view of one or a proxy.*, at agents\.mjs:5/],
+    ["if it returns a view", objectOf("view() { return this.w; }", "view: []"),
+      /view\(\) returns a buffer, a view of one or a proxy.*, at agents\.mjs:5/],
     ["if it returns a function", objectOf("fn() { return () => 1; }", "fn: []"), /returns a function/],
-    ["if its model looks at a clock", objectOf("push() { return 1; }", "push: []",
-      "export class Model { push() { return Date.now() > 5 ? 1 : 2; } }"), /`Model` looks at a clock, at agents\.mjs:7:\d+/],
+    ["if its model looks at a clock",
+      objectOf("push() { return 1; }", "push: []", "export class Model { push() { return Date.now() > 5 ? 1 : 2; } }"),
+      /`Model` looks at a clock, at agents\.mjs:7:\d+/],
     ["if its model draws a random number", objectOf("push() { return 1; }", "push: []",
       "export class Model { push() { return Math.random() > 0.5 ? 1 : 2; } }"), /`Model` looks at chance, at/],
     ["if its operations are none", objectOf("push() {}", "push: 1"), /the operation `push` must have a list of calls/],
@@ -141,7 +149,10 @@ describe("the examples", () => {
     assert.deepEqual([done.status, done.stderr], [1, ""]);
     assert.match(done.stdout, /^not linearizable: 2 agents, 3 operations; shown by \d+ acts with 1 change of agents\n/);
     assert.match(done.stdout, /\n {2}tryTake\(\) returns undefined, and in every order that fits it returns [12]\n/);
-    assert.match(done.stdout, /\n {2}\.\. {2,}tryPut\([12]\) returns true\n {2}\.\. {2,}tryTake\(\) returns undefined\n/);
+    const lines = done.stdout.split("\n").map((line) => line.trim());
+    assert.match(lines[3], /^tryPut\([12]\), at sequence-queue\.mjs:31:39$/);
+    assert.match(lines[4], /^\.\. {2,}tryPut\([12]\) returns true, at sequence-queue\.mjs:33:15$/);
+    assert.match(lines[5], /^\.\. {2,}tryTake\(\) returns undefined, at sequence-queue\.mjs:43:32$/);
     assert.ok(existsSync(join(out, "all-1.html")));
     const replayed = await commandHere([module, "--agents", "2", "--each", "2", "--replay", join(out, "all-1.json")]);
     assert.deepEqual([replayed.status, replayed.stderr], [1, ""]);
@@ -149,7 +160,8 @@ describe("the examples", () => {
   });
 
   test("the queue of one producer and one consumer is right", async () => {
-    const done = await commandHere([example("bounded-queue"), "--all", "--agents", "2", "--each", "2", "--seeds", "1..10"]);
+    const words = ["--all", "--agents", "2", "--each", "2", "--seeds", "1..10"];
+    const done = await commandHere([example("bounded-queue"), ...words]);
     assert.deepEqual([done.status, done.stderr], [0, ""]);
     const title = "every use by 2 agents with up to 2 operations each was tried under every schedule: all are "
       + "linearizable, and no wake-up is lost (`Model` says what is right)\n";
@@ -170,6 +182,6 @@ describe("the examples", () => {
 
 /** @param {string} folder @returns {string} the name of the run that is kept there */
 function kept(folder) {
-  const seed = Array.from({ length: 40 }, (_, at) => at + 1).find((one) => existsSync(join(folder, `seed-${one}.html`)));
-  return `seed-${seed}`;
+  const names = Array.from({ length: 40 }, (_, at) => `seed-${at + 1}`);
+  return names.find((name) => existsSync(join(folder, `${name}.html`))) ?? "none";
 }

@@ -19,21 +19,33 @@ describe("the calls of `operations`", () => {
   });
 
   test("an operation after others is bound, and they free it", () => {
-    const calls = callsOf({ lock: [], tryLock: [], unlock: { after: ["lock", "tryLock"], agents: [1], mayFail: false } });
+    const unlock = { after: ["lock", "tryLock"], agents: [1], mayFail: false };
+    const calls = callsOf({ lock: [], tryLock: [], unlock });
     assert.deepEqual(calls.map(({ isBound, frees }) => [isBound, frees]), [[false, [2]], [false, [2]], [true, []]]);
     assert.deepEqual([calls[2].agents, calls[2].mayFail, calls[0].mayFail], [[1], "returns false", undefined]);
     assert.equal(callsOf({ pop: { mayFail: undefined } })[0].mayFail, "returns undefined");
   });
 
   for (const [operations, why] of /** @type {[unknown, RegExp][]} */ ([
-    [undefined, /must be an object/], [[], /must be an object/], [{}, /names no method/], [{ push: 1 }, /list of calls/],
+    [undefined, /must be an object/], [[], /must be an object/], [{}, /names no method/],
+    [{ push: 1 }, /list of calls/],
     [{ push: { run: 1 } }, /`run` that is no function/], [{ push: { arg: [] } }, /has a member arg/],
-    [{ push: { after: 1 } }, /name of another operation/], [{ push: { after: "lock" } }, /`lock`, which is no operation/],
+    [{ push: { after: 1 } }, /name of another operation/],
+    [{ push: { after: "lock" } }, /`lock`, which is no operation/],
     [{ push: { agents: 0 } }, /list of agents/], [{ push: { agents: [-1] } }, /no number/],
     [{ push: { args: 1 } }, /list of calls/], [{ [Symbol.iterator]: [] }, /no symbol/],
     [{ push: Array.from({ length: 1_001 }, (_, at) => at) }, /1000 are the most/],
   ])) test(`${why} is said`, () => assert.throws(() => callsOf(operations), why));
 });
+
+/** @param {() => void} body @returns {unknown} what it throws */
+function thrownBy(body) {
+  try {
+    return body();
+  } catch (error) {
+    return error;
+  }
+}
 
 class Pair {
   constructor(/** @type {unknown} */ one) {
@@ -47,8 +59,9 @@ CYCLE.push(CYCLE);
 
 const VALUES = [
   undefined, null, true, 0, -0, NaN, 1, "1", 1n, "", [], [undefined], [,], [1, [2]], {}, { a: 1 }, { a: undefined },
-  { b: 2, a: 1 }, { a: 1, b: 2 }, new Map([[1, 2]]), new Map([[2, 1], [1, 2]]), new Map([[1, 2], [2, 1]]), new Set([1, 2]),
-  new Set([2, 1]), new Set(["1"]), new Pair(1), new Pair(2), { one: 1 }, new Date(5), new Date(6), /a/g, /a/, CYCLE,
+  { b: 2, a: 1 }, { a: 1, b: 2 }, new Map([[1, 2]]), new Map([[2, 1], [1, 2]]), new Map([[1, 2], [2, 1]]),
+  new Set([1, 2]), new Set([2, 1]), new Set(["1"]), new Pair(1), new Pair(2), { one: 1 }, new Date(5), new Date(6),
+  /a/g, /a/, CYCLE,
   Object.create(null), new Error("a"), new TypeError("a"), new Error("b"), Object(1), Object("1"), Symbol.for("a"),
   Object.assign([1], { more: 2 }),
 ];
@@ -57,8 +70,8 @@ describe("the text of an outcome", () => {
   test("two results have one exactly if they are equal by their structure", () => {
     for (const one of VALUES) {
       for (const other of VALUES) {
-        const areSame = outcomeText(one, false) === outcomeText(other, false);
-        assert.equal(areSame, isDeepStrictEqual(one, other), `${outcomeText(one, false)}, ${outcomeText(other, false)}`);
+        const texts = [one, other].map((value) => outcomeText(value, false));
+        assert.equal(texts[0] === texts[1], isDeepStrictEqual(one, other), texts.join(", "));
       }
     }
   });
@@ -66,6 +79,7 @@ describe("the text of an outcome", () => {
   test("an error goes by its name and its message, and the result of a model that waits is told apart", () => {
     assert.equal(outcomeText(new RangeError("too far"), true), "throws RangeError: too far");
     assert.equal(outcomeText(5, true), "throws 5");
+    assert.match(outcomeText(thrownBy(() => assert(1 > 2)), true), /^throws AssertionError: $/);
     assert.equal(outcomeText(blocked, false), "has to wait");
   });
 

@@ -37,7 +37,8 @@ class Box {
 export const object: ObjectMaker<Box> = ({ buffers }) => (buffers.length > 0 ? new Box() : new Box());
 const arrays: OperationArguments = [[1]];
 const taken: Operation<Box> = { args: [arrays], run: (box, value) => box.put(value), after: "put", agents: [0] };
-export const operations: Operations<Box> = { put: [1, 2], taken, often: { after: ["put", "taken"], mayFail: undefined } };
+const often: Operation = { after: ["put", "taken"], mayFail: undefined };
+export const operations: Operations<Box> = { put: [1, 2], taken, often };
 export class Model {
   put(value: number): boolean | typeof blocked {
     return value > 0 ? true : blocked;

@@ -188,7 +188,8 @@ export class Findings {
     const events = this.#historyOf(kind, way);
     const operations = events.filter(({ call }) => call !== undefined).length;
     const { object } = this.learned;
-    const said = object === undefined || operations === 0 ? text : verdictOf(object, events, "deadlock")?.detail ?? text;
+    const verdict = object === undefined ? undefined : verdictOf(object, events, "deadlock");
+    const said = operations === 0 ? text : verdict?.detail ?? text;
     return { kind, text: said, states, ...moves, isEarly, goesOn, spins, operations };
   }
 

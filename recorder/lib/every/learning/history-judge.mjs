@@ -41,7 +41,7 @@ export class HistoryJudge {
     const { module, seconds, thread } = this;
     const answered = await within(thread.next(), seconds);
     if (answered === undefined) {
-      throw new Refused(`${module}: what is right of the object wasn't found within ${seconds} s, used by one agent alone`);
+      throw new Refused(`${module}: what the object does, used by one agent alone, wasn't found within ${seconds} s`);
     }
     const { message, ended } = answered;
     if (ended !== undefined) throw new Refused(`${module}: the thread that judges histories ended (${ended})`);

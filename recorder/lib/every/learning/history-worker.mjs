@@ -6,7 +6,6 @@ import { verdictOf } from "../../objects/history.mjs";
 import { Asker } from "./asking.mjs";
 import { loadCode } from "./learned-code.mjs";
 import { Learned } from "./learned.mjs";
-import { LooksAtClock } from "./learner.mjs";
 import { installRealm, installShown } from "./realm.mjs";
 
 /**
@@ -27,29 +26,20 @@ class Histories {
     installShown();
     const code = loadCode(module, this.asker, platform);
     this.learned = new Learned(code, this.asker, { ...wanted, limit: Infinity });
-    this.object = this.#anew();
+    /** @type {import("./learned.mjs").MonitoredObject | undefined} what is right, as far as it was asked for */
+    this.object = undefined;
   }
 
   /** @param {JudgedHistory} history @returns {import("../../objects/history.mjs").Verdict | undefined} */
   verdict({ events, ending }) {
-    try {
-      return verdictOf(this.object, events, ending);
-    } catch (why) {
-      if (!(why instanceof LooksAtClock)) throw why;
-      this.learned.hasClock = true;
-      this.object = this.#anew();
-      return verdictOf(this.object, events, ending);
-    }
-  }
-
-  /** @returns {import("./learned.mjs").MonitoredObject} */
-  #anew() {
-    try {
-      return this.learned.monitored();
-    } catch (why) {
-      if (!(why instanceof LooksAtClock)) throw why;
-      this.learned.hasClock = true;
-      return this.learned.monitored();
+    for (;;) {
+      try {
+        this.object ??= this.learned.monitored();
+        return verdictOf(this.object, events, ending);
+      } catch (why) {
+        this.learned.beginAgain(why);
+        this.object = undefined;
+      }
     }
   }
 }
@@ -70,7 +60,10 @@ export function main() {
     }
   };
   post(() => {
-    histories = new Histories({ module: given.module, args: given.args, place: given.place, timeouts: given.timeouts });
+    const { args, module, place, timeouts } = given;
+    histories = new Histories({ module, args, place, timeouts });
+    // A run without an operation: what can't be learned is refused at once.
+    histories.verdict({ events: [], ending: "finished" });
     return { ready: true };
   });
   port.on("message", (history) => post(() => ({ verdict: histories?.verdict(history) })));

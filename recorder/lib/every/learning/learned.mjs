@@ -92,7 +92,7 @@ export class Learned {
     const own = {
       agentNow: () => (isModel ? code.modelNow() : code.agentNow()), line: () => code.line(),
       place: () => code.place(), lineOfError, key, hasChanged: () => code.hasChanged(),
-      marks: code.isObject ? this.#marks() : undefined,
+      marks: code.isObject ? this.#marks(isModel && code.hasModel) : undefined,
     };
     const learner = new Learner(asker, agents, own);
     learner.hasClock = this.hasClock;
@@ -103,10 +103,13 @@ export class Learned {
     return learner;
   }
 
-  /** @returns {import("../../objects/object-client.mjs").OperationMarks} what the client of an object calls */
-  #marks() {
+  /**
+   * @param {boolean} isModel whether the client uses a class `Model`
+   * @returns {import("../../objects/object-client.mjs").OperationMarks} what it calls
+   */
+  #marks(isModel) {
     const { asker, code } = this;
-    const marks = learnedMarks(asker, code.url, () => code.calls());
+    const marks = learnedMarks(asker, code.url, () => code.calls(), isModel ? "`Model`" : "the object");
     const { names } = code.builtins;
     names.set(marks.lacks, "lacks").set(marks.begins, "begins").set(marks.ends, "ends");
     return marks;
@@ -147,13 +150,18 @@ export class Learned {
       try {
         return report(this.#search(isLate));
       } catch (why) {
-        this.#beginAgain(why);
+        this.beginAgain(why);
       }
     }
   }
 
-  /** @param {unknown} why the search ended before its end */
-  #beginAgain(why) {
+  /**
+   * Takes other agents for alike or unlike, or another state of agents for what they do: then all is to be learned from
+   * the beginning.
+   * @param {unknown} why what was learned can't be kept
+   * @throws it, if it is something else
+   */
+  beginAgain(why) {
     if (why instanceof AreUnlike) {
       this.unlike.add(why);
       return;

@@ -42,8 +42,8 @@ export const DONE = 0;
  * @property {number} at its first byte in the bytes of all blocks
  * @property {(number | bigint)[]} operands as the code gave them
  * @property {(number | bigint)[]} raw the same as elements, without a sign
- * @property {number | undefined} limit the timeout of a wait in milliseconds, the count of a notify, what a choice asks,
- * as `askedOf` has it, or which call of an object begins
+ * @property {number | undefined} limit the timeout of a wait in milliseconds, the count of a notify, what a choice
+ * asks, as `askedOf` has it, or which call of an object begins
  * @property {string | undefined} error what the call throws wherever it is made
  * @property {{ offset: number, length: number, index: number } | undefined} outside of a call that is at no element of
  * its array: what its array is, and the index

@@ -15,7 +15,11 @@ export function sourcesIn({ count: states, targets, starts }) {
   const sources = new Int32Array(targets.count);
   const next = begins.slice();
   for (let state = 0; state < states; state += 1) {
-    for (let at = starts.items[state]; at < starts.items[state + 1]; at += 1) sources[next[targets.items[at]]++] = state;
+    for (let at = starts.items[state]; at < starts.items[state + 1]; at += 1) {
+      const target = targets.items[at];
+      sources[next[target]] = state;
+      next[target] += 1;
+    }
   }
   return { begins, sources };
 }

@@ -7,9 +7,17 @@ import { READ } from "../../memory/log.mjs";
 /** @typedef {import("../../memory/log.mjs").Log} Log */
 /** @typedef {import("../../memory/operation-list.mjs").OperationMark} OperationMark */
 /** @typedef {import("../../objects/history.mjs").HistoryEvent} HistoryEvent */
-/** @typedef {{ at: number, order: number, event: HistoryEvent }} PlacedEvent */
 
-/** Where the log's event is to which an operation that makes no act comes before. */
+/**
+ * @typedef {object} PlacedEvent
+ * @property {number} at where the log has the act
+ * @property {HistoryEvent} event
+ * @property {number[]} calls where the log has all acts of the operation
+ */
+
+/** @typedef {(agent: number, event: number) => string | undefined} LineOf the line of a call in the log, if known */
+
+/** An operation without an act comes just before an event of the log. */
 const BETWEEN = 0.5;
 
 /** @param {Log} log @returns {number[][]} of each agent where its calls are in the log */
@@ -26,11 +34,11 @@ function callsIn(log) {
 
 /**
  * @param {OperationMark[]} marks of an agent
- * @param {number[]} calls where its own are in the log
+ * @param {number[]} all where its calls are in the log
  * @param {number} agent
  * @returns {PlacedEvent[]}
  */
-function placed(marks, calls, agent) {
+function placed(marks, all, agent) {
   /** @type {PlacedEvent[]} */
   const events = [];
   for (let at = 0; at < marks.length; at += 1) {
@@ -38,26 +46,41 @@ function placed(marks, calls, agent) {
     if (!("call" in mark)) continue;
     const next = marks[at + 1];
     const ends = next !== undefined && "outcome" in next ? next : undefined;
-    const own = calls.filter((call) => call >= mark.event && (ends === undefined || call < ends.event));
+    const calls = all.filter((call) => call >= mark.event && (ends === undefined || call < ends.event));
     // An operation that is open and has made no act hasn't begun.
-    if (own.length === 0 && ends === undefined) continue;
+    if (calls.length === 0 && ends === undefined) continue;
     const between = mark.event - BETWEEN;
-    events.push({ at: own[0] ?? between, order: 0, event: { agent, call: mark.call } });
+    events.push({ at: calls[0] ?? between, event: { agent, call: mark.call }, calls });
     if (ends === undefined) continue;
-    events.push({ at: own.at(-1) ?? between, order: 1, event: { agent, outcome: ends.outcome } });
+    events.push({ at: calls.at(-1) ?? between, event: { agent, outcome: ends.outcome }, calls });
   }
   return events;
+}
+
+/** @param {HistoryEvent} event @returns {number} of one operation's events at one act the beginning comes first */
+const orderOf = ({ call }) => Number(call === undefined);
+
+/**
+ * @param {PlacedEvent} placed
+ * @param {PlacedEvent | undefined} next
+ * @param {LineOf} lineOf
+ * @returns {HistoryEvent} with the line of the operation's last act before the next event
+ */
+function withLine({ event, calls }, next, lineOf) {
+  const last = calls.filter((call) => event.call === undefined || next === undefined || call < next.at).at(-1);
+  const line = last === undefined ? undefined : lineOf(event.agent, last);
+  return line === undefined ? event : { ...event, line };
 }
 
 /**
  * @param {OperationMark[][]} marks of each agent
  * @param {Log} log
+ * @param {LineOf} lineOf
  * @returns {HistoryEvent[]}
  */
-export function historyOf(marks, log) {
+export function historyOf(marks, log, lineOf) {
   const calls = callsIn(log);
-  const events = marks.flatMap((own, agent) => placed(own, calls[agent] ?? [], agent));
-  return events
-    .sort((one, other) => one.at - other.at || one.event.agent - other.event.agent || one.order - other.order)
-    .map(({ event }) => event);
+  const events = marks.flatMap((own, agent) => placed(own, calls[agent] ?? [], agent)).sort((one, other) =>
+    one.at - other.at || one.event.agent - other.event.agent || orderOf(one.event) - orderOf(other.event));
+  return events.map((one, at) => withLine(one, events[at + 1], lineOf));
 }
