@@ -35,7 +35,7 @@ const CALLS = [
   (one) => `(Atomics.wait(words, ${one.word()}, ${one.below(2)}, 10) === "timed-out" ? 1 : 0)`,
   (one) => `Atomics.notify(words, ${one.word()}${one.of(["", ", 1", ", 0"])})`,
   (one) => `new Word(words, ${one.word()}).${one.of(["value", "bump()", "bump(2)", "take()"])}`,
-  (one) => `(new Word(words, ${one.word()}).value${one.of(["++", "--", ` = ${one.below(4)}`])})`,
+  (one) => `(new Word(words, ${one.word()}).value${one.of(["++", "--", ` = ${one.below(4)}`, " += 1"])})`,
   (one) => `(({ value, k = value }) => k)(new Word(words, ${one.word()}))`,
   (one) => `new Set(new Steps(words, ${1 + one.below(2)})).size`,
   () => "Number(Atomics.add(wide, 2, 1n))", () => "Atomics.add(bytes, 11, 1)",
@@ -59,6 +59,8 @@ const EXPRESSIONS = [
   (one, depth) => `((a = ${one.expression(depth)}, b = ${one.expression(depth)}, c = a) => (a * 2 + b + c) & 7)`
     + `(${one.of(["", one.name(), `undefined, ${one.name()}`])})`,
   (one, depth) => `"ab".replace(/[ab]/g, (c, at) => (at + ${one.expression(depth)}) & 3).length`,
+  (one, depth) => `(new (class${one.of(["", " extends Base"])} { n = ${one.expression(depth)}; #m = this.n + `
+    + `${one.expression(depth)}; get m() { return this.#m & 7; } })().m)`,
   (one, depth) => `new Sub(${one.expression(depth)}).value()`,
   (one, depth) => `Math.max(${one.expression(depth)}, ...[${one.expression(depth)}])`,
   (one, depth) => `(${one.name()}, ${one.expression(depth)})`,

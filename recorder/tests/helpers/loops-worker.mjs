@@ -182,7 +182,10 @@ function* sortsCompared({ sort, toSorted }) {
   }
 }
 
-/** What is looked for in a text. @type {any[]} */
+/**
+ * What is looked for in a text.
+ * @type {any[]}
+ */
 const PATTERNS = [
   "b", "", "ab", /a/g, /b(c)?/, /(?<x>[ab])(?<y>c)?/g, /$/g, /^/gm, /(?:)/gu, /[^c]/gy, /c/y, /\u{1f600}/gu, null, 5,
   { toString: () => "a" }, { [Symbol.replace]: () => "own" },

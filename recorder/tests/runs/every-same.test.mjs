@@ -158,6 +158,19 @@ const BODIES = {
     { const [[a, b]] = new Map([[4, 5]]); say(a, b); } { const [a, b] = it(1, 2, 3); const f = () => a + b; say(f()); }
     { class L extends Array { *[Symbol.iterator]() { yield 7; } } const l = L.of(1); const [a] = l; say(a); }
     for (const bad of [null, undefined, 5, {}]) try { const [a] = bad; say(a); } catch (e) { say(e.name); }`,
+  "fields of classes that call something": `
+    class A { a = say(1); b = this.a + say(2); #c = say(3); static s = say(4); d; e = () => say(this.#c);
+      f = class { static g = say(5); }; h = ((x) => x + this.a)(say(6)) }
+    class B extends A { k = say(new.target === undefined, typeof this.f); constructor(n) { super(); this.n = n; } }
+    class C extends B { l = super.toString === ({}).toString && say(7) } class D { m = say(this.constructor.name) }
+    class E { p = say(8); constructor({ q } = {}, r = say(9)) { this.q = q + r; } } class F extends D { o = say(10) }
+    say(new A(), new B(2), new C(3), new D(), new E({ q: 1 }), new F(), new A().e(), new A().f.name);
+    say([A, B, C, D, E, F].map((one) => [one.length, one.name]), Object.getOwnPropertyNames(D.prototype));
+    class G { z = (() => { throw new RangeError(say("z")); })(); y = say("never") }
+    try { new G(); } catch (e) { say(e.message); } try { D(); } catch (e) { say(e.message); }
+    say(Reflect.construct(D, [], F) instanceof F);
+    const o = { n: 1n, get k() { return say(this.n); }, set k(v) { this.n = say(v); }, t: "a" };
+    say(o.k += 2n, o.k **= 2n, o.t += say(1), o.k -= say(1n), (o.t += 1).length, o.n <<= 2n);`,
   "parameters with defaults and patterns": `
     const f = (a, /* , */ b = say(a), c = () => a + b, ...[]) => [a, b, c()];
     const g = (a, { b, c: d = say(b) }, e) => [a, b, d, e];
@@ -165,7 +178,7 @@ const BODIES = {
       b, // , )
       ...rest /* , */) => ({ a, b, rest }), k = async ({ then = say(1) }) => { say(then); };
     say(f(1), f(1, 2), g(1, { b: 2 }), h(), h({ a: 1 }, 2, 3), k({}), k({ then: 2 }));
-    function m(a = say(arguments.length), b = (() => this)(), c = (x = a) => x) { var v = 1; let w = b; say(v, w); return c(); }
+    function m(a = say(arguments.length), b = (() => this)(), c = (x = a) => x) { var v = 1; say(v, b); return c(); }
     say(m(), m.call(5, undefined), [f, g, h, k, m].map((one) => [one.length, one.name]));
     class P { #n = 2; constructor({ n = say(3) } = {}, k = new.target.name) { this.n = n; say(k); }
       m(k = this.#n, l = super.toString === ({}).toString,) { return [k, l]; }

@@ -41,6 +41,8 @@ export class Analysis {
     this.privateMethods = new Set();
     /** @type {Set<string>} the names of other private members */
     this.privateOthers = new Set();
+    /** @type {Map<Tree, Tree>} functions that are made of what fields begin with */
+    this.fieldValues = new Map();
     /** @type {Map<Tree, Scope>} patterns that declare names, each with the scope in which it does */
     this.declaring = new Map();
     /** Whether it has templates with tags, each with strings that are always the same object. */

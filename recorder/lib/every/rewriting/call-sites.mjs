@@ -21,6 +21,7 @@ import { isConstant, isFunction } from "./tree.mjs";
  * @property {boolean} isNamed whether nothing is called there except for members that the code names: no value is made
  * a number or a text
  * @property {boolean} isAccessor whether the function is written as a getter or a setter
+ * @property {boolean} [isBeginning] whether it is a constructor that has no frame yet
  * @property {StepTarget} [step] what gets the value of the step of a loop that is made there; nothing else is
  */
 
@@ -64,6 +65,7 @@ export class CallSites {
     const info = this.#functionAt(offset);
     if (info === undefined) return unknown("code at the top level of a module");
     if (info.makes && info.tree.type === "ClassBody" && offset === info.start + 1) return constructorOf(info);
+    if (offset === info.beginsAt) return { ...NOTHING, fn: info.id, makes: true, isBeginning: true };
     if (info.isHidden) return unknown("a generator, an async function, a constructor of a derived class or the like");
     const begins = info.declared[0] ?? info.tree.body;
     // Its frame begins behind them.

@@ -2,6 +2,7 @@
 // reached by that code only.
 
 import { Info, newId } from "./scopes.mjs";
+import { childrenOf, isClass, runsCode } from "./tree.mjs";
 
 /** @typedef {import("./tree.mjs").Tree} Tree */
 /** @typedef {import("./scopes.mjs").Scope} Scope */
@@ -60,7 +61,7 @@ function visitMemberOfClass(one, tree, member, { keys, methods, fields }) {
   }
   if (member.computed) one.visit(member.key, keys);
   if (member.key.type === "PrivateIdentifier") namesOf(one, member).add(member.key.name);
-  if (member.type === "PropertyDefinition") one.visit(member.value, fields);
+  if (member.type === "PropertyDefinition") visitField(one, tree, member, fields);
   else if (member.type !== "MethodDefinition") one.refuse(member, `a ${member.type}`);
   else {
     one.visitFunction(member.value, methods, tree);
@@ -68,6 +69,33 @@ function visitMemberOfClass(one, tree, member, { keys, methods, fields }) {
     if (member.kind === "constructor") visitConstructor(one, member.value, tree);
   }
 }
+
+/**
+ * What a field of an object begins with is evaluated by a function that nobody wrote. If it runs code, it becomes a
+ * function of its own, with a frame.
+ * @param {Analysis} one
+ * @param {Tree} tree a class
+ * @param {Tree} field
+ * @param {EnclosingScope} fields
+ */
+function visitField(one, tree, { static: isStatic, value }, fields) {
+  // A class without a name gets it from the field.
+  const isOwn = !isStatic && runsCode(value) && !isClass(value) && hasShownFields(tree);
+  if (!isOwn) one.visit(value, fields);
+  else {
+    const { start, end } = value;
+    const made = { type: "ArrowFunctionExpression", params: [], body: value, generator: false, start, end };
+    one.fieldValues.set(value, made);
+    one.visitFunction(made, fields);
+  }
+}
+
+/** @param {Tree} tree a class @returns {boolean} whether its fields have no names that depend on when it was made */
+const hasShownFields = ({ body: { body } }) => body.every((/** @type {Tree} */ one) =>
+  one.type !== "PropertyDefinition" || one.static || (!one.computed && (one.value === null || !usesSuper(one.value))));
+
+/** @param {Tree} tree @returns {boolean} */
+const usesSuper = (tree) => tree.type === "Super" || childrenOf(tree).some(usesSuper);
 
 /** @param {Analysis} one @param {Tree} block @param {EnclosingScope} fields */
 function visitStaticBlock(one, block, { scope, within }) {

@@ -25,7 +25,7 @@ export function writeClass(writer, tree, info) {
   const shown = `${readerOf(writer, body)}, ${methodsOf(writer, body)}, ${writer.cells(own)}`;
   const more = `{ keys: [${keys.join(", ")}], isHidden: ${own.isOpaque} }`;
   const made = home === undefined ? "this" : `${home} = this`;
-  const constructs = own.makes ? constructorOf(own.id, writer.cells(own)) : "";
+  const constructs = own.makes ? constructorOf(own.id, writer.cells(own)) : beginningOf(writer, tree, own);
   writer.edits.before(start + 1, `static { $R.cls(${newId()}, ${made}, ${shown}, ${more}); }${constructs}`);
 }
 
@@ -55,6 +55,45 @@ const constructorOf = (id, cells) =>
   ` constructor(...$a) { const $f = $R.enter(${id}, ${cells}); try { super(...$a); } finally { $R.leave($f); } }`;
 
 /**
+ * A base class begins with its fields. Its constructor has no frame by then, so there must be nothing else to show.
+ * @param {CodeWriter} writer
+ * @param {Tree} tree a class
+ * @param {Info} own the class's
+ * @returns {string} a constructor, if it has none that was written
+ */
+function beginningOf({ analysis }, { body: { body }, superClass }, own) {
+  if (superClass || !body.some((/** @type {Tree} */ { value }) => analysis.fieldValues.has(value))) return "";
+  const written = body.find((/** @type {Tree} */ { kind }) => kind === "constructor")?.value;
+  if (written === undefined) {
+    own.beginsAt = own.start + 1;
+    return " constructor() {}";
+  }
+  const names = analysis.own.get(written)?.names;
+  const isUsed = ["arguments", "new.target"].some((name) => (names?.get(name)?.references.length ?? 0) > 0);
+  if (!isUsed && written.params.length === 0) analysis.infos.get(written).beginsAt = written.start;
+  return "";
+}
+
+/**
+ * @param {CodeWriter} writer
+ * @param {Tree} value of a field
+ * @param {Info} own the class's: what its code captures is needed for the other fields, too
+ */
+function writeFieldValue(writer, value, own) {
+  const made = writer.analysis.fieldValues.get(value);
+  const info = made && writer.infoOf(made);
+  if (info === undefined || info.isHidden || own.isOpaque) {
+    writer.write(value, null);
+    return;
+  }
+  const cells = writer.cells(own);
+  const all = cells === "null" ? "[" : `${cells.slice(0, -1)}, `;
+  const enters = `$R.enter(${info.id}, ${all}[$R.environment(() => this), 0]])`;
+  writer.within(value, `(() => { const $f = ${enters}; try { return (`, "); } finally { $R.leave($f); } })()");
+  writer.write(value, info);
+}
+
+/**
  * @param {CodeWriter} writer
  * @param {Tree} member of a class
  * @param {Info | null} info
@@ -68,7 +107,7 @@ function writeMember(writer, member, info, own) {
   }
   const keys = writeKey(writer, member, info, own);
   if (member.type === "MethodDefinition") writer.write(member.value, null, true);
-  else writer.withoutVariables(() => writer.write(member.value, null));
+  else writer.withoutVariables(() => writeFieldValue(writer, member.value, own));
   return keys;
 }
 

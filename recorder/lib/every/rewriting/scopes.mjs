@@ -89,6 +89,8 @@ export class Info {
     this.alive = undefined;
     /** Whether it is a constructor. */
     this.makes = false;
+    /** Where its object gets its fields before it has a frame, if there is nothing else to show then. */
+    this.beginsAt = -1;
     /** @type {Binding[]} what the engine needs of its own names when it has ended */
     this.needed = [];
   }

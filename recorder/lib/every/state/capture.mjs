@@ -98,11 +98,14 @@ export class Capture {
       walk.value(one);
     }
     const { stack } = this.runtime;
-    const count = stack.length;
-    for (let at = 0; at < count; at += 1) {
-      called = this.#putFrame(walk, frames[first + at], stack[count - 1 - at], called);
+    for (let at = stack.length - 1; at >= 0; at -= 1) {
+      called = this.#putFrame(walk, frames[first], stack[at], called);
+      first += 1;
+      if (frames[first]?.getFunctionName() !== OF_FIELDS.name) continue;
+      first += this.#putFields(walk, frames[first], frames[first + 1]);
+      called = OF_FIELDS;
     }
-    const below = frames[first + count]?.getFileName() ?? "";
+    const below = frames[first]?.getFileName() ?? "";
     if (!below.startsWith(LEARNING)) throw new CantShow("more functions than were seen");
     this.#putModules(walk);
     return this.#text(walk);
@@ -196,6 +199,22 @@ export class Capture {
   }
 
   /**
+   * The function that gives an object its fields keeps nothing but the object, and how far it is. The function that
+   * runs now has the object, too.
+   * @param {Walk} walk
+   * @param {NodeJS.CallSite} site
+   * @param {NodeJS.CallSite | undefined} below what has called it: a constructor, which may have no frame yet
+   * @returns {number} how many functions have no frame
+   */
+  #putFields(walk, site, below) {
+    walk.put(`|fields ${site.getPosition()} ${stringify(fileOf(site))}`);
+    const place = this.texts.get(fileOf(below))?.at(/** @type {NodeJS.CallSite} */ (below).getPosition());
+    if (place?.isBeginning !== true) return 1;
+    walk.put(`|${place.fn}`);
+    return 2;
+  }
+
+  /**
    * There must be one way only in which a function can have been called at a place: what the engine still does
    * afterwards isn't shown.
    * @param {import("../rewriting/call-sites.mjs").CallSite} place
@@ -219,6 +238,9 @@ const OF_ATOMICS = Object.freeze({ name: "a function of Atomics", id: -3, isAcce
 
 /** @type {Called} what agents choose by, which is no accessor of theirs */
 const OF_CHOICES = Object.freeze({ name: "a function that chooses", id: -2, isAccessor: false });
+
+/** @type {Called} what gives an object its fields */
+const OF_FIELDS = Object.freeze({ name: "<instance_members_initializer>", id: -4, isAccessor: false });
 
 /**
  * A step that is shown must be that of a loop which gives a name the value, or a call of `next`.

@@ -6,7 +6,7 @@ import { types } from "node:util";
 import { CONSTRUCTORS } from "../../../script/kinds.mjs";
 import { isObject } from "../../primordials.mjs";
 import { boundOf } from "./bound-functions.mjs";
-import { EVENT_CLASSES, eventKeys, eventMaps } from "./event-objects.mjs";
+import { EVENT_CLASSES, eventKeys, eventListeners, eventMaps } from "./event-objects.mjs";
 import { intlConstructors } from "./intl-objects.mjs";
 import { intrinsics } from "./intrinsics.mjs";
 import { ofMatches } from "./match-iteration.mjs";
@@ -68,7 +68,8 @@ export class NamedBuiltins {
   constructor() {
     /** @type {Map<object | symbol, string>} by the objects and symbols */
     this.names = new Map();
-    this.plain = new Set([...[...PLAIN, ...EVENT_CLASSES].map(({ prototype }) => prototype), eventMaps]);
+    const ofClasses = [...PLAIN, ...EVENT_CLASSES].map(({ prototype }) => prototype);
+    this.plain = new Set([...ofClasses, eventMaps, eventListeners]);
     /** @type {KnownObject[]} what they had at first */
     this.had = [];
     /** @type {[object, string][]} */
@@ -104,6 +105,7 @@ export class NamedBuiltins {
     this.add(Date.prototype, "globalThis.Date.prototype");
     this.add(ofMatches, "the engine's regExpStringIterator");
     this.add(eventMaps, "a map of EventTarget");
+    this.add(eventListeners, "a listener of EventTarget");
     for (const key of eventKeys) this.add(key, `key of AbortSignal ${String(key)}`);
     for (const [name, engine] of intlConstructors()) this.add(engine, `globalThis.Intl.${name}`);
     this.#addMembers(Symbol, "globalThis.Symbol");

@@ -162,10 +162,7 @@ export class Runtime {
       keysIn: keptKeys,
       key,
       method,
-      numeric,
-      more: (/** @type {any} */ value) => (typeof value === "bigint" ? value + 1n : value + 1),
-      less: (/** @type {any} */ value) => (typeof value === "bigint" ? value - 1n : value - 1),
-      taken,
+      ...UPDATES,
       own,
       copied: (/** @type {object} */ given) => ({ ...given }),
       stamped,
@@ -287,6 +284,14 @@ function numeric(value) {
   let one = value;
   return one++;
 }
+
+/** What changes a value by one. */
+const UPDATES = {
+  numeric,
+  more: (/** @type {any} */ value) => (typeof value === "bigint" ? value + 1n : value + 1),
+  less: (/** @type {any} */ value) => (typeof value === "bigint" ? value - 1n : value - 1),
+  taken,
+};
 
 /** @param {any} value @returns {string | symbol} the key that it is among an object's members */
 const key = (value) => Reflect.ownKeys({ [value]: 0 })[0];
