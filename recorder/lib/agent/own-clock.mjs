@@ -6,6 +6,8 @@
 /** How long a long time is, in milliseconds. */
 const LONG = 1e9;
 
+const { max } = Math;
+
 export class OwnClock {
   /** @param {boolean} isLasting whether it goes on from round to round, and doesn't begin anew at `again` */
   constructor(isLasting) {
@@ -27,9 +29,9 @@ export class OwnClock {
     if (!this.isLasting) this.time = this.start;
   }
 
-  /** @param {number} milliseconds that a wait has had, whose time is up */
+  /** @param {number} milliseconds that a wait has had, whose time is up: below 0 it has had none */
   timeOut(milliseconds) {
-    this.time += milliseconds;
+    this.time += max(milliseconds, 0);
   }
 
   /** @param {number} many how many long times have passed @returns {number} what time it is */

@@ -25,7 +25,8 @@ export class CantLearn extends Error {
 /** @type {AskedNode} */
 const NOTHING = {
   does: DOES.FINISHED, kind: 0, block: 0, byte: 0, size: 0, at: 0, operands: [], raw: [], limit: undefined,
-  error: undefined, outside: undefined, returns: undefined, written: undefined, isAlone: false, text: undefined,
+  milliseconds: undefined, error: undefined, outside: undefined, returns: undefined, written: undefined, isAlone: false,
+  text: undefined,
 };
 
 /** @param {string} [text] that it threw @returns {AskedNode} the agent's end */
@@ -58,12 +59,13 @@ export const askedChoice = (asked, what) => ({ ...NOTHING, does: DOES.CHOOSE, li
  * @returns {{ asked: AskedNode, thrown: unknown }} with the error that the engine throws, if it does
  */
 export function askedCall(call, view, base) {
-  const { call: does, kind, block, operands, limit } = call;
+  const { call: does, kind, block, operands, limit, milliseconds } = call;
   const size = SIZES[kind];
   const byte = byteOf(call);
   const own = operands.slice(0, CALLS[does].operands);
   const { returns } = call;
-  const asked = { ...NOTHING, does, kind, block, byte, size, at: base + byte, operands: own, limit, returns };
+  const at = base + byte;
+  const asked = { ...NOTHING, does, kind, block, byte, size, at, operands: own, limit, milliseconds, returns };
   try {
     // The bytes are only scratch.
     engineCall(call, view);
@@ -106,7 +108,8 @@ function putElement(view, byte, size, raw) {
 /** @param {AskedNode} one @param {AskedNode} other @returns {boolean} whether they ask for the same */
 export function isSame(one, other) {
   return one.does === other.does && one.at === other.at && one.block === other.block && one.size === other.size
-    && one.kind === other.kind && one.limit === other.limit && one.error === other.error && one.text === other.text
+    && one.kind === other.kind && one.limit === other.limit && one.milliseconds === other.milliseconds
+    && one.error === other.error && one.text === other.text
     && one.outside?.index === other.outside?.index && one.returns === other.returns
     && isSameList(one.operands, other.operands)
     && isSameList(one.written ?? [], other.written ?? []);
@@ -120,6 +123,8 @@ function isSameList(one, other) {
 }
 
 /** @param {AskedNode} asked @returns {string} the same only for what `isSame` says */
-export const keyOf = ({ does, kind, block, byte, size, operands, limit, error, outside, returns, written, text }) =>
+export const keyOf = ({
+  does, kind, block, byte, size, operands, limit, milliseconds, error, outside, returns, written, text,
+}) =>
   [does, kind, block, byte, size, operands.map((value) => `${value}`).join("_"), limit, error, outside?.index, returns,
-    written?.join("_"), text === undefined ? "" : stringify(text)].join(".");
+    written?.join("_"), text === undefined ? "" : stringify(text), milliseconds].join(".");
