@@ -50,8 +50,8 @@ export class LearnedCode {
     this.capture = capture;
     /** How often the modules were made anew. */
     this.renewals = -1;
-    this.#renew();
-    this.#first = this.#kept();
+    this.renew();
+    this.#first = this.kept();
   }
 
   /** What the agents' module exports. @returns {{ agent: any, init: any, check: any, setup: any }} */
@@ -69,7 +69,7 @@ export class LearnedCode {
 
   /** @returns {Function} the agent's function, of modules that keep what they keep at first */
   agentNow() {
-    if (this.#isLeft || this.#first === undefined || this.#kept() !== this.#first) this.#renew();
+    if (this.#isLeft || this.#first === undefined || this.kept() !== this.#first) this.renew();
     this.runtime.beginAgent();
     return this.exports.agent;
   }
@@ -104,7 +104,8 @@ export class LearnedCode {
     return this.capture.lineOf(error);
   }
 
-  #renew() {
+  /** Makes the modules anew. */
+  renew() {
     this.renewals += 1;
     this.#isLeft = false;
     this.runtime.beginModules();
@@ -121,7 +122,8 @@ export class LearnedCode {
     }
   }
 
-  #kept() {
+  /** @returns {string | undefined} what the modules keep now; undefined: that can't be shown */
+  kept() {
     try {
       const kept = this.capture.modules();
       return this.capture.hasChanged ? undefined : kept;
