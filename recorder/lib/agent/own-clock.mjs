@@ -6,7 +6,13 @@
 /** How long a long time is, in milliseconds. */
 const LONG = 1e9;
 
-const { max } = Math;
+/** Into so many parts it divides a millisecond: so a difference of two times doesn't go by when it has begun. */
+const PARTS = 1024;
+
+/** A time that is as long has no smaller parts. */
+const WHOLE = 2 ** 42;
+
+const { ceil, max } = Math;
 
 export class OwnClock {
   /** @param {boolean} isLasting whether it goes on from round to round, and doesn't begin anew at `again` */
@@ -29,9 +35,10 @@ export class OwnClock {
     if (!this.isLasting) this.time = this.start;
   }
 
-  /** @param {number} milliseconds that a wait has had, whose time is up: below 0 it has had none */
+  /** @param {number} milliseconds that a wait has had at least, whose time is up: below 0 it has had none */
   timeOut(milliseconds) {
-    this.time += max(milliseconds, 0);
+    const had = max(milliseconds, 0);
+    this.time += had < WHOLE ? ceil(had * PARTS) / PARTS : had;
   }
 
   /** @param {number} many how many long times have passed @returns {number} what time it is */

@@ -173,6 +173,26 @@ test("a wait's time is all of its timeout, and none if that is below 0", async (
   assert.deepEqual([data.closed, data.found, data.realRuns, data.finalCount], [true, [], 5, 3]);
 });
 
+test("a lock that waits for random times up to a deadline has the same times whenever its clock begins", async (
+  context,
+) => {
+  const text = agents(`const tryLock = () => {
+    const deadline = performance.now() + 5;
+    for (let delay = 1; Atomics.compareExchange(words, 0, 1, 0) !== 1; delay = 2) {
+      if (performance.now() >= deadline) return false;
+      Atomics.wait(words, 0, 0, Math.random() * delay);
+    }
+    return true;
+  };
+  while (again()) {
+    if (!tryLock()) continue;
+    Atomics.store(words, 0, 1);
+    Atomics.notify(words, 0, 1);
+  }`, CHECK);
+  const { findings, isClosed, keptClock } = await learned(context, text);
+  assert.deepEqual([isClosed, findings, keptClock], [true, [], undefined]);
+});
+
 test("a random number is the least, one in the middle or the greatest", async (context) => {
   const backs = `while (again()) {
     while (Atomics.compareExchange(words, 0, 1, 0) !== 1) {

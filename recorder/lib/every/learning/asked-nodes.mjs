@@ -108,8 +108,7 @@ function putElement(view, byte, size, raw) {
 /** @param {AskedNode} one @param {AskedNode} other @returns {boolean} whether they ask for the same */
 export function isSame(one, other) {
   return one.does === other.does && one.at === other.at && one.block === other.block && one.size === other.size
-    && one.kind === other.kind && one.limit === other.limit && one.milliseconds === other.milliseconds
-    && one.error === other.error && one.text === other.text
+    && one.kind === other.kind && one.limit === other.limit && one.error === other.error && one.text === other.text
     && one.outside?.index === other.outside?.index && one.returns === other.returns
     && isSameList(one.operands, other.operands)
     && isSameList(one.written ?? [], other.written ?? []);
@@ -122,7 +121,7 @@ function isSameList(one, other) {
   return true;
 }
 
-/** @param {AskedNode} asked @returns {string} the same only for what `isSame` says */
+/** @param {AskedNode} asked @returns {string} the same only for what `isSame` says, and has the same timeout */
 export const keyOf = ({
   does, kind, block, byte, size, operands, limit, milliseconds, error, outside, returns, written, text,
 }) =>
