@@ -9,7 +9,14 @@ import { SCRIPT_LIMITS } from "../../script/limits.mjs";
 /** How long a long time is, in milliseconds. */
 const LONG = 1e9;
 
+/** Into so many parts it divides a millisecond: so a difference of two times doesn't go by when it has begun. */
+const PARTS = 1024;
+
+/** A time that is as long has no smaller parts. */
+const WHOLE = 2 ** 42;
+
 const { agents: MOST_AGENTS } = SCRIPT_LIMITS;
+const { ceil, max } = Math;
 
 export class OwnClock {
   /** @param {boolean} isLasting whether it goes on from round to round, and doesn't begin anew at `again` */
@@ -35,9 +42,10 @@ export class OwnClock {
     if (!this.isLasting) this.begin(this.start);
   }
 
-  /** @param {number} milliseconds that a wait has had, whose time is up */
+  /** @param {number} milliseconds that a wait has had at least, whose time is up: below 0 it has had none */
   timeOut(milliseconds) {
-    this.time += milliseconds;
+    const had = max(milliseconds, 0);
+    this.time += had < WHOLE ? ceil(had * PARTS) / PARTS : had;
   }
 
   /** @param {number} many how many long times have passed @returns {number} what time it is */

@@ -171,7 +171,7 @@ function openLines(data) {
   const lines = [...histories, title, ...some, ...foundLines(data), ...alikeLines(data)];
   const large = widest === null ? [] : [widestText(widest)];
   const changes = advice.map(toChange);
-  return [...lines, ...[...hiddenLines(hidden), ...large, ...changes].map(indented)];
+  return [...lines, ...[...hiddenLines(hidden), ...chosenLines(data), ...large, ...changes].map(indented)];
 }
 
 /** @param {NonNullable<EveryData["widest"]>} widest */

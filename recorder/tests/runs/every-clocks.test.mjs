@@ -14,7 +14,7 @@ import { FEW_WORKERS, moduleOf, refusedInALine, temporaryFolder } from "../helpe
 /** @param {string} body of each agent @param {string} [more] lines behind the agent */
 const agents = (body, more = "") => `export const setup = { agents: 2, buffers: [8], names: { PERMITS: 0, INSIDE: 1 } };
 export const init = ([buffer]) => void (new Int32Array(buffer)[0] = 1);
-export default function agent({ buffers, agents, again }) {
+export default function agent({ buffers, agents, again, choose }) {
   const words = new Int32Array(buffers[0]);
   ${body}
 }
@@ -163,6 +163,77 @@ test("a time that an agent keeps from round to round is named, and its clock goe
   assert.deepEqual((await learned(context, agents(later))).kept, { line: "agents.mjs:7:21", isDraw: false });
 });
 
+test("what agents keep of a long time, or only if they choose to look, is noticed", async (context) => {
+  const week = `let isOld = false;
+  while (again()) {
+    const isNow = performance.now() > 604_800_000;
+    if (isOld && !isNow) throw new Error("the clock went back");
+    isOld ||= isNow;
+  }`;
+  const year = `let last = 0;
+  while (again()) {
+    const now = new Date().getFullYear();
+    if (now < last) throw new Error("the clock went back");
+    last = now;
+  }`;
+  // A round in which it doesn't look leads to the same moment as one in which no time has passed.
+  const chosen = `let isLate = false;
+  while (again()) {
+    if (choose(2) === 1 && performance.now() > 1000) isLate = true;
+    Atomics.load(words, 0);
+    if (isLate && performance.now() < 1000) throw new Error("the clock went back");
+  }`;
+  // What it has read of the clock before is another thing only if the clock begins at another time.
+  const unused = `let isLate = false;
+  while (again()) {
+    const now = performance.now();
+    if (choose(2) === 1) isLate = now > 1000;
+    Atomics.load(words, 0);
+    if (isLate && performance.now() < 1000) throw new Error("the clock went back");
+  }`;
+  const lines = [];
+  for (const body of [week, year, chosen, unused]) {
+    const { findings, keptClock } = await learned(context, agents(body), { limit: 300 });
+    lines.push([keptClock, findings]);
+  }
+  assert.deepEqual(lines, [["agents.mjs:7:31", []], ["agents.mjs:7:17", []], ["agents.mjs:7:40", []],
+    ["agents.mjs:7:29", []]]);
+});
+
+test("a wait's time is all of its timeout, and none if that is below 0", async (context) => {
+  const late = agents(`const deadline = performance.now() + 50;
+  const before = performance.now();
+  Atomics.wait(words, 1, 0, deadline - before);
+  if (performance.now() < before) throw new Error("the clock went back");`);
+  assert.deepEqual((await learned(context, late)).findings, []);
+  const fraction = agents(`const begun = performance.now();
+  Atomics.wait(words, 1, 0, choose(2) === 0 ? 10 : 10.75);
+  const waited = performance.now() - begun;
+  if (waited < 1e9) Atomics.store(words, 1, waited * 100);`);
+  const data = await everySchedule({ ...FEW_WORKERS, module: moduleOf(context, fraction), agents: 1, seeds: 5 });
+  assert.deepEqual([data.closed, data.found, data.realRuns, data.finalCount], [true, [], 5, 3]);
+});
+
+test("a lock that waits for random times up to a deadline has the same times whenever its clock begins", async (
+  context,
+) => {
+  const text = agents(`const tryLock = () => {
+    const deadline = performance.now() + 5;
+    for (let delay = 1; Atomics.compareExchange(words, 0, 1, 0) !== 1; delay = 2) {
+      if (performance.now() >= deadline) return false;
+      Atomics.wait(words, 0, 0, Math.random() * delay);
+    }
+    return true;
+  };
+  while (again()) {
+    if (!tryLock()) continue;
+    Atomics.store(words, 0, 1);
+    Atomics.notify(words, 0, 1);
+  }`, CHECK);
+  const { findings, isClosed, keptClock } = await learned(context, text);
+  assert.deepEqual([isClosed, findings, keptClock], [true, [], undefined]);
+});
+
 test("a random number is the least, one in the middle or the greatest", async (context) => {
   const backs = `while (again()) {
     while (Atomics.compareExchange(words, 0, 1, 0) !== 1) {
@@ -259,4 +330,7 @@ test("what is made of a look besides the time keeps moments apart", async (conte
   const { hidden, isClosed } = await learned(context, text);
   assert.equal(isClosed, true);
   assert.deepEqual(hidden.map(({ why }) => why), ["what is made of a look at a clock"]);
+  const other = agents(`if (choose(2) === 0) process.hrtime([0, 0]);
+  else Atomics.load(words, 0);`);
+  assert.deepEqual((await learned(context, other)).hidden.map(({ nodes }) => nodes), [1]);
 });

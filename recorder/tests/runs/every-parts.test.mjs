@@ -97,6 +97,41 @@ export const check = ([buffer]) => new Int32Array(buffer)[0] === 1;
   assert.deepEqual({ closed, found, realRuns }, { closed: true, found: [], realRuns: 2 });
 });
 
+test("a property that is defined reads no element, and calls no trap of a proxy", async (context) => {
+  const module = moduleOf(context, `export const setup = { agents: 1, buffers: [8] };
+export default ({ buffers: [buffer] }) => {
+  const words = new Int32Array(buffer);
+  Object.defineProperty(words, 1, { value: 5 });
+  Object.defineProperties(words, { 1: { value: 6 } });
+  const asked = [];
+  const getOwnPropertyDescriptor = (object, key) => {
+    asked.push(key);
+    return Reflect.getOwnPropertyDescriptor(object, key);
+  };
+  Object.defineProperty(new Proxy({}, { getOwnPropertyDescriptor }), "one", { value: 1 });
+  Atomics.store(words, 0, asked.length);
+};
+`);
+  const { closed, finals, found, realRuns } = await everySchedule({ ...FEW_WORKERS, module, agents: 1, seeds: 2 });
+  assert.deepEqual({ closed, found, realRuns }, { closed: true, found: [], realRuns: 2 });
+  assert.deepEqual(finals.map(({ blocks }) => blocks), [["0000000006000000"]]);
+});
+
+test("a `check` finds its module as `init` has left it", async (context) => {
+  const module = moduleOf(context, `let [calls, base] = [0, 0];
+export const setup = { agents: 2, buffers: [8] };
+export const init = () => void (base += 1);
+export default ({ buffers: [buffer], agent }) => void Atomics.store(new Int32Array(buffer), 0, agent + 1);
+export const check = ([buffer]) => {
+  calls += 1;
+  if (calls > 1 || base !== 1) throw new Error("called " + calls + " times, behind " + base);
+  return Atomics.load(new Int32Array(buffer), 0) > 0;
+};
+`);
+  const { closed, finalCount, found, freshened } = await everySchedule({ ...FEW_WORKERS, module, seeds: 2 });
+  assert.deepEqual([closed, finalCount, found, freshened], [true, 2, [], true]);
+});
+
 test("a class that derives from an imported one looks like a class", async (context) => {
   const module = moduleOf(context, `import { inspect } from "node:util";
 import { Base } from "./base.mjs";

@@ -407,6 +407,11 @@ test("a time that is over at any moment, or never", async (context) => {
   const endless = { module: none, timeouts: /** @type {const} */ ("never"), seeds: 2 };
   await assert.rejects(everySchedule(endless), /waits for 0 ms, .*, at agents\.mjs:5/);
   assert.deepEqual((await everySchedule({ ...FEW_WORKERS, module: none, seeds: 2 })).found, []);
+  const below = moduleOf(context, LOADS("if (self === 0) Atomics.wait(words, 0, 0, -5);"));
+  await assert.rejects(everySchedule({ ...endless, module: below }), /waits for 0 ms, .*, at agents\.mjs:5/);
+  const above = moduleOf(context, LOADS("if (self === 0) Atomics.wait(words, 0, 0, 0.5);"));
+  const stuck = await everySchedule({ ...FEW_WORKERS, ...endless, module: above });
+  assert.deepEqual(stuck.found.map(({ kind }) => kind), ["deadlock"]);
 });
 
 test("modules that import from each other in all forms are learned as they are written", async (context) => {

@@ -25,7 +25,8 @@ export class CantLearn extends Error {
 /** @type {AskedNode} */
 const NOTHING = {
   does: DOES.FINISHED, kind: 0, block: 0, byte: 0, size: 0, at: 0, operands: [], raw: [], limit: undefined,
-  error: undefined, outside: undefined, returns: undefined, written: undefined, isAlone: false, text: undefined,
+  milliseconds: undefined, error: undefined, outside: undefined, returns: undefined, written: undefined, isAlone: false,
+  text: undefined,
 };
 
 /** @param {string} [text] that it threw @returns {AskedNode} the agent's end */
@@ -68,12 +69,13 @@ export const askedOutcome = (outcome, isAlone) => ({ ...NOTHING, does: DOES.ENDS
  * @returns {{ asked: AskedNode, thrown: unknown }} with the error that the engine throws, if it does
  */
 export function askedCall(call, view, base) {
-  const { call: does, kind, block, operands, limit } = call;
+  const { call: does, kind, block, operands, limit, milliseconds } = call;
   const size = SIZES[kind];
   const byte = byteOf(call);
   const own = operands.slice(0, CALLS[does].operands);
   const { returns } = call;
-  const asked = { ...NOTHING, does, kind, block, byte, size, at: base + byte, operands: own, limit, returns };
+  const at = base + byte;
+  const asked = { ...NOTHING, does, kind, block, byte, size, at, operands: own, limit, milliseconds, returns };
   try {
     // The bytes are only scratch.
     engineCall(call, view);
@@ -129,7 +131,9 @@ function isSameList(one, other) {
   return true;
 }
 
-/** @param {AskedNode} asked @returns {string} the same only for what `isSame` says */
-export const keyOf = ({ does, kind, block, byte, size, operands, limit, error, outside, returns, written, text }) =>
+/** @param {AskedNode} asked @returns {string} the same only for what `isSame` says, and has the same timeout */
+export const keyOf = ({
+  does, kind, block, byte, size, operands, limit, milliseconds, error, outside, returns, written, text,
+}) =>
   [does, kind, block, byte, size, operands.map((value) => `${value}`).join("_"), limit, error, outside?.index, returns,
-    written?.join("_"), text === undefined ? "" : stringify(text)].join(".");
+    written?.join("_"), text === undefined ? "" : stringify(text), milliseconds].join(".");

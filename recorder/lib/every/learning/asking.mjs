@@ -27,8 +27,11 @@ const { DataView: EngineView, Error: EngineError, Uint8Array: EngineBytes } = gl
 /** What breaks an agent off. */
 const BROKEN = Object.freeze({ isBrokenOff: true });
 
-/** Another time at which a clock may begin. */
-export const OTHER_START = 123_456_789;
+/**
+ * Another time at which a clock may begin: later than a few long times, and in another year, month, day of the week and
+ * hour.
+ */
+export const OTHER_START = 34_567_890_123;
 
 /** So often an agent may catch that. */
 const MOST_CAUGHT = 10_000;
@@ -146,6 +149,7 @@ export class Asker {
     this.writing = undefined;
     this.clock.begin(this.start);
     this.looks = 0;
+    this.unshown = undefined;
     this.promises.begin();
     this.run = run;
     try {
@@ -247,12 +251,12 @@ export class Asker {
     this.#endWrite();
     const { asked, thrown } = askedCall(call, view, this.bases[call.block]);
     this.hasActed = true;
-    const isOver = this.isEndless && asked.does === DOES.WAIT && asked.limit === 0;
+    const isOver = this.isEndless && asked.does === DOES.WAIT && (asked.milliseconds ?? Infinity) <= 0;
     if (isOver) this.refuse("it waits for 0 ms, which ends by itself even with --timeouts never");
     const answer = this.#ask(asked);
     if (thrown !== undefined) throw thrown;
     if (answer === "TypeError") throw new TypeError("Atomics.wait cannot be called in this context");
-    if (asked.does === DOES.WAIT && answer === TIMED_OUT) this.clock.timeOut(call.milliseconds ?? call.limit ?? 0);
+    if (asked.does === DOES.WAIT && answer === TIMED_OUT) this.clock.timeOut(asked.milliseconds ?? 0);
     return returned(call, view, answer, this.views[call.block]);
   }
 

@@ -101,10 +101,11 @@ export class Findings {
     return named > 0 || kinds.deadlock !== undefined || (kinds.noWayOut !== undefined && !kinds.neverEnds);
   }
 
-  /** Calls `check` once for each different list of bytes at the end. */
+  /** Calls `check` once for each different list of bytes at the end, each time as behind the `init` of a run. */
   #check() {
-    const { learned: { asker, exports: { check }, plan, bases, wanted: { args } }, search: { world } } = this;
-    if (check === undefined) return;
+    const { learned, search: { world } } = this;
+    const { asker, exports, plan, bases, wanted: { args } } = learned;
+    if (exports.check === undefined) return;
     for (const memory of this.kinds.finals.keys()) {
       const from = memory * world.memories.width;
       const bytes = /** @type {Uint8Array} */ (world.memories.items);
@@ -113,6 +114,7 @@ export class Findings {
         new Uint8Array(buffer).set(bytes.subarray(from + bases[block], from + bases[block] + length));
         return buffer;
       });
+      const check = learned.checkNow();
       const call = () => check(buffers, { agents: plan.agents, args: [...args] });
       const problem = asker.watched(PART.CHECK, () => problemOf(call));
       if (problem !== undefined) this.problems.set(memory, problem);

@@ -1,6 +1,7 @@
 // The number that agents are given, as long as it isn't known whether they look at it: a getter notices that. What the
 // language says about this property is what it says in a run, and to ask for it is to look at the number.
 
+import { types } from "node:util";
 import { methodOf, replace, replaceEach } from "../../agent/ordinary/patch.mjs";
 import { apply, defineProperty, getOwnPropertyDescriptor, isObject, ownKeys, uncurried } from "../../primordials.mjs";
 
@@ -9,6 +10,7 @@ const noticing = new WeakSet();
 const add = uncurried(WeakSet.prototype.add);
 const has = uncurried(WeakSet.prototype.has);
 const { isFrozen } = Object;
+const { isProxy } = types;
 
 /** @type {object | undefined} what was given to an agent last, with a number that it may look at */
 let lastGiven;
@@ -56,7 +58,8 @@ const ofAll = (engine) => methodOf((self, given) => {
 /** @param {Function} engine what defines properties: it finds the number as it is in a run */
 const defining = (engine) => methodOf((self, given) => {
   const [object] = given;
-  const found = isObject(object) ? getOwnPropertyDescriptor(object, "agent") : undefined;
+  // To ask a proxy would be to call its trap.
+  const found = isObject(object) && !isProxy(object) ? getOwnPropertyDescriptor(object, "agent") : undefined;
   const shown = inRun(object, found);
   if (shown !== found) defineProperty(object, "agent", /** @type {PropertyDescriptor} */ (shown));
   return apply(engine, self, given);

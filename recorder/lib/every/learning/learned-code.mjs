@@ -54,9 +54,9 @@ export class LearnedCode {
     this.each = Infinity;
     /** How often the modules were made anew. */
     this.renewals = -1;
-    this.#renew();
+    this.renew();
     if (this.isObject) this.#takeClient();
-    this.#first = this.#kept();
+    this.#first = this.kept();
   }
 
   /** What the agents' module exports. @returns {{ agent: any, init: any, check: any, setup: any }} */
@@ -99,7 +99,7 @@ export class LearnedCode {
     this.graph.take(CLIENT);
     this.capture.texts.set(CLIENT, /** @type {any} */ (this.graph.texts.get(CLIENT)));
     this.capture.others.add(CLIENT);
-    this.#renew();
+    this.renew();
   }
 
   /** @param {boolean} isAlone @returns {Function} */
@@ -118,7 +118,7 @@ export class LearnedCode {
   }
 
   #needFirst() {
-    if (this.#isLeft || this.#first === undefined || this.#kept() !== this.#first) this.#renew();
+    if (this.#isLeft || this.#first === undefined || this.kept() !== this.#first) this.renew();
     this.runtime.beginAgent();
   }
 
@@ -163,7 +163,8 @@ export class LearnedCode {
     return this.capture.lineOf(error);
   }
 
-  #renew() {
+  /** Makes the modules anew. */
+  renew() {
     this.renewals += 1;
     this.#isLeft = false;
     this.runtime.beginModules();
@@ -180,7 +181,8 @@ export class LearnedCode {
     }
   }
 
-  #kept() {
+  /** @returns {string | undefined} what the modules keep now; undefined: that can't be shown */
+  kept() {
     try {
       const kept = this.capture.modules();
       return this.capture.hasChanged ? undefined : kept;

@@ -52,6 +52,8 @@ export class Learned {
     asker.begin(this.plan.buffers, bases);
     asker.isEndless = wanted.timeouts === "never";
     this.initial = this.#initial(length);
+    /** @type {string | undefined} what the modules keep behind `init`, if that can be shown, once `check` is wanted */
+    this.keptForCheck = undefined;
     if (this.exports.init !== undefined || this.exports.check !== undefined) code.leave();
     this.isShared = this.plan.canBlock.every((can) => can);
     /** Whether agents look at a clock, or make draws that are never equal. */
@@ -71,7 +73,7 @@ export class Learned {
 
   /** @param {number} length @returns {Uint8Array} the bytes of all buffers as `init` leaves them */
   #initial(length) {
-    const { asker, bases, exports: { init }, plan: { agents, buffers }, wanted: { args } } = this;
+    const { asker, bases, code: { exports: { init } }, plan: { agents, buffers }, wanted: { args } } = this;
     const bytes = new Uint8Array(length);
     if (init === undefined) return bytes;
     const given = buffers.map((each) => new SharedArrayBuffer(each));
@@ -80,6 +82,18 @@ export class Learned {
     if (problem !== undefined) throw new CantLearn(`\`init\` ${problem}`);
     given.forEach((buffer, block) => bytes.set(new Uint8Array(buffer), bases[block]));
     return bytes;
+  }
+
+  /** @returns {any} the modules' `check`, if there is one, of modules that keep what `init` has left there */
+  checkNow() {
+    const { code, initial, keptForCheck } = this;
+    if (this.exports.check === undefined) return undefined;
+    if (keptForCheck === undefined || keptForCheck !== code.kept()) {
+      code.renew();
+      this.#initial(initial.length);
+      this.keptForCheck = code.kept();
+    }
+    return code.exports.check;
   }
 
   /** @param {boolean} [isModel] whether it learns what is right of an object, used by one agent alone */

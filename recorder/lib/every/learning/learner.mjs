@@ -7,9 +7,10 @@ import { choicesBy } from "../../agent/choosing.mjs";
 import { CantShow } from "../state/object-kinds.mjs";
 import { DONE, DOES, isCall, isChoice, isMark, isOwnAct, nodeOf } from "../search/nodes.mjs";
 import { nodeText } from "../search/node-texts.mjs";
+import { ActAccesses } from "./act-accesses.mjs";
 import { CantLearn, askedEnd, isSame, keyOf } from "./asked-nodes.mjs";
 import { accessed, cantText } from "./asking.mjs";
-import { needRound } from "./clock-rounds.mjs";
+import { OtherStart, keepsClock } from "./clock-rounds.mjs";
 import { putNumber } from "./given-number.mjs";
 import { PART } from "./learning-progress.mjs";
 import { namesRewritten, thrownText } from "./thrown.mjs";
@@ -24,10 +25,6 @@ export class LooksAtNumber extends Error {}
 
 /** They look at a clock, or make draws that are never equal: how far their own clocks are is a part of their state. */
 export class LooksAtClock extends Error {}
-
-/** After so many accesses between two calls each read is compared with the ones before. */
-const READS_BEFORE_COMPARING = 32;
-const MOST_ACCESSES = 100_000;
 
 const NAMES_REWRITTEN = "it throws an error whose message names code that was rewritten";
 
@@ -167,7 +164,7 @@ export class Learner {
     const growing = new Growing(this, history, agent, origin, bytes.slice());
     const ended = this.call(agent, growing);
     growing.needsWhole();
-    if (growing.round !== undefined && this.hasClock) needRound(this, agent, growing.round);
+    if (growing.round !== undefined) throw keepsClock(this, agent, growing.round);
     if (ended !== undefined) growing.end(ended);
     return /** @type {Node} */ (growing.first);
   }
@@ -244,6 +241,20 @@ export class Learner {
    * @returns {string | undefined} what is the same only for the same state; undefined if that can't be shown
    */
   keyOf(automaton, asked) {
+    return this.textOf(automaton, asked, (why) => {
+      const known = this.hidden.get(why);
+      if (known === undefined) this.hidden.set(why, { nodes: 1, line: this.line() });
+      else known.nodes += 1;
+    });
+  }
+
+  /**
+   * @param {number} automaton
+   * @param {AskedNode} asked
+   * @param {(why: string) => void} [hides] is called if the state can't be shown
+   * @returns {string | undefined} as `keyOf`
+   */
+  textOf(automaton, asked, hides = () => {}) {
     if (this.key === undefined) return undefined;
     const { clock, unshown } = this.asker;
     try {
@@ -251,9 +262,7 @@ export class Learner {
       return `${automaton} ${this.hasClock ? clock.sinceStart() : ""} ${this.key(asked)}`;
     } catch (why) {
       if (!(why instanceof CantShow)) throw this.#failed(why);
-      const known = this.hidden.get(why.message);
-      if (known === undefined) this.hidden.set(why.message, { nodes: 1, line: this.line() });
-      else known.nodes += 1;
+      hides(why.message);
       return undefined;
     }
   }
@@ -278,14 +287,15 @@ class Growing {
     this.bytes = bytes;
     /** @type {Node | undefined} the first one that was found */
     this.first = undefined;
-    this.accesses = 0;
+    const isHead = origin === undefined || isOwnAct(origin.node);
+    this.accesses = new ActAccesses(isHead);
+    /** What the agent does if its clock begins at another time. */
+    this.other = OtherStart.behind(learner, agent, history, isHead, bytes);
     /** @type {Set<Node>} accesses that this call has shown */
     this.made = new Set();
-    /** Whether what comes next is the first behind a call. */
-    this.isHead = origin === undefined || isOwnAct(origin.node);
     /** @type {string | undefined} what it did that it hadn't done before */
     this.differs = undefined;
-    /** @type {import("./clock-rounds.mjs").Round | undefined} that begins where the call is broken off */
+    /** @type {import("./clock-rounds.mjs").Round | undefined} that begins with something that is kept of a clock */
     this.round = undefined;
   }
 
@@ -301,51 +311,52 @@ class Growing {
 
   /** @param {AskedNode} asked */
   #grow(asked) {
-    const isOfCall = isCall(/** @type {Node} */ (asked));
-    const stops = isOfCall || isChoice(asked) || asked.isAlone;
-    this.accesses = stops ? 0 : this.accesses + 1;
-    if (this.accesses > MOST_ACCESSES) throw this.#cant("it makes 100,000 ordinary accesses without a call of Atomics");
-    const isLong = !stops && this.accesses > READS_BEFORE_COMPARING;
-    const isCompared = stops || (asked.does === DOES.READ && (this.isHead || isLong));
-    const key = isCompared ? this.#usefulKey(asked, isLong && !this.isHead) : undefined;
-    if (isChoice(asked) && asked.limit === AGAIN) this.round = { origin: this.origin, key };
+    const { accesses } = this;
+    const isCompared = accesses.compares(asked);
+    if (accesses.areTooMany) throw this.#cant("it makes 100,000 ordinary accesses without a call of Atomics");
+    const text = isCompared ? this.learner.keyOf(this.automaton, asked) : undefined;
+    const difference = this.other === undefined ? "" : this.other.differenceOf(asked, text);
+    const key = this.#usefulKey(text, difference);
+    const begins = isChoice(asked) && asked.limit === AGAIN;
+    if (begins && this.other !== undefined && (text === undefined || difference !== "")) {
+      this.round = { origin: this.origin, key: text };
+    }
     const { node, isNew } = this.learner.node(this.automaton, asked, key, this.origin);
     if (isNew && isCompared) this.learner.places[node.id] = this.learner.place();
     this.link(node);
     // A loop of reads that has come back to itself stops there.
     if (!isNew && this.made.has(node)) node.isAlone = true;
-    if (isNew && !stops) this.made.add(node);
-    if (!isMark(asked)) this.isHead = false;
+    if (isNew && !accesses.stops) this.made.add(node);
     const goesOn = isNew && !(isCompared && this.learner.hasChanged());
-    return goesOn ? this.#further(node, isOfCall) : undefined;
+    return goesOn ? this.#further(node) : undefined;
   }
 
   /**
-   * @param {AskedNode} asked
-   * @param {boolean} isInLoop whether it is a read behind others, which may only come back to one of this call's, or to
-   * one that is an act of its own
+   * A read in a loop may only come back to one of this call's, or to one that is an act of its own.
+   * @param {string | undefined} text the agent's state
+   * @param {string | undefined} difference from that with another beginning of its clock
+   * @returns {string | undefined} by what the moment is one with others
    */
-  #usefulKey(asked, isInLoop) {
-    const { learner, made } = this;
-    const key = learner.keyOf(this.automaton, asked);
-    const known = isInLoop && key !== undefined ? learner.states.get(key) : undefined;
+  #usefulKey(text, difference) {
+    if (text === undefined || difference === undefined) return undefined;
+    const { accesses, learner, made } = this;
+    const key = `${text} ${difference}`;
+    const known = accesses.isInLoop ? learner.states.get(key) : undefined;
     return known === undefined || known.isAlone || made.has(known) ? key : undefined;
   }
 
   /**
    * @param {Node} node that is new
-   * @param {boolean} isOfCall
    * @returns {Answer | undefined} its answer, if it is known
    */
-  #further(node, isOfCall) {
+  #further(node) {
     let answer;
-    if (isOfCall && node.does === DOES.STORE && node.error === undefined) {
+    if (isMark(node)) answer = node.isAlone ? undefined : DONE;
+    else if (this.accesses.isHead) {
       // What memory holds when it goes on isn't known.
       this.bytes = undefined;
-      this.isHead = true;
       answer = DONE;
-    } else if (isMark(node)) answer = node.isAlone ? undefined : DONE;
-    else if (!isOwnAct(node) && this.bytes !== undefined) answer = accessed(node, this.bytes);
+    } else if (!isOwnAct(node) && this.bytes !== undefined) answer = accessed(node, this.bytes);
     else if (node.does === DOES.WRITE) answer = DONE;
     if (answer !== undefined) this.origin = { node, answer };
     return answer;

@@ -42,8 +42,9 @@ export const DONE = 0;
  * @property {number} at its first byte in the bytes of all blocks
  * @property {(number | bigint)[]} operands as the code gave them
  * @property {(number | bigint)[]} raw the same as elements, without a sign
- * @property {number | undefined} limit the timeout of a wait in milliseconds, the count of a notify, what a choice
- * asks, as `askedOf` has it, or which call of an object begins
+ * @property {number | undefined} limit the timeout of a wait in whole milliseconds, the count of a notify, what a
+ * choice asks, as `askedOf` has it, or which call of an object begins
+ * @property {number | undefined} milliseconds the timeout of a wait, with its fraction: so far a clock goes on by it
  * @property {string | undefined} error what the call throws wherever it is made
  * @property {{ offset: number, length: number, index: number } | undefined} outside of a call that is at no element of
  * its array: what its array is, and the index
@@ -56,9 +57,9 @@ export const DONE = 0;
 
 /** @param {Partial<Node> & Pick<Node, "id" | "automaton" | "does">} given @returns {Node} with what isn't given */
 export const nodeOf = (given) => ({
-  kind: 0, block: 0, byte: 0, size: 0, at: 0, operands: [], raw: [], limit: undefined, error: undefined,
-  outside: undefined, returns: undefined, written: undefined, isAlone: false, text: undefined, edges: new Map(),
-  ...given,
+  kind: 0, block: 0, byte: 0, size: 0, at: 0, operands: [], raw: [], limit: undefined, milliseconds: undefined,
+  error: undefined, outside: undefined, returns: undefined, written: undefined, isAlone: false, text: undefined,
+  edges: new Map(), ...given,
 });
 
 /** @param {Node} node @returns {boolean} whether it is a call of Atomics */

@@ -3,6 +3,7 @@
 
 import { types } from "node:util";
 import { methodOf, replace } from "../../agent/ordinary/patch.mjs";
+import { watchedOf } from "../../agent/ordinary/watched.mjs";
 import { apply, construct, getOwnPropertyDescriptor, isObject, ownKeys, proxyOf, put } from "../../primordials.mjs";
 import { own } from "./own-objects.mjs";
 
@@ -61,7 +62,9 @@ export class Installed {
     if (types.isProxy(object)) this.#isAny = true;
     if (this.#isAny) return;
     for (const key of keys) {
-      const { get, set } = getOwnPropertyDescriptor(object, key) ?? {};
+      // To ask a watched array for an element would be to read it.
+      const holder = watchedOf(object)?.real ?? object;
+      const { get, set } = getOwnPropertyDescriptor(holder, key) ?? {};
       const isRead = typeof key === "symbol" || READ_BY_ENGINE.has(key);
       if (get !== undefined) this.#add(get, isRead ? "any" : "get");
       if (set !== undefined) this.#add(set, isRead ? "any" : "set");
