@@ -193,8 +193,8 @@ test("what agents keep of a long time, or only if they choose to look, is notice
   }`;
   const lines = [];
   for (const body of [week, year, chosen, unused]) {
-    const { findings, keptClock } = await learned(context, agents(body), { limit: 300 });
-    lines.push([keptClock, findings]);
+    const { findings, kept } = await learned(context, agents(body), { limit: 300 });
+    lines.push([kept?.line, findings]);
   }
   assert.deepEqual(lines, [["agents.mjs:7:31", []], ["agents.mjs:7:17", []], ["agents.mjs:7:40", []],
     ["agents.mjs:7:29", []]]);
@@ -230,8 +230,8 @@ test("a lock that waits for random times up to a deadline has the same times whe
     Atomics.store(words, 0, 1);
     Atomics.notify(words, 0, 1);
   }`, CHECK);
-  const { findings, isClosed, keptClock } = await learned(context, text);
-  assert.deepEqual([isClosed, findings, keptClock], [true, [], undefined]);
+  const { findings, isClosed, kept } = await learned(context, text);
+  assert.deepEqual([isClosed, findings, kept], [true, [], undefined]);
 });
 
 test("a random number is the least, one in the middle or the greatest", async (context) => {

@@ -5,7 +5,7 @@ import { AGAIN } from "../../../script/choices.mjs";
 import { leftOpen } from "../../agent/answer.mjs";
 import { choicesBy } from "../../agent/choosing.mjs";
 import { CantShow } from "../state/object-kinds.mjs";
-import { DONE, DOES, isCall, isChoice, isMark, isOwnAct, nodeOf } from "../search/nodes.mjs";
+import { DONE, DOES, isChoice, isMark, isOwnAct, nodeOf } from "../search/nodes.mjs";
 import { nodeText } from "../search/node-texts.mjs";
 import { ActAccesses } from "./act-accesses.mjs";
 import { CantLearn, askedEnd, isSame, keyOf } from "./asked-nodes.mjs";
