@@ -5,7 +5,7 @@ import { Refused } from "../../options/refused.mjs";
 import { Info, Scope, newId } from "./scopes.mjs";
 import { ownNameIn } from "./naming.mjs";
 import { coreOf, declaredParameters } from "./parameters.mjs";
-import { givesElements, givesMembers, hasExpressions, isMethod, namesIn, runsCode } from "./tree.mjs";
+import { givesElements, givesMembers, hasExpressions, isMetaUrl, isMethod, namesIn, runsCode } from "./tree.mjs";
 import { VISITS } from "./visits.mjs";
 
 /** @typedef {import("./tree.mjs").Tree} Tree */
@@ -394,8 +394,3 @@ export class Analysis {
     if (!reads && Reflect.has(globalThis, name)) this.refuse({ start }, `\`${name}\` gets another value`);
   }
 }
-
-/** @param {Tree} tree @returns {boolean} whether it is the `url` of `import.meta` */
-const isMetaUrl = ({ type, object, property, computed }) =>
-  type === "MemberExpression" && object.type === "MetaProperty" && object.meta.name === "import"
-  && (computed ? property.value : property.name) === "url";

@@ -9,7 +9,7 @@ import { givesMembers, goesThrough, isConstant, isPattern, runsCode } from "./tr
 /** @typedef {import("./writer.mjs").Write} Write */
 
 /** @param {CodeWriter} writer @param {number} from @param {number} to a place with values that aren't shown */
-export const hide = ({ analysis }, from, to) => void analysis.hidden.push([from, to]);
+export const hideValues = ({ analysis }, from, to) => void analysis.hidden.push([from, to]);
 
 /**
  * What a pattern goes through would be asked for its iterator at the place of a call that it comes from.
@@ -32,7 +32,7 @@ export function writeAssignment(writer, tree, info) {
   if (isPattern(left)) {
     // Else the whole is worth what there was, and no iterator.
     if (writer.analysis.unused.has(tree)) beginIterating(writer, left, right);
-    else if (goesThrough(left, right)) hide(writer, right.start, right.end);
+    else if (goesThrough(left, right)) hideValues(writer, right.start, right.end);
     if (givesMembers(left)) writer.within(right, `(${writer.room(info, left.start, left.end)} = (`, "))");
     writer.writeAll([left, right], info);
   } else if (left.type === "Identifier") {
@@ -57,7 +57,7 @@ export function writeAssignment(writer, tree, info) {
  */
 function roomOfWorth(writer, { left, right, operator, start, end }, info) {
   if (LOGICAL.has(operator) || left.object.type === "Super") {
-    hide(writer, start, right.start);
+    hideValues(writer, start, right.start);
     return undefined;
   }
   const room = writer.room(info, start, right.start);
@@ -86,7 +86,7 @@ function replaceOperator(writer, { left, right, operator, end }, old, binary, wo
   edits.replace(at, operator.length, ` ${binary} (`);
   edits.after(end, worth === undefined ? ")" : "))");
   // Both values may be made numbers there.
-  hide(writer, left.end, right.start);
+  hideValues(writer, left.end, right.start);
 }
 
 /**
@@ -129,7 +129,7 @@ function keepMember(writer, { object, property, computed, end: behind }, info, e
 function writeMemberAssignment(writer, tree, info) {
   const { left, right } = tree;
   const needs = runsCode(right) || (left.computed && runsCode(left.property));
-  if (left.object.type === "Super") hide(writer, tree.start, tree.end);
+  if (left.object.type === "Super") hideValues(writer, tree.start, tree.end);
   else if (needs && writer.isKept(left.object)) writer.keep(info, left.object, tree.end);
   if (needs && left.computed && !isConstant(left.property)) writer.keep(info, left.property, tree.end);
   writer.write(left.object, info);
@@ -152,7 +152,7 @@ export function writeUpdate(writer, tree, info) {
   const isUsed = !writer.analysis.unused.has(tree);
   if (isUsed && argument.object.type !== "Super") writeUsedUpdate(writer, tree, info);
   else {
-    if (isUsed) hide(writer, start, end);
+    if (isUsed) hideValues(writer, start, end);
     keepMember(writer, argument, info, end);
   }
 }

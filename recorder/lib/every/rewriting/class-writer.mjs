@@ -61,7 +61,8 @@ const constructorOf = (id, cells) =>
  * @param {Info} own the class's
  * @returns {string} a constructor, if it has none that was written
  */
-function beginningOf({ analysis }, { body: { body }, superClass }, own) {
+function beginningOf(writer, { body: { body }, superClass }, own) {
+  const { analysis } = writer;
   if (superClass || !body.some((/** @type {Tree} */ { value }) => analysis.fieldValues.has(value))) return "";
   const written = body.find((/** @type {Tree} */ { kind }) => kind === "constructor")?.value;
   if (written === undefined) {
@@ -70,7 +71,7 @@ function beginningOf({ analysis }, { body: { body }, superClass }, own) {
   }
   const names = analysis.own.get(written)?.names;
   const isUsed = ["arguments", "new.target"].some((name) => (names?.get(name)?.references.length ?? 0) > 0);
-  if (!isUsed && written.params.length === 0) analysis.infos.get(written).beginsAt = written.start;
+  if (!isUsed && written.params.length === 0) writer.infoOf(written).beginsAt = written.start;
   return "";
 }
 

@@ -1,6 +1,6 @@
 // How expressions are rewritten: what is evaluated first is kept in the frame while the rest is evaluated.
 
-import { beginIterating, hide, writeAssignment, writeUpdate } from "./assignments.mjs";
+import { beginIterating, hideValues, writeAssignment, writeUpdate } from "./assignments.mjs";
 import { positionOutsideComments } from "./comments.mjs";
 import { NAME_OF_KEY } from "./function-names.mjs";
 import { engineName, keyOfShorthand } from "./naming.mjs";
@@ -61,7 +61,7 @@ export const EXPRESSIONS = {
     const { tag, quasi: { expressions } } = tree;
     // What it is called on must stay.
     const isOfMember = tag.type === "MemberExpression" && expressions.some(runsCode);
-    if (isOfMember) hide(writer, tree.start, tree.end);
+    if (isOfMember) hideValues(writer, tree.start, tree.end);
     operands(() => (isOfMember ? expressions : [tag, ...expressions]))(writer, tree, info);
     if (isOfMember) writer.write(tag, info);
   },
@@ -80,7 +80,7 @@ export const EXPRESSIONS = {
     const { object, property, computed } = tree;
     const isInChain = computed && hasOptional(object);
     // The rest of a chain is left out together with what it is of.
-    if (isInChain && runsCode(property)) hide(writer, property.start, property.end);
+    if (isInChain && runsCode(property)) hideValues(writer, property.start, property.end);
     if (isInChain) writer.writeAll([object, property], info);
     else operands(() => (computed ? [object, property] : [object]))(writer, tree, info);
   },
@@ -113,7 +113,7 @@ function writeObject(writer, tree, info) {
   values.forEach((/** @type {Tree} */ one, /** @type {number} */ at) => {
     if (at >= last || !(keys.has(one) ? !isConstant(one) : writer.isKept(one))) return;
     if (one.type === "SpreadElement" || (isClass(one) && writer.names.get(one) === NAME_OF_KEY)) {
-      hide(writer, tree.start, tree.end);
+      hideValues(writer, tree.start, tree.end);
       return;
     }
     const isImported = writer.analysis.bindingOf(one)?.kind === "import";
@@ -131,7 +131,7 @@ function writeObject(writer, tree, info) {
     else if (one.type === "SpreadElement") {
       // The engine would say of a getter that it is at the place of a member around it.
       writer.within(one.argument, "$R.copied((", "))");
-      hide(writer, one.start, one.end);
+      hideValues(writer, one.start, one.end);
       writer.write(one.argument, info);
     }
     else if (!one.shorthand) writer.write(one.value, info);
@@ -156,7 +156,7 @@ function writeCall(writer, tree, info) {
   const isOfGlobal = object?.type === "Identifier" && writer.isGlobal(object);
   if (isOfGlobal && isNamed) writer.keepOperands(info, given, tree.end);
   else if (callee.type === "Super" || object?.type === "Super" || tree.optional || isChain(callee)) {
-    hide(writer, positionOutsideComments(writer.source, "(", callee.end) + 1, tree.end);
+    hideValues(writer, positionOutsideComments(writer.source, "(", callee.end) + 1, tree.end);
   } else if (object !== undefined && isPrivateMethod(writer, callee)) {
     // What a private method is can't change.
     writer.keep(info, object, tree.end);

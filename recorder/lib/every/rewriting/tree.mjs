@@ -61,6 +61,11 @@ export function isConstant({ type, argument, expressions }) {
   return type === "Literal" || type === "Super" || (type === "TemplateLiteral" && expressions.length === 0);
 }
 
+/** @param {Tree} tree @returns {boolean} whether it is the `url` of `import.meta` */
+export const isMetaUrl = ({ type, object, property, computed }) =>
+  type === "MemberExpression" && object.type === "MetaProperty" && object.meta.name === "import"
+  && (computed ? property.value : property.name) === "url";
+
 /** @param {Tree | null} pattern @returns {boolean} whether expressions are evaluated when it gets its values */
 export function hasExpressions(pattern) {
   if (pattern === null || pattern.type === "Identifier") return false;
