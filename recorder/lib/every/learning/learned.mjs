@@ -21,6 +21,7 @@ import { problemOf } from "./thrown.mjs";
  * @property {{ agents?: number, buffers?: number[], noBlock?: number[] }} place what the options say of the agents
  * @property {import("../search/search.mjs").Choice} timeouts
  * @property {number} limit how many states at most
+ * @property {boolean} [covers] whether runs are wanted that go over each edge
  * @property {boolean} [isUnmerged] whether no two histories become one node
  */
 
@@ -46,6 +47,8 @@ export class Learned {
     this.unlike = new UnlikeAgents(this.plan.canBlock);
     /** @type {JoinedAutomata | undefined} those of the last search */
     this.joined = undefined;
+    /** @type {Set<number>} the states in which it has learned edges */
+    this.learnedAt = new Set();
     /** @type {Learner} */
     this.learner = this.#newLearner();
     /** @type {Program | undefined} */
@@ -122,11 +125,17 @@ export class Learned {
     this.joined = joined;
     const roots = joined.roots(bytes);
     const agents = plan.canBlock.map((canBlock, agent) => ({ canBlock, root: roots[agent] }));
+    /** @type {Search} */
+    let search;
+    this.learnedAt.clear();
     this.program = {
       lengths: plan.buffers, bases, initial, agents, nodes: learner.nodes, mayLack: false,
-      learn: (node, answer, found) => joined.learn(node, answer, found),
+      learn: (node, answer, found) => {
+        this.learnedAt.add(search.expanded);
+        return joined.learn(node, answer, found);
+      },
     };
-    const search = new Search(this.program, { timeouts, limit, isLate });
+    search = new Search(this.program, { timeouts, limit, isLate });
     search.run();
     return search;
   }
