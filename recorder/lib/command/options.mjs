@@ -172,7 +172,7 @@ export function commandOptionsOf(words) {
   const { seeds, shard, noShorten, help: _help, version: _version, ...all } = chosen;
   const asked = given.seeds ?? (all.all ? SEEDS_OF_ALL : seeds);
   return /** @type {CommandOptions} */ ({
-    ...all, covers: given.seeds === undefined, ...runFrom(given, positionals), args: end < 0 ? [] : words.slice(end + 1),
-    ...shardFrom(asked, shard), shorten: !noShorten, replay: replayOf(given),
+    ...all, covers: given.seeds === undefined, ...runFrom(given, positionals),
+    args: end < 0 ? [] : words.slice(end + 1), ...shardFrom(asked, shard), shorten: !noShorten, replay: replayOf(given),
   });
 }

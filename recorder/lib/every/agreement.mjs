@@ -12,7 +12,7 @@ import { hexOf } from "./search/raw-elements.mjs";
 import { NotAsLearned } from "./not-as-learned.mjs";
 
 /** @typedef {import("../seeds/job.mjs").CheckedOutcome} CheckedOutcome */
-/** @typedef {CheckedOutcome & { isCovering?: boolean }} RealOutcome whether the run has gone by a schedule of the search */
+/** @typedef {CheckedOutcome & { isCovering?: boolean }} RealOutcome whether it has gone by a schedule of the search */
 /** @typedef {import("./search/nodes.mjs").Node} Node */
 /** @typedef {import("../../script/choices.mjs").AgentChoice} AgentChoice */
 

@@ -123,7 +123,8 @@ function learnedText({ covered, edges, moments, notCompared, notProved, realRuns
 }
 
 /** @param {NonNullable<EveryData["covered"]>} covered */
-const coveredText = ({ edges, of, runs }) => `${digits(runs)} of them go over ${digits(edges)} of ${countText(of, "edge")}`;
+const coveredText = ({ edges, of, runs }) =>
+  `${digits(runs)} of them go over ${digits(edges)} of ${countText(of, "edge")}`;
 
 /** @param {EveryData} data @returns {string[]} the seeds for which there was no time */
 const notRunLines = ({ notRun }) =>

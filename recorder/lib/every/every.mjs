@@ -78,8 +78,8 @@ export class Every {
     this.over = over;
     this.begun = performance.now();
     this.job = job;
-    /** The seeds of the real runs that are drawn. */
-    this.seeds = drawnSeeds(options);
+    /** Whether real runs are to go over each edge, and only a few are drawn. */
+    this.covers = options.covers === true;
     /** How many states were found so far. */
     this.states = 0;
     /** @type {import("../seeds/job.mjs").CheckedOutcome[]} of the real runs */
@@ -91,6 +91,12 @@ export class Every {
     /** @type {Pick<import("../run/group.mjs").GroupOptions, "cutAfter" | "chosenTime">} how real runs are made */
     this.how = { chosenTime: "anew" };
     this.isFreshened = false;
+  }
+
+  /** The seeds of the real runs that are drawn. @returns {import("../seeds/ranges.mjs").SeedRange} */
+  get seeds() {
+    const { first, last } = this.options;
+    return { first, last: this.covers ? first + DRAWN_RUNS - 1 : last };
   }
 
   /** @returns {Promise<EveryResult>} */
@@ -168,10 +174,10 @@ export class Every {
 
   /** What agents do before their first calls is searched in the order of the agents, so they begin in turn. */
   #ofRuns() {
-    const sabsim = /** @type {false} */ (false);
     // A schedule of the search says who makes each call.
-    const everywhere = this.options.covers === true || this.options.everywhere;
-    return { ...this.options, ...this.seeds, ...this.how, everywhere, inTurn: true, isBrief: false, trace: true, checkEvery: 1, sabsim };
+    const everywhere = this.covers || this.options.everywhere;
+    const each = { everywhere, inTurn: true, isBrief: false, trace: true, checkEvery: 1 };
+    return { ...this.options, ...this.seeds, ...this.how, ...each, sabsim: /** @type {false} */ (false) };
   }
 
   /**
@@ -197,6 +203,7 @@ export class Every {
    */
   async #begunAnew(before, { kept, neverEnds }) {
     if (neverEnds) this.how.cutAfter = CUT_AFTER;
+    if (neverEnds) this.covers = false;
     if (kept !== undefined) this.how.chosenTime = "lasting";
     const [real] = await Promise.all([this.#begun(), before.runs.close()]);
     return real;
@@ -222,7 +229,7 @@ export class Every {
     const onProgress = (/** @type {number} */ found) => void (this.states = found);
     const search = Math.max(SHARE_OF_SEARCH * within - (performance.now() - this.begun) / 1_000, 0);
     const place = { agents, buffers, noBlock };
-    const { covers } = this.options;
+    const { covers } = this;
     const wanted = { module, args, place, timeouts: choice, limit: states, within: search, covers };
     try {
       return await learnApart(wanted, { seconds, onProgress, signal: this.signal, over: this.over });
@@ -277,7 +284,7 @@ export class Every {
    */
   async #cover({ covering, findings, neverEnds }, runs, take) {
     const { maxMoves } = this.options;
-    if (covering.length === 0 || neverEnds) return { runs: 0, edges: 0 };
+    if (covering.length === 0 || neverEnds) return NOTHING.covered;
     const hasRace = findings.some(({ kind }) => kind === "race");
     return await coveringRuns(runs, covering, { first: this.seeds.last + 1, maxMoves }, (outcome) => {
       this.outcomes.push(outcome);
@@ -319,9 +326,6 @@ export class Every {
     throw new NotAsLearned(`the search has found ${what}, but the run by its schedule ends so: ${endOf(outcome)}`);
   }
 }
-
-/** @param {EveryRunOptions} options @returns {import("../seeds/ranges.mjs").SeedRange} */
-const drawnSeeds = ({ covers, first, last }) => ({ first, last: covers ? first + DRAWN_RUNS - 1 : last });
 
 /** There was no time for the second learning. */
 class NotLearnedAgain extends Error {

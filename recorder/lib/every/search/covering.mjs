@@ -15,7 +15,7 @@ import { isWithinAct } from "./nodes.mjs";
  */
 
 /** So many ways at most, and acts of each. */
-const MOST_WAYS = 100;
+const MOST_WAYS = 280;
 const MOST_ACTS = 1_000;
 
 /**
