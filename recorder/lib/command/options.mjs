@@ -144,6 +144,7 @@ function replayOf(given) {
  * @property {boolean} shorten
  * @property {{ file: string, seed: number | undefined, given: Record<string, any> }} [replay]
  * @property {boolean} all whether every schedule is to be tried
+ * @property {boolean} covers whether no seeds are given, so that its real runs go over each edge
  * @property {number} [within] for how many seconds
  * @property {number} [states] how many states at most
  * @property {import("../every/data.mjs").EveryData} [every] how far that came, if it isn't closed

@@ -18,6 +18,9 @@ import { isWithinAct } from "./nodes.mjs";
 const MOST_WAYS = 280;
 const MOST_ACTS = 1_000;
 
+/** So many states are looked at for edges that are still left. */
+const MOST_STATES = 20_000;
+
 /**
  * @param {Node} node
  * @param {unknown} answer
@@ -37,19 +40,25 @@ class Covering {
   }
 
   /**
-   * @param {Iterable<number>} states in which edges are gone over first
+   * @param {Iterable<number>} states in which edges are gone over first, as far as that is known
    * @returns {CoveringWay[]}
    */
   ways(states) {
     /** @type {CoveringWay[]} */
     const ways = [];
     // Those that were found last are the farthest, and others are on the way to them.
-    for (const state of [...states].sort((one, other) => other - one)) {
-      for (let at = this.#firstAct(state); at >= 0 && ways.length < MOST_WAYS; at = this.#firstAct(state)) {
-        ways.push(this.#wayOver(state, at));
-      }
-    }
+    for (const state of [...states].sort((one, other) => other - one)) this.#addFrom(state, ways);
+    const most = Math.min(this.search.count, MOST_STATES);
+    const goesOn = () => this.left.size > 0 && ways.length < MOST_WAYS;
+    for (let state = 0; state < most && goesOn(); state += 1) this.#addFrom(state, ways);
     return ways;
+  }
+
+  /** @param {number} state @param {CoveringWay[]} ways get those over its acts that go over edges that are left */
+  #addFrom(state, ways) {
+    for (let at = this.#firstAct(state); at >= 0 && ways.length < MOST_WAYS; at = this.#firstAct(state)) {
+      ways.push(this.#wayOver(state, at));
+    }
   }
 
   /** @param {number} state @returns {number} the place of an act from it that goes over an edge that is left, or -1 */
