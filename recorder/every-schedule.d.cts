@@ -132,6 +132,11 @@ export interface EverySchedule {
   advice: string[];
   /** How many real runs agree with what was learned. */
   realRuns: number;
+  /**
+   * How many of these went by schedules of the search that go over edges of the automata, and over how many edges of
+   * how many. Null if none did: if seeds were given, or no agent ever ends.
+   */
+  covered: { runs: number; edges: number; of: number } | null;
   /** The seeds of those for which there was no time. */
   notRun: { first: number; last: number }[];
   /**

@@ -155,7 +155,7 @@ export interface ManyRuns {
   // tools/sections.mjs makes this from the table of options: many
   /**
    * As `"1..1000"`, which begins at 1 and ends at 1000; a number: so many of them, from 1 on; or `{ first, last }`.
-   * With `all` they are 1..300 if none are given. Else "1..100".
+   * With `all` they are 1..300 if none are given, or fewer if every schedule can be tried. Else "1..100".
    */
   seeds?: string | number | { first: number; last: number };
   /** Starts new workers for each seed. A kept run of a program notes it, and is replayed so. Else false. */

@@ -61,7 +61,8 @@ function kindsOf({ detail, ending, races }) {
 /** @param {string} path @returns {Promise<Tried>} */
 async function tried(path) {
   const module = fileURLToPath(new URL(`../${path}`, import.meta.url));
-  const every = new Every(everyOptions({ module, within: Number(values.within) }, () => undefined), {});
+  const wanted = { module, seeds: "1..300", within: Number(values.within) };
+  const every = new Every(everyOptions(wanted, () => undefined), {});
   const nothing = { states: "", moments: "", found: [], seedsFind: [], isClosed: false };
   try {
     const { closed, found, moments, notProved, open, realRuns, states } = dataOf(await every.run());

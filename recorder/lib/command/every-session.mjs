@@ -12,6 +12,7 @@ import { chosenProgram, simulatorAt } from "../simulator/chosen.mjs";
 import { EveryProgress } from "./every-progress.mjs";
 import { Interruption } from "./interruption.mjs";
 import { print } from "./print.mjs";
+import { countOf } from "../seeds/ranges.mjs";
 import { Session } from "./session.mjs";
 
 /** @typedef {import("./options.mjs").CommandOptions} CommandOptions */
@@ -41,11 +42,11 @@ export class EverySession {
 
   /** @returns {Promise<{ failed: boolean, problems: unknown[], isPart: boolean }>} `isPart`: not all was done */
   async run() {
-    const { checkEvery, first, format, last, sabsim } = this.options;
+    const { checkEvery, format, sabsim } = this.options;
     const chosen = checkEvery > 0 ? chosenProgram(sabsim) : undefined;
     const given = /** @type {any} */ ({ ...this.every, sabsim: chosen });
     const every = new EveryUse(given, { signal: this.interruption.signal, over: this.over, job: this.job });
-    const progress = new EveryProgress(every, last - first + 1, this.after);
+    const progress = new EveryProgress(every, countOf(every.seeds), this.after);
     /** @type {EveryResult} */
     let tried;
     try {

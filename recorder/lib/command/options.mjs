@@ -144,6 +144,7 @@ function replayOf(given) {
  * @property {boolean} shorten
  * @property {{ file: string, seed: number | undefined, given: Record<string, any> }} [replay]
  * @property {boolean} all whether every schedule is to be tried
+ * @property {boolean} covers whether no seeds are given, so that its real runs go over each edge
  * @property {number} [within] for how many seconds
  * @property {number} [states] how many states at most
  * @property {import("../every/data.mjs").EveryData} [every] how far that came, if it isn't closed
@@ -172,7 +173,7 @@ export function commandOptionsOf(words) {
   const { seeds, shard, noShorten, help: _help, version: _version, ...all } = chosen;
   const asked = given.seeds ?? (all.all ? SEEDS_OF_ALL : seeds);
   return /** @type {CommandOptions} */ ({
-    ...all, ...runFrom(given, positionals), args: end < 0 ? [] : words.slice(end + 1),
-    ...shardFrom(asked, shard), shorten: !noShorten, replay: replayOf(given),
+    ...all, covers: given.seeds === undefined, ...runFrom(given, positionals),
+    args: end < 0 ? [] : words.slice(end + 1), ...shardFrom(asked, shard), shorten: !noShorten, replay: replayOf(given),
   });
 }

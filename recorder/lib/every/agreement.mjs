@@ -11,7 +11,8 @@ import { nodeAnswerText, callData, nodeText, AutomatonViews } from "./search/nod
 import { hexOf } from "./search/raw-elements.mjs";
 import { NotAsLearned } from "./not-as-learned.mjs";
 
-/** @typedef {import("../run/outcome.mjs").Outcome} Outcome */
+/** @typedef {import("../seeds/job.mjs").CheckedOutcome} CheckedOutcome */
+/** @typedef {CheckedOutcome & { isCovering?: boolean }} RealOutcome whether it has gone by a schedule of the search */
 /** @typedef {import("./search/nodes.mjs").Node} Node */
 /** @typedef {import("../../script/choices.mjs").AgentChoice} AgentChoice */
 
@@ -41,12 +42,12 @@ export class Agreement {
   }
 
   /**
-   * @param {Outcome} outcome of a real run
+   * @param {RealOutcome} outcome of a real run
    * @returns {boolean} whether it was compared: only if it has its script, its answers and a whole trace
    * @throws {NotAsLearned}
    */
   needs(outcome) {
-    const { answers, choices, script, seed, trace } = outcome;
+    const { answers, choices, script, trace } = outcome;
     if (answers === undefined || script === undefined || trace === undefined) return false;
     if (trace.startsWith(UNSEEN)) return false;
     const way = new Way(this.world, callsOf(script), answers, choices);
@@ -58,12 +59,16 @@ export class Agreement {
       if (!(problem instanceof NotAsLearned)) throw problem;
       const why = "The module may keep something from run to run, or go by chance or by a clock";
       const how = `does something else than was learned: ${problem.message}`;
-      throw new NotAsLearned(`the run of seed ${seed} ${how}. ${why}`);
+      throw new NotAsLearned(`${runText(outcome)} ${how}. ${why}`);
     }
     this.compared += 1;
     return true;
   }
 }
+
+/** @param {RealOutcome} outcome @returns {string} which run it is */
+export const runText = ({ isCovering, seed }) =>
+  (isCovering ? "a run by a schedule of the search" : `the run of seed ${seed}`);
 
 /** @param {string} text of a script @returns {RealCall[][]} of each agent its own calls */
 function callsOf(text) {
@@ -205,7 +210,7 @@ class Way {
     return found;
   }
 
-  /** @param {Outcome} outcome */
+  /** @param {RealOutcome} outcome */
   end({ ending, bytes, detail }) {
     const { world } = this;
     if (ending === "finished" || ending === "race" || ending === "check") {

@@ -16,7 +16,7 @@ import { adviceOf } from "./advice.mjs";
  * kind says all
  * @property {number} states in how many states it is; 0: only real runs have shown it
  * @property {number} runs how many real runs have shown it, if they alone have; else 0
- * @property {number | null} seed of the first of these runs
+ * @property {number | null} seed of the first of these runs; null if it went by a schedule of the search
  * @property {number} acts of the schedule that is shown; 0 if real runs alone have shown it
  * @property {number} changes of agents in it
  * @property {boolean} isEarly whether a timed wait ends in it while something else can move
@@ -75,6 +75,8 @@ import { adviceOf } from "./advice.mjs";
  * @property {import("../seeds/ranges.mjs").SeedRange[]} notRun the seeds of those for which there was no time
  * @property {boolean} freshened whether each of them has loaded the modules anew though that wasn't asked for: the
  * modules keep something from run to run
+ * @property {{ runs: number, edges: number, of: number } | null} covered how many of these went by schedules that go
+ * over edges of the automata, and over how many edges of how many; null if there was none
  * @property {number} notCompared real runs that have no whole trace, and so weren't compared
  * @property {boolean} searchProved whether the proved search has found the same: the numbers are its own then
  * @property {string | null} notProved why there was no proved search
@@ -93,8 +95,7 @@ const NOTHING = Object.freeze({
 
 /** @param {import("./every-use.mjs").EveryUseResult} tried @returns {EveryData} */
 export function dataOf({ report, open, shown, onlyRuns, uses, ...tried }) {
-  const usesData = usesOf(uses, report);
-  const common = { ...commonOf(open, tried), uses: usesData };
+  const common = { ...commonOf(open, tried, coveredOf(tried.covered, report)), uses: usesOf(uses, report) };
   if (uses !== undefined && !uses.isEnough && shown.length === 0) common.isWhole = false;
   const advice = adviceOf(open, report);
   if (report === undefined) return { ...NOTHING, agents: 0, areAlike: false, advice, ...common };
@@ -125,12 +126,24 @@ function usesOf(uses, report) {
 }
 
 /**
+ * @param {EveryResult["covered"]} covered
+ * @param {LearningReport | undefined} report
+ * @returns {EveryData["covered"]}
+ */
+function coveredOf(covered, report) {
+  if (covered.runs === 0 || report === undefined) return null;
+  const nodes = report.file.automata.flatMap(({ nodes: own }) => own);
+  return { ...covered, of: nodes.reduce((sum, { edges = [] }) => sum + edges.length, 0) };
+}
+
+/**
  * @param {string | undefined} open
  * @param {Omit<EveryResult, "report" | "open" | "shown" | "onlyRuns">} tried
+ * @param {EveryData["covered"]} covered
  */
-function commonOf(open, { realRuns, made, notRun, isProved, notProved, isCut, isFreshened, milliseconds }) {
+function commonOf(open, { realRuns, made, notRun, isProved, notProved, isCut, isFreshened, milliseconds }, covered) {
   const closed = open === undefined;
-  const runs = { realRuns, notRun, freshened: isFreshened, notCompared: made - realRuns };
+  const runs = { realRuns, covered, notRun, freshened: isFreshened, notCompared: made - realRuns };
   const proved = { searchProved: isProved, notProved: notProved ?? null };
   return { closed, open: open ?? null, isWhole: closed && !isCut, ...runs, ...proved, milliseconds };
 }
@@ -157,7 +170,8 @@ const endOf = (outcome) => ({ detail: outcome?.detail.split("\n") ?? null, onlyI
 
 /** @param {import("./only-runs.mjs").OnlyRun} found @returns {FoundData} */
 function dataOfRuns({ kind, text, runs, outcome }) {
-  const { seed, onlyIf } = outcome;
+  const { isCovering, onlyIf } = outcome;
+  const seed = isCovering ? null : outcome.seed;
   const noSchedule = { acts: 0, changes: 0, operations: 0, drewSame: false };
   const byRun = { states: 0, runs, seed, isEarly: onlyIf !== undefined, ...noSchedule };
   return { kind, text, ...byRun, ...endOf(outcome), notShown: null };

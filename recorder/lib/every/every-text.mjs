@@ -86,7 +86,7 @@ function findingLines(found, made) {
   const { detail, drewSame, kind, notShown, onlyIf, text } = found;
   const what = text === "" || text === detail?.[0] ? kind : `${kind}: ${text}`;
   const lines = detail === null ? [`not shown by a real run: ${notShown}`] : detail.slice(0, 4);
-  const how = found.seed === null ? bySearch(found) : byRuns(found, made);
+  const how = found.runs === 0 ? bySearch(found) : byRuns(found, made);
   const rests = [...(onlyIf === null ? [] : [onlyIf]), ...(drewSame ? [DREW_SAME] : [])];
   return [`${what}, ${how}`, ...[...lines, ...rests].map(indented)];
 }
@@ -98,7 +98,8 @@ function bySearch({ acts, changes, detail, states }) {
 }
 
 /** @param {FoundData} found by real runs alone @param {number} made how many there were */
-const byRuns = ({ runs, seed }, made) => `in ${digits(runs)} of ${countText(made, "real run")}, seed ${seed} the first`;
+const byRuns = ({ runs, seed }, made) =>
+  `in ${digits(runs)} of ${countText(made, "real run")}, ${seed === null ? "by a schedule" : `seed ${seed}`} the first`;
 
 /** @param {EveryData} data @returns {string[]} what was chosen of clocks and chance */
 const chosenLines = ({ drawsRandom, drawsUnique, keptClock, keptDraw }) => [
@@ -130,15 +131,20 @@ function finalText({ finalCount, finals }) {
 }
 
 /** @param {EveryData} data */
-function learnedText({ edges, moments, notCompared, notProved, realRuns, searchProved, ways, waysTried }) {
+function learnedText({ covered, edges, moments, notCompared, notProved, realRuns, searchProved, ways, waysTried }) {
   const search = searchProved ? "the search is proved" : `the search isn't proved (${notProved})`;
   const runs = realRuns === 1 ? "1 real run agrees" : `${digits(realRuns)} real runs agree`;
   const learned = `what the agents do was learned from their code: ${countText(moments, "moment")} of an agent`;
   const others = notCompared === 0 ? "" : `, and ${digits(notCompared)} couldn't be compared`;
   const some = `${digits(waysTried)} of ${countText(ways, "way")}`;
+  const over = covered === null ? "" : `: ${coveredText(covered)}`;
   const byWays = ways === 0 ? "" : `, by ${some} to moments that have several`;
-  return `${search}; ${learned}, each of ${countText(edges, "edge")} twice${byWays}; ${runs}${others}`;
+  return `${search}; ${learned}, each of ${countText(edges, "edge")} twice${byWays}; ${runs}${over}${others}`;
 }
+
+/** @param {NonNullable<EveryData["covered"]>} covered */
+const coveredText = ({ edges, of, runs }) =>
+  `${digits(runs)} of them go over ${digits(edges)} of ${countText(of, "edge")}`;
 
 /** @param {EveryData} data @returns {string[]} the seeds for which there was no time */
 const notRunLines = ({ notRun }) =>

@@ -2,7 +2,7 @@
 
 import { mayBeObject } from "../objects/object-file.mjs";
 import { TIME_OVER, overAfter } from "../processes/time-over.mjs";
-import { Every } from "./every.mjs";
+import { Every, seedsOf } from "./every.mjs";
 
 /** @typedef {import("./every.mjs").EveryResult} EveryResult */
 /** @typedef {{ agents: number, each: number | "any" }} UseSize agents, each with so many operations at most */
@@ -61,7 +61,8 @@ export class EveryUse {
    */
   constructor(options, { over = overAfter(options.within), isBrief = false, ...how }) {
     this.isBrief = isBrief;
-    this.options = options;
+    // The runs of an object are drawn: marks are in no schedule that could be given.
+    this.options = mayBeObject(options.module) ? { ...options, covers: false } : options;
     this.how = { ...how, over };
     this.begun = performance.now();
     /** @type {Every | undefined} the search that runs */
@@ -71,6 +72,11 @@ export class EveryUse {
   /** How many states were found so far. */
   get states() {
     return this.every?.states ?? 0;
+  }
+
+  /** The seeds of the real runs that are drawn. */
+  get seeds() {
+    return seedsOf(this.options);
   }
 
   /** The outcomes of the real runs. */

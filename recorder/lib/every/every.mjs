@@ -8,6 +8,7 @@ import { seedsWithout } from "../seeds/ranges.mjs";
 import { Runs } from "../seeds/runs.mjs";
 import { simulatorAt } from "../simulator/chosen.mjs";
 import { Agreement } from "./agreement.mjs";
+import { DRAWN_RUNS, coveringRuns, needScheduled } from "./covering-runs.mjs";
 import { DoesOtherwise, Unlearned, beginAgain, learnAgain, learnApart } from "./learning/apart.mjs";
 import { NotAsLearned } from "./not-as-learned.mjs";
 import { OnlyRuns } from "./only-runs.mjs";
@@ -22,8 +23,9 @@ import { endOf, explained, firstNotShown, shownFindings } from "./showing.mjs";
 
 /**
  * @typedef {import("../seeds/runs.mjs").RunsOptions & { within: number, states: number, agents?: number,
- * buffers?: number[], noBlock?: number[], each?: number | "any" }} EveryRunOptions `within` how many seconds all may
- * take, and `states` how many states
+ * buffers?: number[], noBlock?: number[], covers?: boolean, each?: number | "any" }} EveryRunOptions `within` how many
+ * seconds all may take, `states` how many states, and `covers` whether no seeds are asked for, so runs are made that go
+ * over each edge
  */
 
 /**
@@ -34,6 +36,7 @@ import { endOf, explained, firstNotShown, shownFindings } from "./showing.mjs";
  * @property {number} made how many there were
  * @property {import("../seeds/ranges.mjs").SeedRange[]} notRun the seeds of those for which there was no time
  * @property {import("./only-runs.mjs").OnlyRun[]} onlyRuns what they have shown and the search hasn't found
+ * @property {import("./covering-runs.mjs").Covered} covered by real runs that go over the edges
  * @property {boolean} isProved whether the proved search has found the same: the report's result is its own then
  * @property {string | undefined} notProved why there was no proved search
  * @property {boolean} isCut whether there was no time for something of a search that is closed
@@ -43,14 +46,15 @@ import { endOf, explained, firstNotShown, shownFindings } from "./showing.mjs";
  */
 
 /** @typedef {Omit<EveryResult, "isFreshened" | "milliseconds">} TriedOnce */
-/** @typedef {Pick<EveryResult, "realRuns" | "made" | "notRun" | "onlyRuns">} RealRuns */
+/** @typedef {Pick<EveryResult, "realRuns" | "made" | "notRun" | "onlyRuns" | "covered">} RealRuns */
 
 /** A real run of agents that never end is cut when one has made so many calls. */
 export const CUT_AFTER = 100;
 
 /** What there is of a search that isn't closed. */
 const NOTHING = Object.freeze({
-  realRuns: 0, made: 0, notRun: [], onlyRuns: [], isProved: false, notProved: undefined, isCut: false,
+  realRuns: 0, made: 0, notRun: [], onlyRuns: [], covered: { runs: 0, edges: 0 }, isProved: false, notProved: undefined,
+  isCut: false,
 });
 
 /** So much of the time a search may take: what comes behind it needs some, too. */
@@ -62,6 +66,12 @@ const PRELOADED = "not every schedule can be tried if --require or --import of n
   + "that keeps";
 const NOT_AGAIN = "its time was over when all states were found, before each step was learned a second time";
 const CHANGES_BUILTINS = "an agent changes the language's own objects, so what was learned may be wrong";
+
+/**
+ * @param {EveryRunOptions} options
+ * @returns {import("../seeds/ranges.mjs").SeedRange} the seeds of the real runs that are drawn
+ */
+export const seedsOf = ({ covers, first, last }) => ({ first, last: covers ? first + DRAWN_RUNS - 1 : last });
 
 export class Every {
   /**
@@ -76,6 +86,8 @@ export class Every {
     this.over = over;
     this.begun = performance.now();
     this.job = job;
+    /** Whether real runs are to go over each edge, and only a few are drawn. */
+    this.covers = options.covers === true;
     /** How many states were found so far. */
     this.states = 0;
     /** @type {import("../seeds/job.mjs").CheckedOutcome[]} of the real runs */
@@ -87,6 +99,11 @@ export class Every {
     /** @type {Pick<import("../run/group.mjs").GroupOptions, "cutAfter" | "chosenTime">} how real runs are made */
     this.how = { chosenTime: "anew" };
     this.isFreshened = false;
+  }
+
+  /** The seeds of the real runs that are drawn. */
+  get seeds() {
+    return seedsOf({ ...this.options, covers: this.covers });
   }
 
   /** @returns {Promise<EveryResult>} */
@@ -123,9 +140,8 @@ export class Every {
       if (!report.isClosed) return await this.#open(report, openText(report));
       if (report.neverEnds || report.kept !== undefined) real = await this.#begunAnew(real, report);
       const again = this.#learnAgain(report);
-      const { running } = real;
       // The second learning knows more about why a run differs.
-      const agreeing = this.#agreeing(report, running).catch((problem) => again.then(() => Promise.reject(problem)));
+      const agreeing = this.#agreeing(report, real).catch((problem) => again.then(() => Promise.reject(problem)));
       const [{ result = report.result, why }, ofRuns] = await Promise.all([
         this.#second(report, ending.signal), agreeing, again,
       ]);
@@ -166,8 +182,10 @@ export class Every {
 
   /** What agents do before their first calls is searched in the order of the agents, so they begin in turn. */
   #ofRuns() {
-    const sabsim = /** @type {false} */ (false);
-    return { ...this.options, ...this.how, inTurn: true, isBrief: false, trace: true, checkEvery: 1, sabsim };
+    // A schedule of the search says who makes each call.
+    const everywhere = this.covers || this.options.everywhere;
+    const each = { everywhere, inTurn: true, isBrief: false, trace: true, checkEvery: 1 };
+    return { ...this.options, ...this.seeds, ...this.how, ...each, sabsim: /** @type {false} */ (false) };
   }
 
   /**
@@ -193,6 +211,7 @@ export class Every {
    */
   async #begunAnew(before, { kept, neverEnds }) {
     if (neverEnds) this.how.cutAfter = CUT_AFTER;
+    if (neverEnds) this.covers = false;
     if (kept !== undefined) this.how.chosenTime = "lasting";
     const [real] = await Promise.all([this.#begun(), before.runs.close()]);
     return real;
@@ -219,7 +238,8 @@ export class Every {
     const search = Math.max(SHARE_OF_SEARCH * within - (performance.now() - this.begun) / 1_000, 0);
     const place = { agents, buffers, noBlock };
     const most = each === "any" ? Infinity : each;
-    const wanted = { module, args, place, timeouts: choice, limit: states, within: search, each: most };
+    const { covers } = this;
+    const wanted = { module, args, place, timeouts: choice, limit: states, within: search, each: most, covers };
     try {
       return await learnApart(wanted, { seconds, onProgress, signal: this.signal, over: this.over });
     } catch (problem) {
@@ -245,24 +265,48 @@ export class Every {
   /**
    * Compares the real runs, those that were made first.
    * @param {LearningReport} report
-   * @param {Promise<void>} running
+   * @param {{ runs: Runs, running: Promise<void> }} real
    * @returns {Promise<RealRuns>} how many are ways through the automata, and what they alone have shown
    */
-  async #agreeing({ file, findings }, running) {
+  async #agreeing(report, { running, runs }) {
+    const { file, findings } = report;
     const agreement = new Agreement(programOf(file));
     const only = new OnlyRuns(findings, simulatorAt(this.options.sabsim || undefined));
     const early = this.outcomes.length;
     for (const outcome of this.outcomes.slice(0, early)) only.take(outcome, agreement.needs(outcome));
     await running;
     for (const outcome of this.outcomes.slice(early)) only.take(outcome, agreement.needs(outcome));
+    const covered = await this.#cover(report, runs, (outcome) => {
+      const isWay = agreement.needs(outcome);
+      only.take(outcome, isWay);
+      return isWay;
+    });
     const made = this.outcomes.length;
     const onlyRuns = [...only.found.values()];
-    return { realRuns: agreement.compared, made, notRun: this.#notRun(), onlyRuns };
+    return { realRuns: agreement.compared, made, notRun: this.#notRun(), onlyRuns, covered };
+  }
+
+  /**
+   * @param {LearningReport} report
+   * @param {Runs} runs that were made
+   * @param {(outcome: import("./agreement.mjs").RealOutcome) => boolean} take
+   */
+  async #cover({ covering, findings, neverEnds }, runs, take) {
+    const { maxMoves } = this.options;
+    if (covering.length === 0 || neverEnds) return NOTHING.covered;
+    const hasRace = findings.some(({ kind }) => kind === "race");
+    return await coveringRuns(runs, covering, { first: this.seeds.last + 1, maxMoves }, (outcome) => {
+      this.outcomes.push(outcome);
+      const isWay = take(outcome);
+      // With a race a real run may differ from the search.
+      if (!hasRace) needScheduled(outcome);
+      return isWay && outcome.divergence === undefined;
+    });
   }
 
   /** @returns {import("../seeds/ranges.mjs").SeedRange[]} the seeds whose runs weren't made */
   #notRun() {
-    const { first, last } = this.options;
+    const { first, last } = this.seeds;
     return seedsWithout([{ first, last }], this.outcomes.map(({ seed }) => ({ first: seed, last: seed })));
   }
 

@@ -2,18 +2,19 @@
 // listed, as failing seeds are.
 
 import { comesBefore } from "../run/order.mjs";
+import { runText } from "./agreement.mjs";
 import { NotAsLearned } from "./not-as-learned.mjs";
 import { isShownBy, plain } from "./showing.mjs";
 
 /** @typedef {import("./learning/findings.mjs").Finding} Finding */
-/** @typedef {import("../seeds/job.mjs").CheckedOutcome} CheckedOutcome */
+/** @typedef {import("./agreement.mjs").RealOutcome} RealOutcome */
 
 /**
  * @typedef {object} OnlyRun
  * @property {"race" | "limit" | "failed"} kind
  * @property {string} text which lines race, or else the first line of the run's detail
  * @property {number} runs how many end so
- * @property {CheckedOutcome} outcome of the first one
+ * @property {RealOutcome} outcome of the first one
  */
 
 /** The endings of runs that show a finding. */
@@ -43,7 +44,7 @@ export class OnlyRuns {
   }
 
   /**
-   * @param {CheckedOutcome} outcome of a real run
+   * @param {RealOutcome} outcome of a real run
    * @param {boolean} isWay whether it is a way through the automata
    * @throws {NotAsLearned} if the search should have found how it ends
    */
@@ -60,16 +61,18 @@ export class OnlyRuns {
   }
 
   /**
-   * @param {CheckedOutcome} outcome of a way through the automata that the search hasn't found
+   * @param {RealOutcome} outcome of a way through the automata that the search hasn't found
    * @throws {NotAsLearned}
    */
-  #needPossible({ detail, ending, seed, trace = "" }) {
+  #needPossible(outcome) {
+    const { detail, ending, trace = "" } = outcome;
     const [first] = detail.split("\n");
     const isOther = ending === "failed" && !/^agent \d+ threw /.test(first);
     if (!(ending in FINDS) || isOther || (ending === "race" && this.#dataRaces(trace) === 0)) return;
     const what = FINDS[/** @type {keyof typeof FINDS} */ (ending)];
     const why = ending === "check" ? `. ${OTHER_CHECK}` : "";
-    throw new NotAsLearned(`the run of seed ${seed} ${what}, and the search has found none that does: ${first}${why}`);
+    const run = runText(outcome);
+    throw new NotAsLearned(`${run} ${what}, and the search has found none that does: ${first}${why}`);
   }
 
   /** @param {string} trace @returns {number} how many data races the judge finds in it */
@@ -79,11 +82,11 @@ export class OnlyRuns {
   }
 }
 
-/** @param {CheckedOutcome} outcome @param {boolean} isWay if it is a race, none of its accesses are a data race then */
+/** @param {RealOutcome} outcome @param {boolean} isWay if it is a race, none of its accesses are a data race then */
 function textOf({ detail, ending, races: [race] }, isWay) {
   if (ending !== "race" || race === undefined) return detail.split("\n")[0];
   return `${race.lines.join(" and ")}${isWay ? ", unordered but no data race" : ""}`;
 }
 
-/** @param {Finding} finding @param {CheckedOutcome} outcome @returns {boolean} whether the run ends in that way */
+/** @param {Finding} finding @param {RealOutcome} outcome @returns {boolean} whether the run ends in that way */
 const isOf = (finding, outcome) => ENDINGS[finding.kind] === outcome.ending && isShownBy(finding, outcome);

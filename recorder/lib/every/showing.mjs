@@ -26,11 +26,11 @@ const AFTER_RACE = "with a race a real run may differ from the search";
 const SPINS = "a real run can't change agents in a loop of ordinary reads";
 
 /**
- * @param {Finding} finding
+ * @param {import("./learning/run-of-way.mjs").RunOfWay} run
  * @param {{ maxMoves: number }} options of runs
  * @returns {string | undefined} why no run can go by its schedule
  */
-function whyNoRun({ calls, choices, lastChooser, row }, { maxMoves }) {
+export function whyNoRun({ calls, choices, lastChooser, row }, { maxMoves }) {
   const most = calls.reduce((one, other) => Math.max(one, other));
   if (most > SCRIPT_LIMITS.calls) return `it needs ${countText(most, "call")} of agent ${calls.indexOf(most)}`;
   const chooser = choices.findIndex(({ length }) => length > MOST_CHOICES);
@@ -115,7 +115,7 @@ export function explained(found) {
   });
 }
 
-/** @param {CheckedOutcome} outcome @returns {string} how its run ended, in a line */
+/** @param {Pick<CheckedOutcome, "detail" | "ending">} outcome @returns {string} how its run ended, in a line */
 export const endOf = ({ detail, ending }) => (detail === "" ? ending : `${ending}, ${detail.split("\n")[0]}`);
 
 /** @param {string} text @returns {string} without its numbers */

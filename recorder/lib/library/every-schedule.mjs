@@ -33,7 +33,7 @@ export function everyOptions(options, callersFolder) {
   }
   const { seeds, sabsim, ...checked } = exploreOptions({ seeds: SEEDS_OF_ALL, ...rest }, callersFolder);
   const checking = sabsim !== false && checked.checkEvery > 0 ? { sabsim: chosenProgram(sabsim) } : { checkEvery: 0 };
-  return { ...checked, ...seeds, ...checking, within, states };
+  return { ...checked, ...seeds, ...checking, within, states, covers: rest.seeds === undefined };
 }
 
 /**

@@ -115,7 +115,8 @@ export const OPTIONS = Object.freeze({
   seed: { kind: SEED, of: ["record"], ifNone: 1, help: ["", "the seed of the run, which draws who moves next"] },
   args: { kind: WORDS, of: LIBRARY, ifNone: Object.freeze([]), help: ["", "words for the agents, or for the program"] },
   seeds: { kind: SEEDS, of: OF_MANY, ifNone: Object.freeze({ first: 1, last: 100 }),
-    help: ["A..B", "the seeds, or one seed"], more: "With `--all` they are 1..300 if none are given",
+    help: ["A..B", "the seeds, or one seed"], more: "With `--all` they are 1..300 if none are given, or "
+      + "[fewer](#every-schedule) if every schedule can be tried",
     inLibrary: 'as `"1..1000"`, which begins at 1 and ends at 1000; a number: so many of them, from 1 on; or '
     + "`{ first, last }`" },
   shard: { kind: SHARD, of: COMMAND, not: notInAll("it is about the runs of seeds"),

@@ -140,6 +140,15 @@ export class Runs {
     return again && differenceBetween(first.outcome, again);
   }
 
+  /**
+   * Makes further runs, in the first job.
+   * @param {import("../run/outcome.mjs").WantedRun[]} wanted
+   * @param {(outcome: CheckedOutcome) => void} onOutcome
+   */
+  async further(wanted, onOutcome) {
+    await this.#atRest(() => this.jobs[0].run(wanted, onOutcome));
+  }
+
   /** @param {CheckedOutcome} outcome @returns {boolean} whether it is the last one */
   isLast(outcome) {
     const { failFast, last } = this.options;

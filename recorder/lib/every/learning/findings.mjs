@@ -1,21 +1,19 @@
 // What is found in the states of agents, and how each is shown: by the schedule with the fewest changes of agents.
 // Things that have the same message, without its numbers, are one finding.
 
-import { choiceOf } from "../../../script/choices.mjs";
 import { verdictOf } from "../../objects/history.mjs";
 import { actorOf, chosenIn } from "../search/chosen-acts.mjs";
-import { DOES, isChoice } from "../search/nodes.mjs";
+import { DOES } from "../search/nodes.mjs";
 import { endingHere } from "../search/result.mjs";
 import { shortestTo } from "../search/shortest.mjs";
-import { lastChoices } from "./last-choices.mjs";
 import { PART } from "./learning-progress.mjs";
+import { runOfWay } from "./run-of-way.mjs";
 import { problemOf } from "./thrown.mjs";
 
 /** @typedef {import("../search/nodes.mjs").Node} Node */
 /** @typedef {import("../search/search.mjs").Search} Search */
 /** @typedef {import("../search/result.mjs").Kinds} Kinds */
 
-/** @typedef {import("../../../script/choices.mjs").AgentChoice} AgentChoice */
 /** @typedef {import("../../objects/history.mjs").HistoryEvent} HistoryEvent */
 
 /**
@@ -23,22 +21,18 @@ import { problemOf } from "./thrown.mjs";
  */
 
 /**
- * @typedef {object} Finding
+ * @typedef {object} FoundFinding
  * @property {FindingKind} kind
  * @property {string} text what was thrown, or what `check` found, or which lines race
  * @property {number} states how many have it
- * @property {number[]} row the agents in the order in which they move, as a run goes by it
- * @property {number[]} calls of each agent how many it makes on the way
- * @property {AgentChoice[][]} choices of each agent what it chooses, also behind the row if it is at a choice there
- * @property {number} [lastChooser] an agent that stands at a choice then, of which each number throws, or leads on to
- * choices for ever
  * @property {number} changes of agents
  * @property {number} acts
  * @property {boolean} isEarly whether a timed wait ends while something else can move
  * @property {boolean} goesOn whether agents go on behind the row
  * @property {number} operations of an object that are begun on the way, if it is about their history
- * @property {boolean} spins whether an agent stands in a loop of reads on the way, where no real run changes agents
  */
+
+/** @typedef {FoundFinding & import("./run-of-way.mjs").RunOfWay} Finding with the run that shows it */
 
 /**
  * @typedef {{ key: string, kind: FindingKind, text: string, next?: number[] }} StateFinding something in a state; who
@@ -180,7 +174,7 @@ export class Findings {
    * @returns {Finding}
    */
   #finding({ key, kind, text, states }, { state, way, names, changes, isEarly }) {
-    const { calls, choices, lastChooser, row, spins } = this.#wayOf(way);
+    const { calls, choices, lastChooser, row, spins } = runOfWay(this.search.world, way);
     const next = (this.#at(state).find((one) => one.key === key)?.next ?? []).map((agent) => names[agent]);
     const isSpinning = kind === "lost wake-up" && this.kinds.spins(state);
     const goesOn = kind === "race" || kind === "no way out" || kind === "not linearizable" || isSpinning;
@@ -211,36 +205,5 @@ export class Findings {
     for (const act of way) world.step(actorOf(act), chosenIn(act));
     operations.journal = undefined;
     return events;
-  }
-
-  /**
-   * @param {number[]} way the acts in their order
-   * @returns {Pick<Finding, "row" | "calls" | "choices" | "lastChooser" | "spins">} whose acts those are that are
-   * calls; of each agent how many calls it makes, and what it chooses; whether one stands in a loop of reads
-   */
-  #wayOf(way) {
-    const { world } = this.search;
-    world.restart();
-    const stands = () => world.nodes.some(({ isAlone }) => isAlone);
-    let spins = stands();
-    const calls = world.nodes.map(() => 0);
-    const choices = world.nodes.map(() => /** @type {AgentChoice[]} */ ([]));
-    /** @param {Node} node @param {number} chosen @returns {AgentChoice} */
-    const choiceAt = ({ limit }, chosen) => choiceOf(/** @type {number} */ (limit), chosen);
-    const row = way.filter((act) => {
-      const agent = actorOf(act);
-      const node = world.nodes[agent];
-      const isOfCall = node.does < DOES.READ;
-      // An agent that waits has made its call before.
-      if (isOfCall && !world.waits(agent)) calls[agent] += 1;
-      if (isChoice(node)) choices[agent].push(choiceAt(node, chosenIn(act)));
-      world.step(agent, chosenIn(act));
-      spins ||= stands();
-      return isOfCall;
-    }).map(actorOf);
-    choices.forEach((made, agent) =>
-      made.push(...lastChoices(world, agent).map(([node, chosen]) => choiceAt(node, chosen))));
-    const left = world.nodes.findIndex(isChoice);
-    return { row, calls, choices, lastChooser: left < 0 ? undefined : left, spins };
   }
 }

@@ -34,6 +34,7 @@ import { problemOf } from "./thrown.mjs";
  * @property {{ agents?: number, buffers?: number[], noBlock?: number[] }} place what the options say of the agents
  * @property {import("../search/search.mjs").Choice} timeouts
  * @property {number} limit how many states at most
+ * @property {boolean} [covers] whether runs are wanted that go over each edge
  * @property {boolean} [isUnmerged] whether no two histories become one node
  * @property {number} [each] how many operations of an object each agent makes at most
  */
@@ -63,6 +64,8 @@ export class Learned {
     this.unlike = new UnlikeAgents(this.plan.canBlock);
     /** @type {JoinedAutomata | undefined} those of the last search */
     this.joined = undefined;
+    /** @type {Set<number>} the states in which it has learned edges */
+    this.learnedAt = new Set();
     /** @type {Learner} */
     this.learner = this.#newLearner();
     /** @type {Program | undefined} */
@@ -197,11 +200,18 @@ export class Learned {
     const roots = joined.roots(bytes);
     const agents = plan.canBlock.map((canBlock, agent) => ({ canBlock, root: roots[agent] }));
     this.object = this.code.isObject ? this.monitored() : undefined;
+    /** @type {Search} */
+    let search;
+    this.learnedAt.clear();
     this.program = {
       lengths: plan.buffers, bases, initial, agents, nodes: learner.nodes, mayLack: false,
-      learn: (node, answer, found) => joined.learn(node, answer, found), operations: this.object?.operations,
+      learn: (node, answer, found) => {
+        this.learnedAt.add(search.expanded);
+        return joined.learn(node, answer, found);
+      },
+      operations: this.object?.operations,
     };
-    const search = new Search(this.program, { timeouts, limit, isLate });
+    search = new Search(this.program, { timeouts, limit, isLate });
     search.run();
     return search;
   }

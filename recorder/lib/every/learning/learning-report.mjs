@@ -4,8 +4,10 @@ import { kindOfAsked } from "../../../script/choices.mjs";
 import { Positions, fileOf } from "../search/file.mjs";
 import { isChoice, isOwnAct } from "../search/nodes.mjs";
 import { Kinds, blocksIn, resultOf } from "../search/result.mjs";
+import { coveringWays } from "../search/covering.mjs";
 import { Findings } from "./findings.mjs";
 import { NodeWays } from "./node-ways.mjs";
+import { runOfWay } from "./run-of-way.mjs";
 
 /** @typedef {import("../search/nodes.mjs").Node} Node */
 /** @typedef {import("../search/nodes.mjs").Answer} Answer */
@@ -62,6 +64,7 @@ export function learningReportOf(learned, search) {
     result: resultOf(search, kinds, named),
     file: fileOf(program, positions),
     findings,
+    covering: search.isClosed && learned.wanted.covers ? coveringRuns(learned, search, positions) : [],
     counts: countsOf(own),
     object: objectDataOf(learned, kinds),
     edges,
@@ -87,15 +90,31 @@ function objectDataOf({ code, object }, kinds) {
   return { hasModel: code.hasModel, isFinished, alwaysThrow: model.alwaysThrow(), ...counts };
 }
 
+/** @typedef {import("./run-of-way.mjs").RunOfWay & { isWhole: boolean, edges: number }} CoveringRun */
+
+/**
+ * @param {import("./learned.mjs").Learned} learned
+ * @param {Search} search
+ * @param {Positions} positions
+ * @returns {CoveringRun[]} runs that together go over the edges
+ */
+function coveringRuns({ learnedAt }, search, { nodes }) {
+  return coveringWays(search, nodes.flat(), learnedAt).map(({ way, isWhole, edges }) =>
+    ({ ...runOfWay(search.world, search.named(way).way), isWhole, edges }));
+}
+
 /** @param {Positions} positions */
 function countsOf({ nodes }) {
   const all = nodes.flat();
   return {
     moments: all.filter(isOwnAct).length, choices: all.filter(isChoice).length,
     nodes: nodes.map(({ length }) => length),
-    edges: all.reduce((sum, { edges }) => sum + edges.size, 0),
+    edges: edgesIn(all),
   };
 }
+
+/** @param {Node[]} nodes @returns {number} how many edges they have */
+const edgesIn = (nodes) => nodes.reduce((sum, { edges }) => sum + edges.size, 0);
 
 /** @param {Positions} positions @returns {{ numbers: boolean, unique: boolean }} what agents draw */
 function drawnIn({ nodes }) {
