@@ -6,7 +6,8 @@ import { join } from "node:path";
 import { describe, test } from "node:test";
 import { fileURLToPath, pathToFileURL } from "node:url";
 import { learnApart } from "../../lib/every/learning/apart.mjs";
-import { Refused, explore } from "../../recorder.mjs";
+import { Refused, everySchedule, explore } from "../../recorder.mjs";
+import { assertObject } from "../../testing.mjs";
 import { difference } from "../../../tests/objects/compare.mjs";
 import { drawn } from "../../../tests/objects/draw.mjs";
 import { commandHere } from "../helpers/command-here.mjs";
@@ -178,6 +179,30 @@ describe("the examples", () => {
     assert.match(done.stdout, /\nshortened: .* calls to \d+, in /);
     assert.match(readFileSync(join(out, "first.html").replace("first", kept(out)), "utf8"), /not linearizable/);
   });
+});
+
+describe("in a test suite", () => {
+  test("an object that is right passes, by every use", async () => {
+    await assertObject({ module: example("bounded-queue"), all: true, agents: 2, each: 1, seeds: 5 });
+  });
+
+  test("one that isn't fails, with its operations", async (context) => {
+    const out = temporaryFolder(context);
+    const wrong = assertObject({ module: example("sequence-queue"), agents: 3, seeds: 10, out });
+    await assert.rejects(wrong, (/** @type {Error} */ error) => {
+      assert.equal(error.name, "RunFailed");
+      assert.match(error.message, /not linearizable/);
+      assert.match(error.message, /try(Put|Take)\(\d?\) returns \w+, and in every order that fits it returns/);
+      return true;
+    });
+  });
+});
+
+test("the library reports what was tried", async () => {
+  const { found, isWhole, uses } = await everySchedule({ module: example("bounded-queue"), agents: 2, each: 1, seeds: 5 });
+  const size = { agents: 2, each: 1 };
+  assert.deepEqual([found, isWhole], [[], true]);
+  assert.deepEqual([uses?.finished, uses?.size, uses?.open, uses?.hasModel], [[size], size, null, true]);
 });
 
 /** @param {string} folder @returns {string} the name of the run that is kept there */
