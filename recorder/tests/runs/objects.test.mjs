@@ -132,11 +132,12 @@ describe("a module that can't be tried is refused", () => {
 });
 
 describe("the verdicts are those of a checker that goes through permutations", () => {
-  for (const seed of [2, 5, 9, 11]) {
+  // In the last one a race is open while an agent chooses its next operation.
+  for (const [seed, each] of [[2, 1], [5, 1], [9, 1], [11, 1], [40, 2]]) {
     const { mutation, name, text } = drawn(seed);
-    test(`seed ${seed}: ${name}, ${mutation ?? "right"}`, async (context) => {
+    test(`seed ${seed}: ${name}, ${mutation ?? "right"}, ${each} operations of each agent`, async (context) => {
       const file = fileIn(temporaryFolder(context), "drawn.object.mjs", text);
-      assert.equal(await difference(file, 2, 1), undefined);
+      assert.equal(await difference(file, 2, each), undefined);
     });
   }
 });
