@@ -200,8 +200,8 @@ describe("in a test suite", () => {
 });
 
 test("the library reports what was tried", async () => {
-  const { found, isWhole, uses } = await everySchedule({ module: example("bounded-queue"), agents: 2, each: 1, seeds: 5 });
   const size = { agents: 2, each: 1 };
+  const { found, isWhole, uses } = await everySchedule({ module: example("bounded-queue"), ...size, seeds: 5 });
   assert.deepEqual([found, isWhole], [[], true]);
   assert.deepEqual([uses?.finished, uses?.size, uses?.open, uses?.hasModel], [[size], size, null, true]);
 });
