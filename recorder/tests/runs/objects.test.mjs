@@ -171,6 +171,15 @@ describe("the examples", () => {
     assert.match(done.stdout, /the search isn't proved \(the proved search doesn't know the operations of objects\)/);
   });
 
+  test("an object with a race alone has it in its first line", async (context) => {
+    const text = objectOf("touch() { this.w[1] = 1; Atomics.load(this.w, 0); }", "touch: []");
+    const words = ["--all", "--agents", "2", "--each", "1", "--seeds", "1..5"];
+    const done = await commandHere([moduleOf(context, text), ...words]);
+    assert.deepEqual([done.status, done.stderr], [1, ""]);
+    const title = "every schedule of every use by 2 agents with up to 1 operation each was tried: agents can race\n";
+    assert.equal(done.stdout.slice(0, title.length), title);
+  });
+
   test("seeds find the flaw of the first, and it is shortened to three operations", async (context) => {
     const out = temporaryFolder(context);
     const words = ["--agents", "3", "--seeds", "1..40", "--jobs", "1", "--out", out, "--fail-fast"];
