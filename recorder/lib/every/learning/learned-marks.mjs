@@ -22,7 +22,7 @@ export const learnedMarks = (asker, url, calls, who = "the object") => marksBy({
     asker.ends(outcome);
   },
   refuse(what, call) {
-    const { name, text } = calls()[call];
+    const { name = "", text = "an operation" } = calls()[call] ?? {};
     asker.refuse(`${text} returns ${what}, and that can't be compared`, lineOfOperation(url, name));
   },
 });
