@@ -28,10 +28,10 @@ const { DataView: EngineView, Error: EngineError, Uint8Array: EngineBytes } = gl
 const BROKEN = Object.freeze({ isBrokenOff: true });
 
 /**
- * Another time at which a clock may begin: later than a few long times, and in another year, month, day of the week and
- * hour.
+ * Another time at which a clock may begin: later than many long times, in another year, month, day of the week and hour,
+ * and below 0 as a number of 32 bits.
  */
-export const OTHER_START = 34_567_890_123;
+export const OTHER_START = 37_127_117_789;
 
 /** So often an agent may catch that. */
 const MOST_CAUGHT = 10_000;
