@@ -16,7 +16,11 @@ def searched(simulator, text, *words):
 def wrong_search(simulator, text, automata, choice, limit, result):
     """Returns what the program finds otherwise than the model's result, which may list states; None if nothing."""
     words = ["--timeouts", choice, "--limit", str(limit), *["--states"] * ("found" in result)]
-    status, output, error = searched(simulator, text, *words)
+    return wrong_output(*searched(simulator, text, *words), automata, choice, result)
+
+
+def wrong_output(status, output, error, automata, choice, result):
+    """Returns how a run of the program ended otherwise than the model's result has it; None if it didn't."""
     if (status, error) != (result["status"], ""):
         return f"the program ends with status {status}, and not {result['status']}: {error}"
     lines, found = output.splitlines(), [*lines_of(result)]

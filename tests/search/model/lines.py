@@ -10,7 +10,8 @@ def lines_of(result):
     """Yields the lines: of the search, and of each kind."""
     final, conflicts = result["final"], result["conflicts"]
     counts = {"conflicts": conflicts["count"], "finals": final["count"], "final_states": final["states"]}
-    yield spelled({**{member: result[member] for member in FIRST}, **counts})
+    why = {"why": result["why"]} if "why" in result else {}
+    yield spelled({**{member: result[member] for member in FIRST}, **counts, **why})
     for name, rows in (
         ("deadlock", [result["deadlock"] or {}]),
         ("failed", result["failed"]),

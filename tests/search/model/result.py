@@ -65,7 +65,11 @@ def described(it):
 
 def result_of(automata, choice="early", limit=1_000_000, with_states=False):
     """Returns the result of a search."""
-    it = search(automata, choice, limit)
+    return result_in(automata, search(automata, choice, limit), choice, limit, with_states)
+
+
+def result_in(automata, it, choice, limit, with_states=False):
+    """Returns the result of what a search has found."""
     found, acts_of = it.found, it.acts
     # A search that isn't closed says something of the states of these depths alone.
     within = [(n, row.state) for n, row in enumerate(found) if it.is_closed or row.depth <= it.depth]
