@@ -36,6 +36,7 @@ const MOST_VIEWS = 64;
 const MORE_ROOM = 2 ** 20;
 
 const OUT_OF_MEMORY = 4;
+const NO_MEMORY = "there is no memory for it";
 
 /**
  * @param {FileData} data
@@ -98,7 +99,7 @@ async function byModule(given, signal, thread = beginSearch()) {
 
 /** @param {SimulatorSearchResult} ended @returns {Result} */
 function resultOf({ status, output, complaint, leftOut }) {
-  if (status === OUT_OF_MEMORY) throw new NotSearched("there is no memory for it");
+  if (status === OUT_OF_MEMORY) throw new NotSearched(NO_MEMORY);
   if (leftOut > 0) throw new NotAsLearned(`the proved search has found ${leftOut} bytes more than there was room for`);
   const failed = complaint === "" ? `it ended with status ${status}` : complaint.trim();
   let result;
@@ -109,5 +110,6 @@ function resultOf({ status, output, complaint, leftOut }) {
     throw new NotAsLearned(`the proved search failed: ${why}`);
   }
   if (statusOf(result) !== status) throw new NotAsLearned(`the proved search failed: ${failed}`);
+  if (result.why !== undefined) throw new NotSearched(NO_MEMORY);
   return result;
 }

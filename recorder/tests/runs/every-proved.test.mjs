@@ -43,6 +43,12 @@ for (const name of NAMES) {
   });
 }
 
+test("the first line says if memory has ended the search", () => {
+  const lines = linesOf({ ...foundIn("torn-read").result, closed: false, expanded: 1, depth: 0 });
+  const cut = lines.replace('"states":', '"why":"memory","states":');
+  assert.deepEqual(resultIn(cut), { ...resultIn(lines), why: "memory" });
+});
+
 test("lines that aren't whole, or that no search writes, are refused", () => {
   const lines = linesOf(foundIn("torn-read").result);
   const [first, ...others] = lines.slice(0, -1).split("\n");
@@ -55,6 +61,7 @@ test("lines that aren't whole, or that no search writes, are refused", () => {
     "another member": lines.replace('"acts":', '"act":'),
     "no JSON": `${lines}nothing\n`,
     "the first line alone": `${first}\n`,
+    "another reason": lines.replace('"states":', '"why":"time","states":'),
   };
   for (const [what, text] of Object.entries(texts)) assert.throws(() => resultIn(text), BadLines, what);
 });

@@ -19,6 +19,9 @@ const OWN = /** @type {Record<LineKind, string[]>} */ ({
   final: ["blocks"],
 });
 
+/** What the first line says besides of a search for which memory was wanting. */
+const MEMORY = "memory";
+
 /** So many are listed at most. */
 const MOST = /** @type {Record<LineKind, number>} */ ({
   deadlock: 1, failed: Infinity, "no way out": 1, unknown: Infinity, conflict: 100, final: 1_000,
@@ -46,14 +49,15 @@ function needMembers(row, names, at) {
 
 /**
  * @param {string} text all that was written
- * @returns {Result}
+ * @returns {Result & { why?: "memory" }} and why it ended, if it was for want of memory
  * @throws {BadLines}
  */
 export function resultIn(text) {
   need(text.endsWith("\n"), "the last line has no end");
   const [first, ...lines] = text.slice(0, -1).split("\n");
-  const whole = parsed(first, 0);
+  const { why, ...whole } = parsed(first, 0) ?? {};
   needMembers(whole, WHOLE, 0);
+  need(why === undefined || why === MEMORY, `line 1 says that ${why} has ended the search`);
   /** @type {Record<LineKind, any[]>} */
   const found = { deadlock: [], failed: [], "no way out": [], unknown: [], conflict: [], final: [] };
   let last = 0;
@@ -71,7 +75,7 @@ export function resultIn(text) {
     const listed = Math.min(count, MOST[kind]);
     need(found[kind].length === listed, `there are ${found[kind].length} lines of ${kind}, and not ${listed}`);
   }
-  return resultOf(whole, found);
+  return { ...resultOf(whole, found), ...(why === undefined ? {} : { why: MEMORY }) };
 }
 
 /** @param {any} whole the first line @param {Record<LineKind, any[]>} found @returns {Result} */
