@@ -322,7 +322,7 @@ test("a run whose agents have drawn bytes that are never equal is kept, and repl
   const fails = "if (Atomics.exchange(words, 1, 1) === 1) throw new Error(crypto.randomUUID());";
   const module = moduleOf(context, named("crypto.randomUUID()", fails));
   const out = temporaryFolder(context);
-  const done = await commandHere([module, "--all", "--seeds", "1..3", "--out", out]);
+  const done = await commandHere([module, "--all", "--seeds", "1..3", "--within", "300", "--out", out]);
   assert.equal(done.status, 1, done.stdout);
   const { agents: choices } = JSON.parse(readFileSync(join(out, "all-1.choices.json"), "utf8"));
   assert.ok(choices.flat().some(([does]) => does === "lasting unique"), JSON.stringify(choices));

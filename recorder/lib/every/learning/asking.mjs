@@ -28,8 +28,8 @@ const { DataView: EngineView, Error: EngineError, Uint8Array: EngineBytes } = gl
 const BROKEN = Object.freeze({ isBrokenOff: true });
 
 /**
- * Another time at which a clock may begin: later than many long times, in another year, month, day of the week and hour,
- * and below 0 as a number of 32 bits.
+ * Another time at which a clock may begin: later than many long times, in another year, month, day of the week and
+ * hour, and below 0 as a number of 32 bits.
  */
 export const OTHER_START = 37_127_117_789;
 
