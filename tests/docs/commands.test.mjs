@@ -58,6 +58,7 @@ const COMMANDS = [
   ["npm test -- --unit", { notRun: "npm test runs these tests, and refuses them threads and processes" }],
   ["npm test -- fuzz/", { notRun: "tests/recorder runs these tests" }],
   ["npm test -- bench/", { notRun: "tests/recorder runs these tests" }],
+  ["node tests/objects/compare.mjs 1 300", { notRun: "it takes an hour, and objects.test.mjs compares some of them" }],
   ["SEEDS=1000 npm test -- known", { notRun: "npm test runs the same with fewer seeds, and this takes minutes" }],
   ["SABSIM=crates/sabsim/out/sabsim npm test", { notRun: "tests/recorder does the same" }],
   ["npm run published", { notRun: "most of the programs have to be fetched first" }],

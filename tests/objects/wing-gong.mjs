@@ -48,8 +48,12 @@ function FakeArray(buffer, offset = 0) {
   return made;
 }
 
-/** @param {string} does @param {number} count of values */
-const call = (does, count) => (/** @type {object} */ view, /** @type {number} */ index, .../** @type {any} */ given) => {
+/**
+ * @param {string} does
+ * @param {number} count of values
+ * @returns {(view: object, index: number, ...given: any[]) => unknown}
+ */
+const call = (does, count) => (view, index, ...given) => {
   const { at } = /** @type {{ at: number }} */ (arrays.get(view));
   const values = given.slice(0, count).map((/** @type {number} */ value) => value | 0);
   if (does === "notify") return answer({ does, at: at + index, values: [given[0] ?? Infinity] });

@@ -60,7 +60,7 @@ function usesLines(data) {
   if (found.length === 0) return rightLines(data);
   const histories = found.filter(isOfHistory);
   if (histories.length > 0) return histories.flatMap((each) => historyLines(data, each));
-  return [`of ${sizesText([uses.size])} every schedule was tried: agents can ${foundText(found)}`];
+  return [`every schedule of ${sizesText([uses.size])} was tried: ${foundText(found)}`];
 }
 
 /** @param {FoundData} found @returns {boolean} */

@@ -29,7 +29,7 @@ const valuesOf = [
 export const BLOCKED_OUTCOME = "has to wait";
 
 /** What a model returns then: `blocked` of `sabsim/object`. */
-export const BLOCKED = Symbol.for("sabsim.blocked");
+const BLOCKED = Symbol.for("sabsim.blocked");
 
 /** A result that nothing can be compared with: the message says what it is. */
 export class NoOutcome extends Error {}

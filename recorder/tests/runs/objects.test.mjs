@@ -6,7 +6,8 @@ import { join } from "node:path";
 import { describe, test } from "node:test";
 import { fileURLToPath, pathToFileURL } from "node:url";
 import { learnApart } from "../../lib/every/learning/apart.mjs";
-import { Refused, explore } from "../../recorder.mjs";
+import { Refused, everySchedule, explore } from "../../recorder.mjs";
+import { assertObject } from "../../testing.mjs";
 import { difference } from "../../../tests/objects/compare.mjs";
 import { drawn } from "../../../tests/objects/draw.mjs";
 import { commandHere } from "../helpers/command-here.mjs";
@@ -131,11 +132,12 @@ describe("a module that can't be tried is refused", () => {
 });
 
 describe("the verdicts are those of a checker that goes through permutations", () => {
-  for (const seed of [2, 5, 9, 11]) {
+  // In the last one a race is open while an agent chooses its next operation.
+  for (const [seed, each] of [[2, 1], [5, 1], [9, 1], [11, 1], [40, 2]]) {
     const { mutation, name, text } = drawn(seed);
-    test(`seed ${seed}: ${name}, ${mutation ?? "right"}`, async (context) => {
+    test(`seed ${seed}: ${name}, ${mutation ?? "right"}, ${each} operations of each agent`, async (context) => {
       const file = fileIn(temporaryFolder(context), "drawn.object.mjs", text);
-      assert.equal(await difference(file, 2, 1), undefined);
+      assert.equal(await difference(file, 2, each), undefined);
     });
   }
 });
@@ -169,6 +171,15 @@ describe("the examples", () => {
     assert.match(done.stdout, /the search isn't proved \(the proved search doesn't know the operations of objects\)/);
   });
 
+  test("an object with a race alone has it in its first line", async (context) => {
+    const text = objectOf("touch() { this.w[1] = 1; Atomics.load(this.w, 0); }", "touch: []");
+    const words = ["--all", "--agents", "2", "--each", "1", "--seeds", "1..5"];
+    const done = await commandHere([moduleOf(context, text), ...words]);
+    assert.deepEqual([done.status, done.stderr], [1, ""]);
+    const title = "every schedule of every use by 2 agents with up to 1 operation each was tried: agents can race\n";
+    assert.equal(done.stdout.slice(0, title.length), title);
+  });
+
   test("seeds find the flaw of the first, and it is shortened to three operations", async (context) => {
     const out = temporaryFolder(context);
     const words = ["--agents", "3", "--seeds", "1..40", "--jobs", "1", "--out", out, "--fail-fast"];
@@ -178,6 +189,30 @@ describe("the examples", () => {
     assert.match(done.stdout, /\nshortened: .* calls to \d+, in /);
     assert.match(readFileSync(join(out, "first.html").replace("first", kept(out)), "utf8"), /not linearizable/);
   });
+});
+
+describe("in a test suite", () => {
+  test("an object that is right passes, by every use", async () => {
+    await assertObject({ module: example("bounded-queue"), all: true, agents: 2, each: 1, seeds: 5 });
+  });
+
+  test("one that isn't fails, with its operations", async (context) => {
+    const out = temporaryFolder(context);
+    const wrong = assertObject({ module: example("sequence-queue"), agents: 3, seeds: 10, out });
+    await assert.rejects(wrong, (/** @type {Error} */ error) => {
+      assert.equal(error.name, "RunFailed");
+      assert.match(error.message, /not linearizable/);
+      assert.match(error.message, /try(Put|Take)\(\d?\) returns \w+, and in every order that fits it returns/);
+      return true;
+    });
+  });
+});
+
+test("the library reports what was tried", async () => {
+  const size = { agents: 2, each: 1 };
+  const { found, isWhole, uses } = await everySchedule({ module: example("bounded-queue"), ...size, seeds: 5 });
+  assert.deepEqual([found, isWhole], [[], true]);
+  assert.deepEqual([uses?.finished, uses?.size, uses?.open, uses?.hasModel], [[size], size, null, true]);
 });
 
 /** @param {string} folder @returns {string} the name of the run that is kept there */

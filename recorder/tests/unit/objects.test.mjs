@@ -60,8 +60,8 @@ CYCLE.push(CYCLE);
 const VALUES = [
   undefined, null, true, 0, -0, NaN, 1, "1", 1n, "", [], [undefined], [,], [1, [2]], {}, { a: 1 }, { a: undefined },
   { b: 2, a: 1 }, { a: 1, b: 2 }, new Map([[1, 2]]), new Map([[2, 1], [1, 2]]), new Map([[1, 2], [2, 1]]),
-  new Set([1, 2]), new Set([2, 1]), new Set(["1"]), new Pair(1), new Pair(2), { one: 1 }, new Date(5), new Date(6), /a/g,
-  /a/, CYCLE,
+  new Set([1, 2]), new Set([2, 1]), new Set(["1"]), new Pair(1), new Pair(2), { one: 1 }, new Date(5), new Date(6),
+  /a/g, /a/, CYCLE,
   Object.create(null), new Error("a"), new TypeError("a"), new Error("b"), Object(1), Object("1"), Symbol.for("a"),
   Object.assign([1], { more: 2 }),
 ];

@@ -212,7 +212,8 @@ export class World {
       this.woken &= ~(1 << agent);
       return this.#goOn(agent, OK);
     }
-    if (isChoice(node)) return this.#goOn(agent, chosen);
+    // Agents that use an object choose at once: what they have accessed before stays open.
+    if (isChoice(node)) return this.#goOn(agent, chosen, this.operations === undefined ? 0 : this.recent[agent]);
     if (isMark(node)) return this.#goOn(agent, this.#marked(agent, node));
     if (!isCall(node)) return this.#goOn(agent, this.#accessed(node));
     const { error } = node;
@@ -274,21 +275,27 @@ export class World {
     this.hasWritten = true;
   }
 
-  /** @param {number} agent @param {Answer} answer of its node @returns {boolean} */
-  #goOn(agent, answer) {
+  /**
+   * @param {number} agent
+   * @param {Answer} answer of its node
+   * @param {number} [recent] as `#segment` takes it
+   * @returns {boolean}
+   */
+  #goOn(agent, answer, recent = 0) {
     this.answered = answer;
     const next = this.#next(this.nodes[agent], answer);
-    return next !== undefined && this.#segment(agent, next);
+    return next !== undefined && this.#segment(agent, next, recent);
   }
 
   /**
    * The agent makes its accesses up to where it stops, and what it tells about its operations.
    * @param {number} agent
    * @param {Node} from
+   * @param {number} [before] the list of accesses that are open
    */
-  #segment(agent, from) {
+  #segment(agent, from, before = 0) {
     let node = from;
-    let recent = 0;
+    let recent = before;
     while (isWithinAct(node)) {
       const isOfOperation = isMark(node);
       const next = this.#next(node, isOfOperation ? this.#marked(agent, node) : this.#accessed(node));

@@ -15,7 +15,7 @@ import { READ } from "../../memory/log.mjs";
  * @property {number[]} calls where the log has all acts of the operation
  */
 
-/** @typedef {(agent: number, event: number) => string | undefined} LineOf the line of a call in the log, if it is known */
+/** @typedef {(agent: number, event: number) => string | undefined} LineOf the line of a call in the log, if known */
 
 /** An operation without an act comes just before an event of the log. */
 const BETWEEN = 0.5;
