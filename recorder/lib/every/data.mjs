@@ -20,7 +20,8 @@ import { adviceOf } from "./advice.mjs";
  * @property {number} acts of the schedule that is shown; 0 if real runs alone have shown it
  * @property {number} changes of agents in it
  * @property {boolean} isEarly whether a timed wait ends in it while something else can move
- * @property {string[] | null} detail how the real run by that schedule ended; null: it isn't shown
+ * @property {string[] | null} detail how the real run by that schedule ended, behind the operations of agents that spin
+ * for ever; null: it isn't shown
  * @property {string | null} notShown why it isn't shown
  * @property {string | null} onlyIf what time must pass in that run
  * @property {number} operations of an object that are begun in the schedule that is shown
@@ -154,7 +155,11 @@ function commonOf(open, { realRuns, made, notRun, isProved, notProved, isCut, is
  * @returns {FoundData}
  */
 function dataOfFinding({ kind, text, states, acts, changes, isEarly, choices, operations }, shown) {
-  const end = endOf(shown?.isSame ? shown.outcome : undefined);
+  const outcome = shown?.isSame ? shown.outcome : undefined;
+  const { detail, onlyIf } = endOf(outcome);
+  // A run of agents that spin for ever meets a limit, and says nothing of their operations.
+  const before = kind === "lost wake-up" && outcome?.ending === "limit" ? text.split("\n") : [];
+  const end = { detail: detail && [...before, ...detail], onlyIf };
   const by = { acts, changes, isEarly, operations, drewSame: haveDrawnSame(choices) };
   return { kind, text, states, ...by, runs: 0, seed: null, ...end, notShown: shown?.why ?? null };
 }

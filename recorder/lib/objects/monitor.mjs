@@ -8,7 +8,10 @@
  * @property {(state: number, call: number) => ModelStep | undefined} step undefined: it has too many states
  */
 
-/** @typedef {{ isBlocked: true } | { isBlocked: false, state: number, outcome: number }} ModelStep */
+/**
+ * @typedef {{ isBlocked: true } | { isBlocked: false, states: number[], outcome: number }} ModelStep it can lead to
+ * several states, if it goes by chance
+ */
 
 /** @typedef {number[]} Configuration the model's state, and then a number for each agent */
 
@@ -169,7 +172,7 @@ export class Monitor {
     const after = fails === undefined ? [] : [withCell(one, agent, done(fails))];
     if (step.isBlocked) return after;
     const [, ...cells] = withCell(one, agent, done(step.outcome));
-    return [...after, [step.state, ...cells]];
+    return [...after, ...step.states.map((state) => [state, ...cells])];
   }
 
   /** @param {number} state @param {number} call @returns {boolean} whether it can take no effect */

@@ -65,6 +65,26 @@ function className(object) {
   return name === "Object" || name === "Array" || typeof name !== "string" ? "" : `${name} `;
 }
 
+/**
+ * An expression would change `RegExp.lastMatch`, which agents see.
+ * @param {string} key
+ * @returns {boolean} whether it has only letters, digits, `_` and `$`, and at least one
+ */
+function isName(key) {
+  for (let at = 0; at < key.length; at += 1) {
+    const { [at]: each } = key;
+    const isLetter = (each >= "a" && each <= "z") || (each >= "A" && each <= "Z");
+    if (!isLetter && !(each >= "0" && each <= "9") && each !== "_" && each !== "$") return false;
+  }
+  return key !== "";
+}
+
+/** @param {string | symbol} key @returns {string} quoted, unless it is a name */
+function keyText(key) {
+  if (typeof key === "symbol") return `[${symbolText(key)}]`;
+  return isName(key) ? key : stringify(key);
+}
+
 /** @param {object} object @param {object[]} around in which it is @returns {string[]} its own members, sorted */
 function membersOf(object, around) {
   const keys = ownKeys(object);
@@ -75,8 +95,7 @@ function membersOf(object, around) {
     const found = /** @type {PropertyDescriptor} */ (getOwnPropertyDescriptor(object, key));
     if (!found.enumerable) continue;
     if (!("value" in found)) refuse("an object with a getter");
-    const name = typeof key === "symbol" ? `[${symbolText(key)}]` : key;
-    members[members.length] = `${name}: ${spelled(found.value, around)}`;
+    members[members.length] = `${keyText(key)}: ${spelled(found.value, around)}`;
   }
   return sorted(members);
 }

@@ -50,6 +50,31 @@ const WEAK = `push() { Atomics.add(this.w, 0, 1); }
     return n > 0 && Atomics.compareExchange(this.w, 0, n, n - 1) === n ? n : undefined;
   }`;
 const OF_LOCK = 'lock: [], unlock: { after: "lock" }';
+const NEVER_FREE = objectOf(`${SPINS} unlock() { Atomics.store(this.w, 0, 2); }`, OF_LOCK, `export class Model {
+  held = false;
+  lock() { if (this.held) return blocked; this.held = true; }
+  unlock() { this.held = false; }
+}`);
+
+/** A gate that wakes nobody if an agent spins, and this one spins until the others have woken. */
+const GATE = objectOf(`
+  spin() {
+    Atomics.add(this.w, 1, 1);
+    while (Atomics.load(this.w, 0) === 0 || Atomics.load(this.w, 2) > 0);
+    Atomics.sub(this.w, 1, 1);
+  }
+  sleep() {
+    Atomics.add(this.w, 2, 1);
+    while (Atomics.load(this.w, 0) === 0) Atomics.wait(this.w, 0, 0);
+    Atomics.sub(this.w, 2, 1);
+  }
+  open() { Atomics.store(this.w, 0, 1); if (Atomics.load(this.w, 1) === 0) Atomics.notify(this.w, 0); }`,
+"spin: [], sleep: [], open: []", `export class Model {
+  isOpen = false;
+  spin() { if (!this.isOpen) return blocked; }
+  sleep() { if (!this.isOpen) return blocked; }
+  open() { this.isOpen = true; }
+}`);
 
 describe("every use by two agents with up to two operations each", () => {
   for (const [what, text, wanted] of /** @type {[string, string, string[]][]} */ ([
@@ -58,11 +83,7 @@ describe("every use by two agents with up to two operations each", () => {
       objectOf(`${LOCK} unlock() { Atomics.store(this.w, 0, 0); }`, OF_LOCK),
       ["lost wake-up: lock() waits for ever, and in every order that fits some operation that waits could go on"]],
     ["of a lock that spins, and is never free again, is found too",
-      objectOf(`${SPINS} unlock() { Atomics.store(this.w, 0, 2); }`, OF_LOCK, `export class Model {
-        held = false;
-        lock() { if (this.held) return blocked; this.held = true; }
-        unlock() { this.held = false; }
-      }`),
+      NEVER_FREE,
       ["lost wake-up: lock() waits for ever, and in every order that fits some operation that waits could go on"]],
     ["of a lock that spins is right",
       objectOf(`${SPINS} unlock() { Atomics.store(this.w, 0, 0); }`, OF_LOCK), []],
@@ -87,6 +108,12 @@ describe("every use by two agents with up to two operations each", () => {
   test("that may fail, but isn't said to, isn't linearizable", async (context) => {
     const report = await learned(context, objectOf(WEAK, "push: [], tryPop: []"));
     assert.match(foundIn(report).join("\n"), /^not linearizable: tryPop\(\) returns undefined, and in every order/);
+  });
+
+  test("of a gate at which an agent spins while another one waits loses a wake-up", async (context) => {
+    const report = await learned(context, GATE, { place: { agents: 3 }, each: 1 });
+    const lost = foundIn(report).filter((found) => found.startsWith("lost wake-up: "));
+    assert.deepEqual([report.isClosed, report.hasLikes, lost.length], [true, true, 1]);
   });
 
   test("a model's counts, and what always throws alone, are reported", async (context) => {
@@ -178,6 +205,39 @@ describe("the examples", () => {
     assert.deepEqual([done.status, done.stderr], [1, ""]);
     const title = "every schedule of every use by 2 agents with up to 1 operation each was tried: agents can race\n";
     assert.equal(done.stdout.slice(0, title.length), title);
+  });
+
+  test("real runs that go on behind a wrong history agree with what was learned", async (context) => {
+    const text = objectOf(`
+      acquire() {
+        while (Atomics.load(this.w, 0) === 0) Atomics.wait(this.w, 0, 0);
+        Atomics.sub(this.w, 0, 1);
+      }
+      release() { Atomics.add(this.w, 0, 1); Atomics.notify(this.w, 0, 1); }`,
+    'acquire: [], release: { after: "acquire" }', `export const init = ([b]) => { new Int32Array(b)[0] = 1; };
+      export class Model {
+        free = 1;
+        acquire() { if (this.free === 0) return blocked; this.free -= 1; }
+        release() { this.free += 1; }
+      }`);
+    const words = ["--all", "--agents", "2", "--each", "2", "--seeds", "1..10", "--within", "300"];
+    const done = await commandHere([moduleOf(context, text), ...words]);
+    assert.deepEqual([done.status, done.stderr], [1, ""]);
+    assert.match(done.stdout, /^not linearizable: 2 agents, 2 operations; shown by /);
+    assert.match(done.stdout, /; 10 real runs agree\n/);
+  });
+
+  test("an agent that spins for ever is shown with the operations, and with its last calls", async (context) => {
+    const words = ["--all", "--agents", "2", "--each", "2", "--seeds", "1..5", "--within", "300"];
+    const done = await commandHere([moduleOf(context, NEVER_FREE), ...words]);
+    assert.deepEqual([done.status, done.stderr], [1, ""]);
+    const lines = done.stdout.split("\n").map((line) => line.trim());
+    assert.match(lines[0], /^lost wake-up: 2 agents, 3 operations; shown by \d+ acts with \d changes? of agents$/);
+    assert.equal(lines[1],
+      "lock() waits for ever, and in every order that fits some operation that waits could go on");
+    assert.match(lines[2], /^agent 0 {2,}agent 1$/);
+    const table = lines.slice(3).findIndex((line) => /^agent \d spins at .*: it has made [\d,]+ calls/.test(line));
+    assert.ok(table >= 3, done.stdout);
   });
 
   test("seeds find the flaw of the first, and it is shortened to three operations", async (context) => {

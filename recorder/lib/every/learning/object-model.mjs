@@ -2,7 +2,7 @@
 // agents are, so a state of it is all that its code can still read, and the bytes. Its steps are found as they are
 // asked for.
 
-import { AGAIN, kindOfAsked } from "../../../script/choices.mjs";
+import { kindOfAsked } from "../../../script/choices.mjs";
 import { BLOCKED_OUTCOME } from "../../objects/outcome-text.mjs";
 import { isChoice, isEnd } from "../search/nodes.mjs";
 import { World } from "../search/world.mjs";
@@ -14,6 +14,8 @@ import { CantLearn } from "./asked-nodes.mjs";
 
 /** A model of more states isn't finished. */
 export const MOST_MODEL_STATES = 65_536;
+
+/** @typedef {{ state: number, outcome: string }} OperationEnd */
 
 /** @type {ModelStep} */
 const IS_BLOCKED = Object.freeze({ isBlocked: true });
@@ -94,6 +96,8 @@ export class ObjectModel {
     /** @type {Map<string, ModelStep>} */
     this.steps = new Map();
     this.isFinished = true;
+    /** @type {import("../search/nodes.mjs").Node | undefined} the first choice of the step that is made */
+    this.chance = undefined;
     this.world.begin();
     this.#needGoingOn();
     this.first = this.world.save();
@@ -116,7 +120,7 @@ export class ObjectModel {
     }
     const step = this.#made(state, call);
     this.steps.set(name, step);
-    if (!step.isBlocked) this.states.add(step.state);
+    if (!step.isBlocked) step.states.forEach((each) => this.states.add(each));
     return step;
   }
 
@@ -135,52 +139,89 @@ export class ObjectModel {
 
   /** @param {number} state @param {number} call @returns {ModelStep} */
   #made(state, call) {
-    const { calls, last, outcomes, world } = this;
+    const { calls, world } = this;
+    this.chance = undefined;
     world.load(state);
     world.act(0, 1);
     if (calls.length > 1) world.act(0, call);
-    if (!this.#comesToEnd() || last.outcome === BLOCKED_OUTCOME) return IS_BLOCKED;
-    const outcome = outcomes.numberOf(/** @type {string} */ (last.outcome));
-    return { isBlocked: false, state: world.save(), outcome };
-  }
-
-  /** @returns {boolean} whether the operation comes to its end alone */
-  #comesToEnd() {
-    const { world } = this;
-    /** @type {Set<number>} */
-    let seen = new Set();
-    // If a state is there again, no time was said to pass up to now: it may pass.
-    let passes = 0;
-    for (;;) {
-      this.#needGoingOn();
-      const [node] = world.nodes;
-      if (isChoice(node) && node.limit === AGAIN) return true;
-      const state = world.save();
-      if (seen.has(state)) {
-        if (passes === 1) return false;
-        passes = 1;
-        seen = new Set();
-      }
-      seen.add(state);
-      if (!this.#acts(node, passes)) return false;
-    }
+    const at = this.#ways([world.save()], 0);
+    // If it doesn't come to an end, no time was said to pass up to now: it may pass.
+    const later = at.stuck.length === 0 ? { ends: [], stuck: [] } : this.#ways(at.stuck, 1);
+    return this.#stepOf([...at.ends, ...later.ends], later.stuck.length > 0, call);
   }
 
   /**
-   * @param {import("../search/nodes.mjs").Node} node at which it is
-   * @param {number} passes what it chooses at a clock
-   * @returns {boolean} whether it can go on
+   * @param {OperationEnd[]} ends
+   * @param {boolean} isStuck whether it also comes to where it has no end
+   * @param {number} call
+   * @returns {ModelStep}
    */
-  #acts(node, passes) {
+  #stepOf(ends, isStuck, call) {
+    const outcomes = new Set(ends.map(({ outcome }) => outcome));
+    if (isStuck) outcomes.add(BLOCKED_OUTCOME);
+    if (outcomes.size > 1) {
+      const where = this.chance === undefined ? "" : `, at ${this.lineOf(this.chance)}`;
+      throw new CantLearn(`how ${this.calls[call].text} ends goes by chance${where}: nothing can be compared with it`, true);
+    }
+    const [outcome] = outcomes;
+    if (outcome === BLOCKED_OUTCOME) return IS_BLOCKED;
+    const states = [...new Set(ends.map(({ state }) => state))];
+    return { isBlocked: false, states, outcome: this.outcomes.numberOf(outcome) };
+  }
+
+  /**
+   * All that an operation can do alone, by each number that it chooses or draws.
+   * @param {number[]} begun states
+   * @param {number} passes what it chooses at a clock
+   * @returns {{ ends: OperationEnd[], stuck: number[] }} how it ends; the states from which it doesn't
+   */
+  #ways(begun, passes) {
+    const { last, world } = this;
+    const open = [...begun];
+    /** @type {Map<number, number[]>} of each state those to which it leads */
+    const found = new Map();
+    /** @type {OperationEnd[]} */
+    const ends = [];
+    /** @type {Set<number>} */
+    const ending = new Set();
+    for (const state of open) {
+      if (found.has(state)) continue;
+      /** @type {number[]} */
+      const next = [];
+      found.set(state, next);
+      world.load(state);
+      for (const chosen of this.#choices(passes)) {
+        world.load(state);
+        last.outcome = undefined;
+        if (!world.step(0, chosen)) continue;
+        this.#needGoingOn();
+        const to = world.save();
+        if (last.outcome === undefined) next.push(to);
+        else ends.push({ state: to, outcome: last.outcome });
+        if (last.outcome !== undefined) ending.add(state);
+      }
+      open.push(...next);
+    }
+    return { ends, stuck: stuckIn(found, ending) };
+  }
+
+  /**
+   * @param {number} passes as above
+   * @returns {number[]} what it can do in the state that is loaded, as `step` of the world takes it
+   */
+  #choices(passes) {
     const { isEndless, world } = this;
-    if (world.waits(0)) return !isEndless && world.canTimeOut(0) && world.timeOut(0);
-    if (!isChoice(node)) return world.act(0);
-    const isTime = kindOfAsked(/** @type {number} */ (node.limit)) !== "random";
+    const [node] = world.nodes;
+    if (world.waits(0)) return !isEndless && world.canTimeOut(0) ? [0] : [];
+    if (!isChoice(node)) return [0];
+    const isTime = kindOfAsked(/** @type {number} */ (node.limit)).endsWith("time");
     if (this.isClass) {
       const what = isTime ? "a clock" : "chance";
       throw new CantLearn(`\`Model\` looks at ${what}, at ${this.lineOf(node)}: what is right may not go by it`, true);
     }
-    return world.act(0, isTime && world.acts(0) > 1 ? passes : 0);
+    if (isTime) return [world.acts(0) > 1 ? passes : 0];
+    this.chance ??= node;
+    return Array.from({ length: world.acts(0) }, (_, number) => number);
   }
 
   /** Nothing else may end it than the choice to make no further operation. */
@@ -190,4 +231,17 @@ export class ObjectModel {
     const who = this.isClass ? "`Model`" : "`object`";
     throw new CantLearn(`${who} alone ${node.text === undefined ? "makes no operation" : `throws ${node.text}`}`, true);
   }
+}
+
+/**
+ * @param {Map<number, number[]>} found states, and those to which each leads
+ * @param {Set<number>} ending those from which an act leads to an end; it gets all from which an end is reached
+ * @returns {number[]} the others
+ */
+function stuckIn(found, ending) {
+  for (let before = -1; before !== ending.size;) {
+    before = ending.size;
+    for (const [state, next] of found) if (next.some((to) => ending.has(to))) ending.add(state);
+  }
+  return [...found.keys()].filter((state) => !ending.has(state));
 }

@@ -142,7 +142,7 @@ export class Kinds {
   #findSpinning() {
     const { leads, search, search: { world } } = this;
     if (leads?.includes(0) !== true) return;
-    const goesOn = goingOnIn(search);
+    const goesOn = goingOnIn(search, leads);
     this.spin = new Uint8Array(search.count);
     for (let state = 0; state < search.count; state += 1) {
       if (leads[state] === 1 || goesOn[state] === 1) continue;

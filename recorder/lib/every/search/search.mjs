@@ -88,7 +88,7 @@ export class Search {
   #expand(state) {
     const { world } = this;
     world.load(state);
-    if (isOverAt(world)) return true;
+    if (hasThrownAt(world)) return true;
     const chooser = world.operations === undefined ? -1 : chooserIn(world);
     const times = chooser < 0 && this.#hasTimes(state);
     for (let agent = 0; agent < world.count; agent += 1) {
@@ -211,9 +211,6 @@ export class Search {
     this.depths.push(depth);
   }
 }
-
-/** @param {World} world @returns {boolean} whether some agent has thrown, or no order of the operations fits */
-const isOverAt = (world) => hasThrownAt(world) || world.operations?.isWrong === true;
 
 /**
  * Agents that use an object choose at once: a choice touches nothing, so it makes no difference when it is made.

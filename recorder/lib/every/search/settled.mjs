@@ -1,6 +1,8 @@
 // The states of agents that use an object from which nothing leads on: no operation begins or ends any more in what is
 // reached from them.
 
+import { actorOf, chosenIn } from "./chosen-acts.mjs";
+
 /** @typedef {import("./search.mjs").Search} Search */
 
 /**
@@ -41,22 +43,28 @@ export function markBefore({ begins, sources }, marked) {
 }
 
 /**
+ * Sets of the monitor aren't compared: an exchange of like agents makes another one.
  * @param {Search} search that is closed, of agents that use an object
- * @returns {Uint8Array} of each state whether another set of the monitor is reached from it
+ * @param {Uint8Array} leads of each state whether one without an act is reached
+ * @returns {Uint8Array} of each state from which none is, whether an operation begins or ends in what is reached
  */
-export function goingOnIn(search) {
-  const { count: states, starts, targets, world } = search;
-  const sets = new Int32Array(states);
-  for (let state = 0; state < states; state += 1) {
-    world.load(state);
-    sets[state] = /** @type {import("./operations.mjs").MonitoredOperations} */ (world.operations).set;
-  }
+export function goingOnIn(search, leads) {
+  const { count: states, starts, taken, world } = search;
+  const operations = /** @type {import("./operations.mjs").MonitoredOperations} */ (world.operations);
   const goesOn = new Uint8Array(states);
   for (let state = 0; state < states; state += 1) {
+    if (leads[state] === 1) continue;
+    /** @type {import("../../objects/history.mjs").HistoryEvent[]} */
+    const events = [];
+    operations.journal = events;
     for (let at = starts.items[state]; at < starts.items[state + 1]; at += 1) {
-      if (sets[targets.items[at]] !== sets[state]) goesOn[state] = 1;
+      const act = taken.items[at];
+      world.load(state);
+      world.step(actorOf(act), chosenIn(act));
     }
+    if (events.length > 0) goesOn[state] = 1;
   }
+  operations.journal = undefined;
   markBefore(sourcesIn(search), goesOn);
   return goesOn;
 }

@@ -57,9 +57,6 @@ function placed(marks, all, agent) {
   return events;
 }
 
-/** @param {HistoryEvent} event @returns {number} of one operation's events at one act the beginning comes first */
-const orderOf = ({ call }) => Number(call === undefined);
-
 /**
  * @param {PlacedEvent} placed
  * @param {PlacedEvent | undefined} next
@@ -80,7 +77,8 @@ function withLine({ event, calls }, next, lineOf) {
  */
 export function historyOf(marks, log, lineOf) {
   const calls = callsIn(log);
-  const events = marks.flatMap((own, agent) => placed(own, calls[agent] ?? [], agent)).sort((one, other) =>
-    one.at - other.at || one.event.agent - other.event.agent || orderOf(one.event) - orderOf(other.event));
+  // The sort is stable: an agent's operations without an act are at one place, in their order.
+  const events = marks.flatMap((own, agent) => placed(own, calls[agent] ?? [], agent))
+    .sort((one, other) => one.at - other.at);
   return events.map((one, at) => withLine(one, events[at + 1], lineOf));
 }
