@@ -35,6 +35,7 @@ import { adviceOf } from "./advice.mjs";
  * @property {import("./every-use.mjs").UseSize} next the size that was tried last
  * @property {string | null} open why not every use of it was tried
  * @property {boolean} hasModel whether `Model` says what is right; else the object itself, used by one agent alone
+ * @property {boolean} looksAtNumber whether the object itself looks at the number of its agent: agent 0 is that agent
  * @property {string[]} alwaysThrow operations that have always thrown there
  * @property {number} modelStates how many states of it were needed
  * @property {number} sets of configurations that histories can leave
@@ -122,8 +123,8 @@ export function dataOf({ report, open, shown, onlyRuns, uses, ...tried }) {
 function usesOf(uses, report) {
   if (uses === undefined || report?.object === undefined) return null;
   const { finished, next, open, size } = uses;
-  const { alwaysThrow, hasModel, modelStates, notJudged, sets } = report.object;
-  return { finished, size, next, open: open ?? null, hasModel, alwaysThrow, modelStates, sets, notJudged };
+  const { isFinished: _isFinished, ...ofObject } = report.object;
+  return { finished, size, next, open: open ?? null, ...ofObject };
 }
 
 /**
@@ -155,11 +156,17 @@ function commonOf(open, { realRuns, made, notRun, isProved, notProved, isCut, is
  * @returns {FoundData}
  */
 function dataOfFinding({ kind, text, states, acts, changes, isEarly, choices, operations }, shown) {
+<<<<<<< HEAD
   const outcome = shown?.isSame ? shown.outcome : undefined;
   const { detail, onlyIf } = endOf(outcome);
   // A run of agents that spin for ever meets a limit, and says nothing of their operations.
   const before = kind === "lost wake-up" && outcome?.ending === "limit" ? text.split("\n") : [];
   const end = { detail: detail && [...before, ...detail], onlyIf };
+=======
+  const end = endOf(shown?.isSame ? shown.outcome : undefined);
+  // Agents that only spin meet a limit: that says nothing about their history.
+  if (kind === "lost wake-up" && shown?.outcome?.ending === "limit") end.detail?.unshift(...text.split("\n"));
+>>>>>>> gg/h-g
   const by = { acts, changes, isEarly, operations, drewSame: haveDrawnSame(choices) };
   return { kind, text, states, ...by, runs: 0, seed: null, ...end, notShown: shown?.why ?? null };
 }
