@@ -210,13 +210,8 @@ class Way {
     return found;
   }
 
-<<<<<<< HEAD
   /** @param {RealOutcome} outcome */
-  end({ ending, bytes, detail }) {
-=======
-  /** @param {Outcome} outcome */
   end({ ending, bytes, detail, progress }) {
->>>>>>> gg/h-g
     const { world } = this;
     // A run of an object that is at rest may have a race, too.
     const waits = progress.some(({ calls, returned }) => returned < calls);

@@ -156,17 +156,11 @@ function commonOf(open, { realRuns, made, notRun, isProved, notProved, isCut, is
  * @returns {FoundData}
  */
 function dataOfFinding({ kind, text, states, acts, changes, isEarly, choices, operations }, shown) {
-<<<<<<< HEAD
   const outcome = shown?.isSame ? shown.outcome : undefined;
   const { detail, onlyIf } = endOf(outcome);
   // A run of agents that spin for ever meets a limit, and says nothing of their operations.
   const before = kind === "lost wake-up" && outcome?.ending === "limit" ? text.split("\n") : [];
   const end = { detail: detail && [...before, ...detail], onlyIf };
-=======
-  const end = endOf(shown?.isSame ? shown.outcome : undefined);
-  // Agents that only spin meet a limit: that says nothing about their history.
-  if (kind === "lost wake-up" && shown?.outcome?.ending === "limit") end.detail?.unshift(...text.split("\n"));
->>>>>>> gg/h-g
   const by = { acts, changes, isEarly, operations, drewSame: haveDrawnSame(choices) };
   return { kind, text, states, ...by, runs: 0, seed: null, ...end, notShown: shown?.why ?? null };
 }

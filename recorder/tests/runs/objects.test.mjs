@@ -77,26 +77,6 @@ const NEVER_FREE = objectOf(`${SPINS} unlock() { Atomics.store(this.w, 0, 2); }`
   unlock() { this.held = false; }
 }`);
 
-/** A gate that wakes nobody if an agent spins, and this one spins until the others have woken. */
-const GATE = objectOf(`
-  spin() {
-    Atomics.add(this.w, 1, 1);
-    while (Atomics.load(this.w, 0) === 0 || Atomics.load(this.w, 2) > 0);
-    Atomics.sub(this.w, 1, 1);
-  }
-  sleep() {
-    Atomics.add(this.w, 2, 1);
-    while (Atomics.load(this.w, 0) === 0) Atomics.wait(this.w, 0, 0);
-    Atomics.sub(this.w, 2, 1);
-  }
-  open() { Atomics.store(this.w, 0, 1); if (Atomics.load(this.w, 1) === 0) Atomics.notify(this.w, 0); }`,
-"spin: [], sleep: [], open: []", `export class Model {
-  isOpen = false;
-  spin() { if (!this.isOpen) return blocked; }
-  sleep() { if (!this.isOpen) return blocked; }
-  open() { this.isOpen = true; }
-}`);
-
 describe("every use by two agents with up to two operations each", () => {
   for (const [what, text, wanted] of /** @type {[string, string, string[]][]} */ ([
     ["of a lock is right, though its holder may not give it back", objectOf(`${LOCK} ${NOTIFIES}`, OF_LOCK), []],
@@ -142,12 +122,6 @@ describe("every use by two agents with up to two operations each", () => {
     assert.match(foundIn(report).join("\n"), /^not linearizable: tryPop\(\) returns undefined, and in every order/);
   });
 
-<<<<<<< HEAD
-  test("of a gate at which an agent spins while another one waits loses a wake-up", async (context) => {
-    const report = await learned(context, GATE, { place: { agents: 3 }, each: 1 });
-    const lost = foundIn(report).filter((found) => found.startsWith("lost wake-up: "));
-    assert.deepEqual([report.isClosed, report.hasLikes, lost.length], [true, true, 1]);
-=======
   test("that looks at its agent's number goes by that of agent 0, and so it is said", async (context) => {
     const text = objectOf("own() { return Atomics.load(this.w, 0); }", "own: []")
       .replace("({ buffers }) => new", "({ agent, buffers }) => agent > 9 || new");
@@ -155,7 +129,6 @@ describe("every use by two agents with up to two operations each", () => {
     assert.equal(object?.looksAtNumber, true);
     const other = await learned(context, objectOf("own() { return 1; }", "own: { agents: [0, 1] }"));
     assert.equal(other.object?.looksAtNumber, false);
->>>>>>> gg/h-g
   });
 
   test("a model's counts, and what always throws alone, are reported", async (context) => {
