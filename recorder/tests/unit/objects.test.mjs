@@ -167,7 +167,8 @@ const LOG = /** @type {any} */ ({ length: 2, whatAt: () => 0, agentAt: () => 1 }
 
 describe("the history of a run", () => {
   test("has operations without an act in the order in which their agent makes them", () => {
-    const marks = [{ call: 0, event: 1 }, { outcome: "a", event: 1 }, { call: 1, event: 1 }, { outcome: "b", event: 1 }];
+    const event = 1;
+    const marks = [{ call: 0, event }, { outcome: "a", event }, { call: 1, event }, { outcome: "b", event }];
     const events = historyOf([marks, []], LOG, () => undefined);
     assert.deepEqual(events.map(({ call, outcome }) => call ?? outcome), [0, "a", 1, "b"]);
   });

@@ -28,7 +28,7 @@ import { runOfWay } from "./run-of-way.mjs";
 /**
  * @typedef {object} ObjectData about an object that the agents use
  * @property {boolean} hasModel whether what is right is said by a class of its own
- * @property {boolean} looksAtNumber whether what is right is found by the number of agent 0, since the object looks at it
+ * @property {boolean} looksAtNumber whether the object looks at its agent's number: of what is right it is 0
  * @property {boolean} isFinished whether the model had few enough states
  * @property {number} modelStates how many of these were needed
  * @property {string[]} alwaysThrow operations that have always thrown there
