@@ -63,6 +63,8 @@ export interface TriedUses {
   open: string | null;
   /** Whether `Model` says what is right; else it is the object itself, used by one agent alone. */
   hasModel: boolean;
+  /** Whether the object itself looks at the number of its agent: agent 0 is that agent. */
+  looksAtNumber: boolean;
   /** Operations that have always thrown there. */
   alwaysThrow: string[];
   /** How many states of it were needed. */

@@ -211,24 +211,30 @@ class Way {
   }
 
   /** @param {RealOutcome} outcome */
-  end({ ending, bytes, detail }) {
+  end({ ending, bytes, detail, progress }) {
     const { world } = this;
-    if (ending === "finished" || ending === "race" || ending === "check") {
-      for (let agent = 0; agent < world.count; agent += 1) {
-        this.#needAccesses(agent);
-        const node = world.nodes[agent];
-        need(node.does === DOES.FINISHED, `agent ${agent} ended, and ${nodeText(node)} was learned`);
-        const [many, { length = 0 }] = [this.chosen[agent], this.choices[agent] ?? []];
-        need(many === length, `agent ${agent} made ${length} choices, and by the automata it makes ${many}`);
-      }
-      this.#needBytes(bytes);
-    } else if (ending === "deadlock") {
+    // A run of an object that is at rest may have a race, too.
+    const waits = progress.some(({ calls, returned }) => returned < calls);
+    const rests = ending === "deadlock" || (ending === "race" && waits);
+    if (rests) {
       const canGoOn = world.nodes.findIndex((node, agent) => !isEnd(node) && !world.waits(agent));
       need(canGoOn < 0, `it is a deadlock, and agent ${canGoOn} can go on`);
+    } else if (ending === "finished" || ending === "race" || ending === "check") {
+      for (let agent = 0; agent < world.count; agent += 1) this.#needEnd(agent);
+      this.#needBytes(bytes);
     } else if (ending === "failed" && /^agent \d+ threw /.test(detail)) {
       const thrown = world.nodes.find(({ does }) => does === DOES.THREW);
       need(thrown !== undefined && detail.includes(thrown.text ?? ""), `it threw: ${detail.split("\n")[0]}`);
     }
+  }
+
+  /** @param {number} agent that has ended */
+  #needEnd(agent) {
+    this.#needAccesses(agent);
+    const node = this.world.nodes[agent];
+    need(node.does === DOES.FINISHED, `agent ${agent} ended, and ${nodeText(node)} was learned`);
+    const [many, { length = 0 }] = [this.chosen[agent], this.choices[agent] ?? []];
+    need(many === length, `agent ${agent} made ${length} choices, and by the automata it makes ${many}`);
   }
 
   /** @param {string[] | undefined} bytes of each buffer */

@@ -35,6 +35,7 @@ import { adviceOf } from "./advice.mjs";
  * @property {import("./every-use.mjs").UseSize} next the size that was tried last
  * @property {string | null} open why not every use of it was tried
  * @property {boolean} hasModel whether `Model` says what is right; else the object itself, used by one agent alone
+ * @property {boolean} looksAtNumber whether the object itself looks at the number of its agent: agent 0 is that agent
  * @property {string[]} alwaysThrow operations that have always thrown there
  * @property {number} modelStates how many states of it were needed
  * @property {number} sets of configurations that histories can leave
@@ -122,8 +123,8 @@ export function dataOf({ report, open, shown, onlyRuns, uses, ...tried }) {
 function usesOf(uses, report) {
   if (uses === undefined || report?.object === undefined) return null;
   const { finished, next, open, size } = uses;
-  const { alwaysThrow, hasModel, modelStates, notJudged, sets } = report.object;
-  return { finished, size, next, open: open ?? null, hasModel, alwaysThrow, modelStates, sets, notJudged };
+  const { isFinished: _isFinished, ...ofObject } = report.object;
+  return { finished, size, next, open: open ?? null, ...ofObject };
 }
 
 /**

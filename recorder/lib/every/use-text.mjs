@@ -12,6 +12,8 @@ export const OF_HISTORIES = new Set(["not linearizable", "lost wake-up"]);
 
 const AS_ITSELF = "what is right is the object as itself, used by one agent alone";
 
+const AS_AGENT_0 = "what is right is the object as itself, used by agent 0 alone: it looks at its agent's number";
+
 const TOO_MANY = "it needs more than 65,536 states of what is right, or 100,000 configurations";
 
 /** @param {UseSize} size @returns {string} */
@@ -41,8 +43,9 @@ export function sizesText(sizes) {
 }
 
 /** @param {ObjectUsesData} uses @returns {string} what is right, in words */
-function rightText({ alwaysThrow, hasModel }) {
-  const what = hasModel ? "`Model` says what is right" : AS_ITSELF;
+function rightText({ alwaysThrow, hasModel, looksAtNumber }) {
+  const itself = looksAtNumber ? AS_AGENT_0 : AS_ITSELF;
+  const what = hasModel ? "`Model` says what is right" : itself;
   if (alwaysThrow.length === 0) return what;
   return `${what}; ${alwaysThrow.join(", ")} always ${alwaysThrow.length === 1 ? "throws" : "throw"} there`;
 }

@@ -164,9 +164,11 @@ export class RunMaker {
     const { check, races, unrecorded, kind } = this.options;
     const unseen = unseenText(found.unseen, unrecorded, this.sourceNames.placeName);
     if (unseen !== "" && found.divergence === undefined) return failedFor(unseen, found);
-    const isRace = found.ending === "finished" && found.racy && races === "fail";
-    const verdict = isRace ? undefined : await this.#verdict(found);
-    if (verdict !== undefined) return { ...found, ...verdict };
+    const isRace = found.racy && races === "fail";
+    const verdict = isRace && found.ending === "finished" ? undefined : await this.#verdict(found);
+    // With a race the history isn't known.
+    if (verdict !== undefined && !isRace) return { ...found, ...verdict };
+    if (verdict !== undefined && found.ending === "deadlock") return { ...found, ending: "race", detail: "" };
     if (found.ending !== "finished") return found;
     const isEmpty = kind.mustCall && this.#triedNothing() && !hasChosenNothing(found.choices);
     if (isEmpty) return { ...found, ending: "failed", detail: NOTHING_TRIED };

@@ -49,16 +49,8 @@ const WEAK = `push() { Atomics.add(this.w, 0, 1); }
     const n = Atomics.load(this.w, 0);
     return n > 0 && Atomics.compareExchange(this.w, 0, n, n - 1) === n ? n : undefined;
   }`;
-const OF_LOCK = 'lock: [], unlock: { after: "lock" }';
-const NEVER_FREE = objectOf(`${SPINS} unlock() { Atomics.store(this.w, 0, 2); }`, OF_LOCK, `export class Model {
-  held = false;
-  lock() { if (this.held) return blocked; this.held = true; }
-  unlock() { this.held = false; }
-}`);
-
-/** A gate that wakes nobody if an agent spins, and this one spins until the others have woken. */
-const GATE = objectOf(`
-  spin() {
+// open() leaves the waking to the one that spins, which waits for those that sleep.
+const GATE = `spin() {
     Atomics.add(this.w, 1, 1);
     while (Atomics.load(this.w, 0) === 0 || Atomics.load(this.w, 2) > 0);
     Atomics.sub(this.w, 1, 1);
@@ -68,12 +60,21 @@ const GATE = objectOf(`
     while (Atomics.load(this.w, 0) === 0) Atomics.wait(this.w, 0, 0);
     Atomics.sub(this.w, 2, 1);
   }
-  open() { Atomics.store(this.w, 0, 1); if (Atomics.load(this.w, 1) === 0) Atomics.notify(this.w, 0); }`,
-"spin: [], sleep: [], open: []", `export class Model {
+  open() {
+    Atomics.store(this.w, 0, 1);
+    if (Atomics.load(this.w, 1) === 0) Atomics.notify(this.w, 0);
+  }`;
+const GATE_MODEL = `export class Model {
   isOpen = false;
-  spin() { if (!this.isOpen) return blocked; }
-  sleep() { if (!this.isOpen) return blocked; }
+  spin() { return this.isOpen ? undefined : blocked; }
+  sleep() { return this.isOpen ? undefined : blocked; }
   open() { this.isOpen = true; }
+}`;
+const OF_LOCK = 'lock: [], unlock: { after: "lock" }';
+const NEVER_FREE = objectOf(`${SPINS} unlock() { Atomics.store(this.w, 0, 2); }`, OF_LOCK, `export class Model {
+  held = false;
+  lock() { if (this.held) return blocked; this.held = true; }
+  unlock() { this.held = false; }
 }`);
 
 describe("every use by two agents with up to two operations each", () => {
@@ -98,6 +99,11 @@ describe("every use by two agents with up to two operations each", () => {
     ["that throws as it does alone is right, and is named",
       objectOf("fail() { Atomics.load(this.w, 0); throw new RangeError('no'); }", "fail: []"), []],
     ["may fail where that is said", objectOf(WEAK, "push: [], tryPop: { mayFail: undefined }"), []],
+    ["is right if only its memory goes by chance",
+      objectOf("draw() { Atomics.store(this.w, Math.random() < 0.5 ? 1 : 2, 1); }", "draw: []"), []],
+    ["with a race has the race alone: no history is known",
+      objectOf("get() { return this.w[0]; } set(value) { this.w[0] = value; }", "get: [], set: [1]"),
+      ["race: agents.mjs:2:123 and agents.mjs:2:93", "race: agents.mjs:2:123 and agents.mjs:2:123"]],
   ])) {
     test(what, async (context) => {
       const report = await learned(context, text);
@@ -105,15 +111,24 @@ describe("every use by two agents with up to two operations each", () => {
     });
   }
 
+  test("of like agents, of which one spins and one sleeps for ever, loses a wake-up", async (context) => {
+    const report = await learned(context, objectOf(GATE, "spin: [], sleep: [], open: []", GATE_MODEL),
+      { place: { agents: 3 }, each: 1 });
+    assert.match(foundIn(report).join("\n"), /^lost wake-up: [a-z() ]* wait for ever, [^\n]*$/);
+  });
+
   test("that may fail, but isn't said to, isn't linearizable", async (context) => {
     const report = await learned(context, objectOf(WEAK, "push: [], tryPop: []"));
     assert.match(foundIn(report).join("\n"), /^not linearizable: tryPop\(\) returns undefined, and in every order/);
   });
 
-  test("of a gate at which an agent spins while another one waits loses a wake-up", async (context) => {
-    const report = await learned(context, GATE, { place: { agents: 3 }, each: 1 });
-    const lost = foundIn(report).filter((found) => found.startsWith("lost wake-up: "));
-    assert.deepEqual([report.isClosed, report.hasLikes, lost.length], [true, true, 1]);
+  test("that looks at its agent's number goes by that of agent 0, and so it is said", async (context) => {
+    const text = objectOf("own() { return Atomics.load(this.w, 0); }", "own: []")
+      .replace("({ buffers }) => new", "({ agent, buffers }) => agent > 9 || new");
+    const { object } = await learned(context, text);
+    assert.equal(object?.looksAtNumber, true);
+    const other = await learned(context, objectOf("own() { return 1; }", "own: { agents: [0, 1] }"));
+    assert.equal(other.object?.looksAtNumber, false);
   });
 
   test("a model's counts, and what always throws alone, are reported", async (context) => {
@@ -139,6 +154,9 @@ describe("a module that can't be tried is refused", () => {
       /`Model` looks at a clock, at agents\.mjs:7:\d+/],
     ["if its model draws a random number", objectOf("push() { return 1; }", "push: []",
       "export class Model { push() { return Math.random() > 0.5 ? 1 : 2; } }"), /`Model` looks at chance, at/],
+    ["if what it returns goes by chance",
+      objectOf("toss() { Atomics.load(this.w, 0); return Math.random() < 0.5; }", "toss: []"),
+      /how toss\(\) ends goes by chance, at agents\.mjs:2:\d+/],
     ["if its operations are none", objectOf("push() {}", "push: 1"), /the operation `push` must have a list of calls/],
   ])) {
     test(what, async (context) => {
@@ -155,6 +173,30 @@ describe("a module that can't be tried is refused", () => {
     await assert.rejects(async () => {
       for await (const outcome of explore({ module, seeds: 1 })) assert.equal(outcome.fails, false);
     }, /names `pushh`, and the object has no such method/);
+  });
+});
+
+describe("the real runs", () => {
+  test("go on behind a history that isn't linearizable, as it was learned", async (context) => {
+    const text = objectOf(`acquire() {
+        while (Atomics.load(this.w, 0) === 0) Atomics.wait(this.w, 0, 0);
+        Atomics.sub(this.w, 0, 1);
+      }
+      release() { Atomics.add(this.w, 0, 1); Atomics.notify(this.w, 0, 1); }`, "acquire: [], release: []");
+    const words = ["--all", "--agents", "2", "--each", "2", "--seeds", "1..40"];
+    const done = await commandHere([moduleOf(context, text), ...words]);
+    assert.deepEqual([done.status, done.stderr], [1, ""]);
+    assert.match(done.stdout, /^not linearizable: [^]* 40 real runs agree/);
+  });
+
+  test("that are rightly blocked, and have a race, end as a race", async (context) => {
+    const module = moduleOf(context, objectOf("sleep() { this.w[1] = 1; Atomics.wait(this.w, 0, 0); }", "sleep: []"));
+    let many = 0;
+    for await (const { ending, races } of explore({ module, seeds: 10, agents: 2 })) {
+      assert.equal(ending === "race", races.length > 0);
+      many += races.length;
+    }
+    assert.ok(many > 0);
   });
 });
 

@@ -9,6 +9,7 @@ import { historyTable } from "../../lib/objects/history-table.mjs";
 import { Monitor, NOT_JUDGED, NO_ORDER } from "../../lib/objects/monitor.mjs";
 import { callsOf } from "../../lib/objects/object-calls.mjs";
 import { NoOutcome, outcomeText } from "../../lib/objects/outcome-text.mjs";
+import { historyOf } from "../../lib/run/ending/run-history.mjs";
 import { blocked } from "../../object.mjs";
 
 describe("the calls of `operations`", () => {
@@ -61,7 +62,7 @@ const VALUES = [
   undefined, null, true, 0, -0, NaN, 1, "1", 1n, "", [], [undefined], [,], [1, [2]], {}, { a: 1 }, { a: undefined },
   { b: 2, a: 1 }, { a: 1, b: 2 }, new Map([[1, 2]]), new Map([[2, 1], [1, 2]]), new Map([[1, 2], [2, 1]]),
   new Set([1, 2]), new Set([2, 1]), new Set(["1"]), new Pair(1), new Pair(2), { one: 1 }, new Date(5), new Date(6),
-  /a/g, /a/, CYCLE,
+  /a/g, /a/, CYCLE, { "a: 1, b": 2 }, { "": 1 }, { "b": { a: 1 } },
   Object.create(null), new Error("a"), new TypeError("a"), new Error("b"), Object(1), Object("1"), Symbol.for("a"),
   Object.assign([1], { more: 2 }),
 ];
@@ -95,8 +96,8 @@ const CELL = {
   first: 0,
   /** @type {(state: number, call: number) => any} */
   step(state, call) {
-    if (call < 2) return state === 0 ? { isBlocked: false, state: call + 1, outcome: 2 } : { isBlocked: true };
-    return state === 0 ? { isBlocked: true } : { isBlocked: false, state: 0, outcome: state - 1 };
+    if (call < 2) return state === 0 ? { isBlocked: false, states: [call + 1], outcome: 2 } : { isBlocked: true };
+    return state === 0 ? { isBlocked: true } : { isBlocked: false, states: [0], outcome: state - 1 };
   },
 };
 const NEVER_FAILS = [undefined, undefined, undefined];
@@ -125,6 +126,16 @@ describe("the monitor", () => {
     assert.equal(monitor.ends(taking, 0, 7), monitor.first);
   });
 
+  test("what goes by chance may lead to several states", () => {
+    const step = (/** @type {number} */ state, /** @type {number} */ call) =>
+      ({ isBlocked: false, states: call === PUT ? [1, 2] : [0], outcome: call === PUT ? DONE : state });
+    const monitor = new Monitor(/** @type {any} */ ({ first: 0, step }), 1, NEVER_FAILS);
+    const put = monitor.ends(monitor.begins(monitor.first, 0, PUT), 0, DONE);
+    const taking = monitor.begins(put, 0, TAKE);
+    assert.deepEqual(monitor.outcomesIn(taking, 0), [1, 2]);
+    assert.equal(monitor.ends(taking, 0, 1), monitor.first);
+  });
+
   test("agents that are exchanged have each other's operations", () => {
     const monitor = new Monitor(CELL, 3, NEVER_FAILS);
     const one = monitor.begins(monitor.begins(monitor.first, 0, PUT), 2, TAKE);
@@ -149,6 +160,26 @@ const outcomesOf = (texts) => ({ texts, numberOf: (/** @type {string} */ text) =
 const watched = () => ({
   calls: callsOf({ put: [0, 1], take: [] }), monitor: new Monitor(CELL, 2, NEVER_FAILS),
   outcomes: outcomesOf(["returns 0", "returns 1", "returns undefined"]),
+});
+
+/** Two events of agent 1. */
+const LOG = /** @type {any} */ ({ length: 2, whatAt: () => 0, agentAt: () => 1 });
+
+describe("the history of a run", () => {
+  test("has operations without an act in the order in which their agent makes them", () => {
+    const event = 1;
+    const marks = [{ call: 0, event }, { outcome: "a", event }, { call: 1, event }, { outcome: "b", event }];
+    const events = historyOf([marks, []], LOG, () => undefined);
+    assert.deepEqual(events.map(({ call, outcome }) => call ?? outcome), [0, "a", 1, "b"]);
+  });
+
+  test("has an operation from its first act to its last one", () => {
+    const own = [{ call: 0, event: 0 }, { outcome: "a", event: 2 }];
+    const other = [{ call: 1, event: 1 }, { outcome: "b", event: 1 }];
+    const events = historyOf([other, own], LOG, () => undefined);
+    assert.deepEqual(events.map(({ agent, call, outcome }) => [agent, call ?? outcome]),
+      [[1, 0], [0, 1], [0, "b"], [1, "a"]]);
+  });
 });
 
 describe("a history", () => {

@@ -136,8 +136,11 @@ export class Findings {
     // In most states nobody has thrown, and what a set gives to a list takes time here.
     if (texts.size > 0) here.push(...[...texts].map(threwText));
     if (isDeadlock) here.push(this.#deadlock());
-    if (isWrong) here.push({ key: "not linearizable", kind: "not linearizable", text: "" });
-    if (isLost || kinds.spins(state)) here.push({ key: `lost wake-up ${isLost}`, kind: "lost wake-up", text: "" });
+    // With a race no history is known.
+    const isKnown = kinds.conflicts.size === 0;
+    if (isKnown && isWrong) here.push({ key: "not linearizable", kind: "not linearizable", text: "" });
+    const waits = isKnown && (isLost || kinds.spins(state));
+    if (waits) here.push({ key: `lost wake-up ${isLost}`, kind: "lost wake-up", text: "" });
     const problem = isFinal ? this.problems.get(world.memory) : undefined;
     if (problem !== undefined) here.push({ key: `check ${plain(problem)}`, kind: "check", text: problem });
     if (kinds.conflicts.size > 0) here.push(...this.#races());

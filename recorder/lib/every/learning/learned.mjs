@@ -26,6 +26,7 @@ import { problemOf } from "./thrown.mjs";
  * @property {Monitor} monitor
  * @property {Outcomes} outcomes
  * @property {MonitoredOperations} operations
+ * @property {() => boolean} looksAtNumber whether what is right has looked at the number of its agent
  */
 
 /**
@@ -152,7 +153,8 @@ export class Learned {
     const model = new ObjectModel(program, calls, outcomes, how);
     const mayFail = calls.map(({ mayFail: outcome }) => (outcome === undefined ? outcome : outcomes.numberOf(outcome)));
     const monitor = new Monitor(model, plan.agents, mayFail);
-    return { calls, model, monitor, outcomes, operations: new MonitoredOperations(monitor, outcomes, plan.agents) };
+    const operations = new MonitoredOperations(monitor, outcomes, plan.agents);
+    return { calls, model, monitor, outcomes, operations, looksAtNumber: () => learner.looksAtNumber };
   }
 
   /**

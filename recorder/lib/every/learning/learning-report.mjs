@@ -28,6 +28,7 @@ import { runOfWay } from "./run-of-way.mjs";
 /**
  * @typedef {object} ObjectData about an object that the agents use
  * @property {boolean} hasModel whether what is right is said by a class of its own
+ * @property {boolean} looksAtNumber whether the object looks at its agent's number: of what is right it is 0
  * @property {boolean} isFinished whether the model had few enough states
  * @property {number} modelStates how many of these were needed
  * @property {string[]} alwaysThrow operations that have always thrown there
@@ -87,7 +88,9 @@ function objectDataOf({ code, object }, kinds) {
   const { model, monitor } = object;
   const { isFinished, states } = model;
   const counts = { sets: monitor.sets.length, notJudged: kinds.notJudged, modelStates: states.size };
-  return { hasModel: code.hasModel, isFinished, alwaysThrow: model.alwaysThrow(), ...counts };
+  const { hasModel } = code;
+  const looksAtNumber = !hasModel && object.looksAtNumber();
+  return { hasModel, looksAtNumber, isFinished, alwaysThrow: model.alwaysThrow(), ...counts };
 }
 
 /** @typedef {import("./run-of-way.mjs").RunOfWay & { isWhole: boolean, edges: number }} CoveringRun */

@@ -161,7 +161,8 @@ export class ObjectModel {
     if (isStuck) outcomes.add(BLOCKED_OUTCOME);
     if (outcomes.size > 1) {
       const where = this.chance === undefined ? "" : `, at ${this.lineOf(this.chance)}`;
-      throw new CantLearn(`how ${this.calls[call].text} ends goes by chance${where}: nothing can be compared with it`, true);
+      const what = `how ${this.calls[call].text} ends goes by chance${where}`;
+      throw new CantLearn(`${what}: nothing can be compared with it`, true);
     }
     const [outcome] = outcomes;
     if (outcome === BLOCKED_OUTCOME) return IS_BLOCKED;
