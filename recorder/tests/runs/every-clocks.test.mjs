@@ -202,7 +202,7 @@ test("what agents keep of a long time, or only if they choose to look, is notice
     if (now < 0) throw new Error("the time is below 0");
   }`;
   const one = await learned(context, agents(overflow), { limit: 300, place: { agents: 1 } });
-  assert.deepEqual([one.keptClock, one.findings.map(({ text }) => text)],
+  assert.deepEqual([one.kept?.line, one.findings.map(({ text }) => text)],
     ["agents.mjs:6:29", ["Error: the time is below 0"]]);
   assert.deepEqual(lines, [["agents.mjs:7:31", []], ["agents.mjs:7:17", []], ["agents.mjs:7:40", []],
     ["agents.mjs:7:29", []]]);

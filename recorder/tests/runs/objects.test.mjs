@@ -104,6 +104,11 @@ describe("every use by two agents with up to two operations each", () => {
     ["with a race has the race alone: no history is known",
       objectOf("get() { return this.w[0]; } set(value) { this.w[0] = value; }", "get: [], set: [1]"),
       ["race: agents.mjs:2:123 and agents.mjs:2:93", "race: agents.mjs:2:123 and agents.mjs:2:123"]],
+    ["with a race elsewhere isn't linearizable, either",
+      objectOf(`add() { const n = Atomics.load(this.w, 0); Atomics.store(this.w, 0, n + 1); return n; }
+        touch() { this.w[1] = 1; Atomics.load(this.w, 2); }`, "add: [], touch: []"),
+      ["race: agents.mjs:3:29 and agents.mjs:3:29",
+        "not linearizable: add() returns 0, and in every order that fits it returns 1"]],
   ])) {
     test(what, async (context) => {
       const report = await learned(context, text);

@@ -32,6 +32,9 @@ import { problemOf } from "./thrown.mjs";
  * @property {number} operations of an object that are begun on the way, if it is about their history
  */
 
+/** @type {ReadonlySet<FindingKind>} */
+const OF_HISTORIES = new Set(["not linearizable", "lost wake-up"]);
+
 /** @typedef {FoundFinding & import("./run-of-way.mjs").RunOfWay} Finding with the run that shows it */
 
 /**
@@ -83,9 +86,25 @@ export class Findings {
         else known.states += 1;
       }
     }
-    const ways = shortestTo(search, found.size, (state) => this.#at(state).map(({ key }) => key));
-    const all = [...ways].map(([key, way]) => this.#finding(/** @type {any} */ (found.get(key)), way));
+    const all = [...this.#ways(found)].map(([key, way]) => this.#finding(/** @type {any} */ (found.get(key)), way));
     return all.sort(byLength);
+  }
+
+  /**
+   * @param {Map<string, StateFinding>} found
+   * @returns {Map<string, import("../search/shortest.mjs").Schedule>} the way to each: what is about a history goes by
+   * no state with a conflict
+   */
+  #ways(found) {
+    const { kinds, search } = this;
+    const keysAt = (/** @type {number} */ state, /** @type {boolean} */ isOfHistory) =>
+      this.#at(state).filter(({ kind }) => OF_HISTORIES.has(kind) === isOfHistory).map(({ key }) => key);
+    const histories = [...found.values()].filter(({ kind }) => OF_HISTORIES.has(kind)).length;
+    const passes = (/** @type {number} */ state) => kinds.isWithoutConflict(state);
+    return new Map([
+      ...shortestTo(search, found.size - histories, (state) => keysAt(state, false)),
+      ...shortestTo(search, histories, (state) => keysAt(state, true), passes),
+    ]);
   }
 
   #hasAny() {
@@ -136,8 +155,7 @@ export class Findings {
     // In most states nobody has thrown, and what a set gives to a list takes time here.
     if (texts.size > 0) here.push(...[...texts].map(threwText));
     if (isDeadlock) here.push(this.#deadlock());
-    // With a race no history is known.
-    const isKnown = kinds.conflicts.size === 0;
+    const isKnown = kinds.isWithoutConflict(state);
     if (isKnown && isWrong) here.push({ key: "not linearizable", kind: "not linearizable", text: "" });
     const waits = isKnown && (isLost || kinds.spins(state));
     if (waits) here.push({ key: `lost wake-up ${isLost}`, kind: "lost wake-up", text: "" });

@@ -7,17 +7,20 @@ import { Refused } from "../../options/refused.mjs";
 
 /** @typedef {import("../../objects/history.mjs").Verdict} Verdict */
 
+/** Where much else is done, a thread needs long only to begin. */
+const LEAST_SECONDS = 60;
+
 const JUDGING = new URL("./history-worker.mjs", import.meta.url);
 
 export class HistoryJudge {
   /**
    * Begins its thread.
    * @param {import("./history-worker.mjs").HistoryWorkerData} given
-   * @param {number} seconds for how long what is right may take to be found
+   * @param {number} seconds for how long what is right may take to be found, if that is more than a minute
    */
   constructor(given, seconds) {
     this.module = given.module;
-    this.seconds = seconds;
+    this.seconds = Math.max(seconds, LEAST_SECONDS);
     this.thread = begunThread(JUDGING, [...process.execArgv, ...GRAPH_FLAGS]);
     this.thread.give(JUDGING, given);
   }

@@ -105,7 +105,7 @@ export class Learned {
     const { asker, code, plan, wanted } = this;
     const isShared = this.isShared && !isModel;
     const key = wanted.isUnmerged ? undefined : code.key.bind(code);
-    const agents = { count: plan.agents, args: wanted.args, canBlock: plan.canBlock, isShared };
+    const agents = { count: plan.agents, args: wanted.args, canBlock: plan.canBlock, isShared, notesNumber: isModel };
     const lineOfError = (/** @type {Error} */ error) => code.lineOf(error);
     const own = {
       agentNow: () => (isModel ? code.modelNow() : code.agentNow()), line: () => code.line(),

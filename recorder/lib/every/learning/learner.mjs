@@ -34,6 +34,7 @@ const NAMES_REWRITTEN = "it throws an error whose message names code that was re
  * @property {string[]} args
  * @property {boolean[]} canBlock
  * @property {boolean} isShared whether all have one automaton
+ * @property {boolean} [notesNumber] whether it is noted that an agent looks at its number, if each has its own
  */
 
 /**
@@ -183,7 +184,7 @@ export class Learner {
     asker.agentNumber = this.number;
     const { count, args } = agents;
     const given = { buffers: [...asker.buffers], agent, agents: count, args: [...args], ...this.choices };
-    if (agents.isShared) putNumber(given, this.number, this.changesNumber);
+    if (agents.isShared || agents.notesNumber) putNumber(given, this.number, this.changesNumber);
     const body = this.marks === undefined ? () => fn(given) : () => fn(given, this.marks);
     return asker.watched(PART.AGENT, () => this.#ended(run, body));
   }

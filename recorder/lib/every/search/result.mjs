@@ -46,6 +46,10 @@ export class Kinds {
     this.spin = undefined;
     /** @type {Map<string, FoundPair>} */
     this.conflicts = new Map();
+    /** @type {Set<number>} of agents that use an object: the states with a conflict */
+    this.conflicting = new Set();
+    /** @type {Uint8Array | undefined} of these: of each state whether a way leads there that passes no such state */
+    this.before = undefined;
     /** @type {Map<number, FoundFinal>} by the numbers of their bytes */
     this.finals = new Map();
     /** @type {Map<string, FoundUnknown>} */
@@ -105,8 +109,20 @@ export class Kinds {
   #lookForConflicts(state) {
     const here = this.pairsHere();
     if (here.size === 0) return;
+    if (this.search.world.operations !== undefined) this.conflicting.add(state);
     const sorted = [...here.values()].sort((a, b) => inOrder(a.one, b.one) || inOrder(a.other, b.other));
     for (const { one, other } of sorted) count(this.conflicts, `${one.id} ${other.id}`, state, { one, other });
+  }
+
+  /**
+   * What agents do is known only as long as no accesses conflict.
+   * @param {number} state
+   * @returns {boolean} whether some way leads there that passes no state with a conflict
+   */
+  isWithoutConflict(state) {
+    if (this.conflicting.size === 0) return true;
+    this.before ??= beforeConflicts(this.search, this.conflicting);
+    return this.before[state] === 1;
   }
 
   /** @returns {ReadonlyMap<string, Conflict>} the conflicts of the loaded state, each pair of nodes once, by name */
@@ -239,6 +255,27 @@ function count(found, name, state, besides) {
 
 /** @param {FoundStates | undefined} found @param {number} state @returns {FoundStates} */
 const more = (found, state) => ({ states: (found?.states ?? 0) + 1, first: found?.first ?? state });
+
+/**
+ * @param {Search} search
+ * @param {ReadonlySet<number>} conflicting the states with a conflict
+ * @returns {Uint8Array} of each state whether a way leads there that passes none of these
+ */
+function beforeConflicts({ count: states, expanded, starts, targets }, conflicting) {
+  const before = new Uint8Array(states);
+  const queue = conflicting.has(0) ? [] : [0];
+  before[0] = queue.length;
+  for (let state = queue.pop(); state !== undefined; state = queue.pop()) {
+    const end = state < expanded ? starts.items[state + 1] : 0;
+    for (let at = starts.items[state]; at < end; at += 1) {
+      const next = targets.items[at];
+      if (before[next] === 1 || conflicting.has(next)) continue;
+      before[next] = 1;
+      queue.push(next);
+    }
+  }
+  return before;
+}
 
 /** @param {Search} search that is closed @returns {Uint8Array} of each state whether one without an act is reached */
 function leadsOut(search) {

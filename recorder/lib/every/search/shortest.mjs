@@ -70,9 +70,10 @@ class Queue {
 }
 
 class Ways {
-  /** @param {Search} search */
-  constructor(search) {
+  /** @param {Search} search @param {(state: number) => boolean} passes whether ways may go on from a state */
+  constructor(search, passes) {
     this.search = search;
+    this.passes = passes;
     this.agents = search.world.count;
     this.isOfObject = search.world.operations !== undefined;
     const size = search.count * (this.agents + 1);
@@ -108,7 +109,7 @@ class Ways {
       const state = Math.floor(place / (this.agents + 1));
       if (visited[state] === 0 && !visit(state, () => this.#wayTo(place))) return;
       visited[state] = 1;
-      if (state < this.search.expanded) this.#leave(place, state, place % (this.agents + 1));
+      if (state < this.search.expanded && this.passes(state)) this.#leave(place, state, place % (this.agents + 1));
     }
   }
 
@@ -167,13 +168,14 @@ function chosenCost({ nodes }, act) {
  * @param {Search} search that has run
  * @param {number} wanted how many names there are
  * @param {(state: number) => Iterable<string>} namesAt the kinds that a state has; the search's world may be changed
+ * @param {(state: number) => boolean} [passes] whether schedules may go on from a state
  * @returns {Map<string, Schedule>} to the first state of each, in the order in which they were found
  */
-export function shortestTo(search, wanted, namesAt) {
+export function shortestTo(search, wanted, namesAt, passes = () => true) {
   /** @type {Map<string, Schedule>} */
   const found = new Map();
   if (wanted === 0 || search.count === 0) return found;
-  new Ways(search).go((state, way) => {
+  new Ways(search, passes).go((state, way) => {
     for (const name of namesAt(state)) if (!found.has(name)) found.set(name, way());
     return found.size < wanted;
   });
