@@ -96,9 +96,7 @@ export class Learner {
       this.looksAtNumber = true;
       return this.agent;
     };
-    this.changesNumber = () => {
-      this.looksAtNumber = true;
-    };
+    this.changesNumber = () => void (this.looksAtNumber = true);
     /** @type {(Node | undefined)[]} by automaton */
     this.roots = [];
   }
