@@ -80,7 +80,7 @@ function needsFunctions(others) {
  * @param {any} found what the import of a module has given
  * @param {{ count?: number, each: number }} use how many agents use an object, if that is given, and how many
  * operations each makes at most
- * @returns {{ module: LoadedModule, has: Has }} with what the group is told
+ * @returns {{ module: LoadedModule, has: Has }} with what the group learns of it
  * @throws {Error} which says why it can't be used
  */
 export function loadedModule(found, use) {

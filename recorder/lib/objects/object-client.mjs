@@ -12,7 +12,7 @@
  */
 
 /**
- * @typedef {object} OperationMarks what is told about each operation
+ * @typedef {object} OperationMarks what the client reports of each operation
  * @property {(name: string) => void} lacks the object has no method of this name
  * @property {(call: number) => void} begins
  * @property {(value: unknown, hasThrown: boolean) => void} ends

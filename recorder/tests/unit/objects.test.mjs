@@ -77,7 +77,7 @@ describe("the text of an outcome", () => {
     }
   });
 
-  test("an error goes by its name and its message, and the result of a model that waits is told apart", () => {
+  test("an error goes by its name and its message, and a model that waits has a result of its own", () => {
     assert.equal(outcomeText(new RangeError("too far"), true), "throws RangeError: too far");
     assert.equal(outcomeText(5, true), "throws 5");
     assert.match(outcomeText(thrownBy(() => assert(1 > 2)), true), /^throws AssertionError: $/);

@@ -152,7 +152,7 @@ export class ObjectModel {
 
   /**
    * @param {OperationEnd[]} ends
-   * @param {boolean} isStuck whether it also comes to where it has no end
+   * @param {boolean} isStuck whether it can also come to a state from which it never ends
    * @param {number} call
    * @returns {ModelStep}
    */
