@@ -288,7 +288,7 @@ export class World {
   }
 
   /**
-   * The agent makes its accesses up to where it stops, and what it tells about its operations.
+   * The agent makes its accesses up to where it stops, and what it reports of its operations.
    * @param {number} agent
    * @param {Node} from
    * @param {number} [before] the list of accesses that are open
